@@ -1,0 +1,5 @@
+pub mod Sources
+pub mod Sinks
+pub mod Memory
+pub mod Rows
+pub mod Records
