@@ -1,0 +1,5 @@
+pub mod Spellings
+pub mod KeyOrder
+pub mod Numbers
+pub mod Combining
+pub mod CombinedLaws

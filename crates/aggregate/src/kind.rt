@@ -1,0 +1,26 @@
+// How the entries of a query are combined.
+ghost use Rattle.std.specs.Prelude.{◌≡◌, IfOk};
+
+use crate::agg_list::AggList;
+use std::alloc::AllocError;
+
+/// What becomes of entries with equal keys.
+#[derive(Debug, Drop)]
+pub enum Kind {
+    /// Their values are combined, number by number.
+    Group(AggList),
+    /// They stay side by side.
+    Order,
+}
+
+impl Kind {
+    /// The same kind in memory of its own.
+    pub fn copy(&self) -> Result<Kind, AllocError>
+        ensures { IfOk result (λ kind. kind ≡ self.now) }
+    {
+        match self {
+            Kind::Group(aggs) => Ok(Kind::Group(aggs.copy()?)),
+            Kind::Order => Ok(Kind::Order),
+        }
+    }
+}

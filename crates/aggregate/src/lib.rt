@@ -1,0 +1,22 @@
+//! Keys as bytes in the order of their fields, and partial values of groups that are combined number by number.
+#![tactic(auto)]
+
+mod agg_list;
+mod field_key;
+mod key;
+mod kind;
+mod name;
+mod partial;
+#[cfg(test)]
+mod tests;
+
+pub use agg_list::{Agg, AggList};
+pub use field_key::{
+    keys_in_order, put_field, spellings_are_apart, spellings_are_read_back, take_field,
+};
+pub use key::Key;
+pub use kind::Kind;
+pub use name::Name;
+pub use partial::{
+    combine, combine_is_associative, finish, numbers_come_back, put_partial, sums_are_exact,
+};

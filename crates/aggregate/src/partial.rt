@@ -1,0 +1,91 @@
+// Partial values, combined number by number.
+ghost use Rattle.std.specs.Prelude.{◌≡◌, ◌++◌, ◌*◌, ◌<◌, length, OnErr, OnOk};
+ghost use Rattle.aggregate.specs.Partial.{combined, joined, joined_bytes, narrowed, number, number_at, partial_of};
+ghost use Rattle.aggregate.specs.PartialLaws.{IsAssociative, NumbersComeBack, SumsAreExact};
+
+use crate::agg_list::{Agg, AggList};
+use byteorder::{BigEndian, ByteOrder};
+use std::alloc::AllocError;
+
+/// Appends the 16 bytes of one partial number, in two's complement with the greatest byte first: 1 for
+/// a count, the field's number for a sum. An `Err` changes nothing.
+pub fn put_partial(into: &mut Vec<u8>, number: i128) -> Result<(), AllocError>
+    ensures ok { OnOk result (into.new.items ≡ into.old.items ++ partial_of number) }
+    ensures err { OnErr result (into.new.items ≡ into.old.items) }
+{
+    let mut bytes = [0; 16];
+    write_number(&mut bytes, number);
+    into.extend_from_slice(&bytes)
+}
+
+/// Combines a value into another. Both have 16 bytes for each aggregate; what is added wraps in 128
+/// bits, so nothing is refused.
+pub fn combine(aggs: &AggList, into: &mut [u8], from: &[u8])
+    requires into { length into.old ≡ 16 * length aggs.now }
+    requires from { length from.now ≡ 16 * length aggs.now }
+    ensures { into.new ≡ combined aggs.now into.old from.now }
+{
+    for (i, agg) in aggs.items().iter().enumerate() {
+        let at = 16 * i;
+        join_bytes(*agg, &mut into[at..at + 16], &from[at..at + 16]);
+    }
+}
+
+// Joins the number of one aggregate into another.
+fn join_bytes(agg: Agg, into: &mut [u8], from: &[u8])
+    requires into { length into.old ≡ 16 }
+    requires from { length from.now ≡ 16 }
+    ensures { into.new ≡ joined_bytes agg into.old from.now }
+{
+    let joint = join(agg, read_number(into), read_number(from));
+    write_number(into, joint);
+}
+
+fn join(agg: Agg, a: i128, b: i128) -> i128
+    ensures { result ≡ joined agg a b }
+{
+    match agg {
+        Agg::Count | Agg::Sum => a.wrapping_add(b),
+    }
+}
+
+fn read_number(bytes: &[u8]) -> i128
+    requires { length bytes.now ≡ 16 }
+    ensures { result ≡ number bytes.now }
+{
+    BigEndian::read_i128(bytes)
+}
+
+fn write_number(into: &mut [u8], n: i128)
+    requires { length into.old ≡ 16 }
+    ensures { into.new ≡ partial_of n }
+{
+    BigEndian::write_i128(into, n)
+}
+
+/// The number of the aggregate at a place, from 0. `None` comes where it leaves the range of `i64`.
+pub fn finish(aggs: &AggList, value: &[u8], place: usize) -> Option<i64>
+    requires value { length value.now ≡ 16 * length aggs.now }
+    requires place { place < length aggs.now }
+    ensures { result ≡ narrowed (number_at place value.now) }
+{
+    let _ = aggs;
+    let at = 16 * place;
+    i64::try_from(read_number(&value[at..at + 16])).ok()
+}
+
+/// Values may be combined in any grouping, so partial values of parts of the rows may meet in any order
+/// of merges.
+pub fn combine_is_associative()
+    ensures { IsAssociative }
+{}
+
+/// A count or a sum that stays within 128 bits is exact.
+pub fn sums_are_exact()
+    ensures { SumsAreExact }
+{}
+
+/// A number that was put is read back, whatever stands before and behind it.
+pub fn numbers_come_back()
+    ensures { NumbersComeBack }
+{}
