@@ -1,0 +1,9 @@
+pub mod Sizes
+pub mod History
+pub mod Blocks
+pub mod Answers
+pub mod Legal
+pub mod Recorded
+pub mod Accounts
+pub mod Kept
+pub mod Journal
