@@ -134,14 +134,14 @@ kept-Release s h w kept o next t freed mark after sums r can seat is one two =
       active_is = grind (arith, nat_tests, ap (λ (v : Holding). v.active) is, seat.mark_fits, seat.active_is, seat.held_is, sums.active_is, one, two, can.holds, active-Release s h r w t freed can.open_now can.holds);
     }
 
-pub kept-End : (s : Sizes) (h : History) (w : ℕ) (kept : Kept) (o next : Holding) (t freed : ℕ) (mark after : ℕ) → AreKept s h w kept → IsRecorded s h → IsRelease h w t freed → IsSeated s h kept o t → next ≡ seated o.task (o.held - freed) (o.active && not (nat_eq (o.held - freed) 0)) → mark ≡ cond o.active 1 0 → after ≡ cond next.active 1 0 → AreKept s (entry_of w (End t freed) ∷ h) w (record { seat = None; exec = kept.exec - freed; stored = kept.stored; pool = kept.pool; active = kept.active - mark + after })
+pub kept-End : (s : Sizes) (h : History) (w : ℕ) (kept : Kept) (o next : Holding) (t freed : ℕ) (mark after : ℕ) → AreKept s h w kept → IsRecorded s h → IsRelease h w t freed → IsSeated s h kept o t → next ≡ seated o.task (o.held - freed) (o.active && not (nat_eq (o.held - freed) 0)) → mark ≡ cond o.active 1 0 → after ≡ cond next.active 1 0 → AreKept s (entry_of w (End t freed) ∷ h) w (record { seat = None; exec = kept.exec - o.held + next.held; stored = kept.stored; pool = kept.pool; active = kept.active - mark + after })
 kept-End s h w kept o next t freed mark after sums r can seat is one two =
     let h' = entry_of w (End t freed) ∷ h in
-    let exec_is : kept.exec - freed ≡ exec h' = omega (arith, sums.exec_is, exec-Release s h r w t freed can.open_now can.holds) in
+    let exec_is : kept.exec - o.held + next.held ≡ exec h' = omega (arith, ap (λ (v : Holding). v.held) is, seat.held_fits, seat.held_is, sums.exec_is, exec-Release s h r w t freed can.open_now can.holds) in
     record {
       seat_is = sym (seat_none h' w (own_task h w (End t freed)));
       exec_is = exec_is;
-      exec_fits = omega (arith, sums.exec_fits);
+      exec_fits = omega (arith, exec_is, sums.exec_fits, sums.exec_is, exec-Release s h r w t freed can.open_now can.holds);
       stored_is = sums.stored_is;
       stored_fits = sums.stored_fits;
       pool_is = omega (arith, sums.pool_is);

@@ -1,4 +1,5 @@
 pub mod Sums
+pub mod Fronts
 pub mod Tasks
 pub mod Seats
 pub mod Bounds
@@ -6,3 +7,6 @@ pub mod Prefixes
 pub mod Walk
 pub mod After
 pub mod Residents
+pub mod Examples
+pub mod TaskExamples
+pub mod BlockExamples

@@ -227,11 +227,11 @@ impl Ledger {
                 }
             }
             (Event::End { freed, .. }, Some(open)) => {
-                let next = open.released(freed);
+                let left = open.released(freed);
                 Kept {
                     seat: None,
-                    exec: kept.exec - freed,
-                    active: kept.active - open.mark() + next.mark(),
+                    exec: kept.exec - open.held + left.held,
+                    active: kept.active - open.mark() + left.mark(),
                     ..kept
                 }
             }

@@ -87,7 +87,7 @@ pub returns-in-End-Some : goal.returns-in-End-Some
 returns-in-End-Some c =
     let at = (goal.at.returns-in-End-Some c).In-End-Some in
     at_entry _ _ _ c.args.entry _ c.in-End-Some.is-0
-    (kept-End _ _ _ _ _ _ _ _ _ _ c.kept-kept.ensures.sums c.kept-kept.ensures.recorded (can_end at) (end_seat at) c.released-next-in-End-Some.ensures c.mark-in-End-Some.ensures c.mark-in-End-Some-2.ensures)
+    (kept-End _ _ _ _ _ _ _ _ _ _ c.kept-kept.ensures.sums c.kept-kept.ensures.recorded (can_end at) (end_seat at) c.released-left.ensures c.mark-in-End-Some.ensures c.mark-in-End-Some-2.ensures)
 
 can_evict : (c : In-Evict-default) → CanCome c.args.self.now.setup c.args.self.now.history c.args.entry.worker (Evict c.in-Evict-default.dataset-0 c.in-Evict-default.part-0 c.in-Evict-default.size c.in-Evict-default.fate-0)
 can_evict c = subst (λ e. CanCome c.args.self.now.setup c.args.self.now.history c.args.entry.worker e) c.in-Evict-default.is-0 c.requires.event_fits
