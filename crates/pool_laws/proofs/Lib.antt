@@ -1,0 +1,15 @@
+pub mod Settled
+pub mod Ends
+pub mod Active
+pub mod Shares
+pub mod Growths
+pub mod Passing
+pub mod Pins
+pub mod Sound
+pub mod Region
+pub mod Prefixes
+pub mod Once
+pub mod Safe
+pub mod NextEntries
+pub mod NoBlocks
+pub mod Lone

@@ -1,0 +1,4 @@
+pub mod Laws
+pub mod Growing
+pub mod Uncached
+pub mod SafeJournal
