@@ -18,6 +18,10 @@ SumsAreExact =
     → FitsSigned w128 (number_at place a +ℤ number_at place b)
     → number_at place (combined aggs a b) ≡ number_at place a +ℤ number_at place b
 
+-- each number takes 16 bytes
+abbrev pub PartialsAreSixteenBytes : Type 0
+PartialsAreSixteenBytes = (n : ℤ) → length (partial_of n) ≡ 16
+
 -- a number of 128 bits that was put at a place is read there
 abbrev pub NumbersComeBack : Type 0
 NumbersComeBack =

@@ -18,5 +18,6 @@ pub use key::Key;
 pub use kind::Kind;
 pub use name::Name;
 pub use partial::{
-    combine, combine_is_associative, finish, numbers_come_back, put_partial, sums_are_exact,
+    combine, combine_is_associative, finish, numbers_come_back, partials_are_sixteen_bytes,
+    put_partial, sums_are_exact,
 };

@@ -1,7 +1,7 @@
 // Partial values, combined number by number.
-ghost use Rattle.std.specs.Prelude.{◌≡◌, ◌++◌, ◌*◌, ◌<◌, length, OnErr, OnOk};
+ghost use Rattle.std.specs.Prelude.{◌≡◌, ◌++◌, ◌+◌, ◌*◌, ◌<◌, length, OnErr, OnOk};
 ghost use Rattle.aggregate.specs.Partial.{combined, joined, joined_bytes, narrowed, number, number_at, partial_of};
-ghost use Rattle.aggregate.specs.PartialLaws.{IsAssociative, NumbersComeBack, SumsAreExact};
+ghost use Rattle.aggregate.specs.PartialLaws.{IsAssociative, NumbersComeBack, PartialsAreSixteenBytes, SumsAreExact};
 
 use crate::agg_list::{Agg, AggList};
 use byteorder::{BigEndian, ByteOrder};
@@ -11,6 +11,7 @@ use std::alloc::AllocError;
 /// a count, the field's number for a sum. An `Err` changes nothing.
 pub fn put_partial(into: &mut Vec<u8>, number: i128) -> Result<(), AllocError>
     ensures ok { OnOk result (into.new.items ≡ into.old.items ++ partial_of number) }
+    ensures length { OnOk result (length into.new.items ≡ length into.old.items + 16) }
     ensures err { OnErr result (into.new.items ≡ into.old.items) }
 {
     let mut bytes = [0; 16];
@@ -83,6 +84,11 @@ pub fn combine_is_associative()
 /// A count or a sum that stays within 128 bits is exact.
 pub fn sums_are_exact()
     ensures { SumsAreExact }
+{}
+
+/// Each number that is put takes 16 bytes.
+pub fn partials_are_sixteen_bytes()
+    ensures { PartialsAreSixteenBytes }
 {}
 
 /// A number that was put is read back, whatever stands before and behind it.
