@@ -13,3 +13,4 @@ pub mod Safe
 pub mod NextEntries
 pub mod NoBlocks
 pub mod Lone
+pub mod Examples

@@ -33,6 +33,7 @@ abbrev pub attempt_by : Sizes → History → ℕ → ℕ → ℕ → Entry
 attempt_by setup history worker task asked =
     entry_by worker (Attempt task asked (growth setup history asked).moved 0 (answer setup history task asked))
 
+-- a worker's task may make that attempt
 abbrev pub MayAttempt : Sizes → History → Type 0
 MayAttempt setup history =
     (worker task asked : ℕ) → worker < setup.workers → open_task history worker ≡ Some task → 1 ≤ asked → asked ≤ 2 ^ 50

@@ -25,11 +25,12 @@ pub record AreFewActive (setup : Sizes) (history : History) : Type 0 where
   pub now : active history ≤ setup.workers
   pub asking : (worker task : ℕ) → open_task history worker ≡ Some task → active_with history task ≤ setup.workers
 
--- a task that no worker has open holds nothing and isn't active
+-- the task holds nothing and isn't active
 pub record IsIdle (history : History) (task : ℕ) : Type 0 where
   pub nothing : held history task ≡ 0
   pub idle : is_active history task ≡ false
 
+-- a task that no worker has open, since it was ended or never begun, is idle
 abbrev pub ClosedTasksAreIdle : History → Type 0
 ClosedTasksAreIdle history = (task : ℕ) → ((worker : ℕ) → open_task history worker ≢ Some task) → IsIdle history task
 

@@ -26,7 +26,7 @@ least_recent_goes = refl
 evicting_ask_is_granted : answer one_worker two_blocks 0 300 ≡ Some 300
 evicting_ask_is_granted = refl
 
-abbrev first_evicted : History
+abbrev pub first_evicted : History
 first_evicted = attempt 0 0 300 250 1 (Some 300) ∷ evict 1 0 250 Gone ∷ two_blocks
 
 -- storage then stands below its region of 300
@@ -34,7 +34,7 @@ below_region : (storage_pool one_worker first_evicted ≡ 200) × (execution_poo
 below_region = (refl, refl, refl)
 
 -- the whole journal is legal, its eviction included: the permissions aren't empty
-eviction_is_legal : IsLegal one_worker first_evicted
+pub eviction_is_legal : IsLegal one_worker first_evicted
 eviction_is_legal = record {
   permitted = (
     (

@@ -90,10 +90,11 @@ abbrev pub end_of : ℕ → Event → ℕ
 end_of task (End t freed) = if t == task then 1 else 0
 end_of task _ = 0
 
--- how often the task was begun, and how often it was ended
+-- how often the task was begun
 abbrev pub begins : History → ℕ → ℕ
 begins history task = total (begin_of task) history
 
+-- how often the task was ended
 abbrev pub ends : History → ℕ → ℕ
 ends history task = total (end_of task) history
 

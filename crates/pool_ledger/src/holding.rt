@@ -45,7 +45,8 @@ impl Holding {
     /// The task after it freed these bytes.
     pub fn released(self, bytes: u64) -> Holding
         requires { bytes ≤ self.held }
-        ensures { result ≡ record { task = self.task; held = self.held - bytes; active = self.active && not (self.held - bytes == 0) } }
+        ensures { result
+            ≡ record { task = self.task; held = self.held - bytes; active = self.active && not (self.held - bytes == 0) } }
     {
         let held = self.held - bytes;
         Holding {

@@ -1,6 +1,6 @@
 ghost use Rattle.std.specs.Prelude.{◌≡◌, ◌+◌, ◌-◌, ◌≤◌, ◌<◌, [], ◌∷◌, ◌++◌, ◌^◌, reverse, length, OnOk, OnErr, vec_len, vec_capacity};
 ghost use Rattle.pool_ledger.specs.Sizes.{Sizes, IsInRange};
-ghost use Rattle.pool_ledger.specs.History.{held, exec, active, begun, execution_pool, storage_pool, is_active};
+ghost use Rattle.pool_ledger.specs.History.{held, exec, active, execution_pool, storage_pool, is_active};
 ghost use Rattle.pool_ledger.specs.Blocks.{stored};
 ghost use Rattle.pool_ledger.specs.Journal.{history_of, journal_of};
 ghost use Rattle.pool_ledger.specs.Recorded.{CanFollow, IsRecorded};
@@ -35,7 +35,8 @@ impl Model for Ledger {
 
     ghost view = { λ l. record { setup = l.setup; history = reverse l.entries.items; spare = l.spare } };
 
-    ghost invariant = { λ l. AreSums l.setup (reverse l.entries.items) l.seats l.exec l.stored l.pool l.active × (vec_len l.entries + l.spare ≤ vec_capacity l.entries) };
+    ghost invariant = { λ l. AreSums l.setup (reverse l.entries.items) l.seats l.exec l.stored l.pool l.active
+        × (vec_len l.entries + l.spare ≤ vec_capacity l.entries) };
 }
 
 impl Ledger {

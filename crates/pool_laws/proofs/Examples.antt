@@ -1,0 +1,26 @@
+-- A worked journal, in which an ask evicts a block: it is safe, and its one grant has these numbers.
+use Rattle.std.proofs.Common.{◌≡◌, List, refl, lit≤}
+use Rattle.pool_ledger.specs.declared.entry.Entry.{Entry}
+use Rattle.pool_ledger.specs.Journal.{journal_of}
+use Rattle.pool_ledger.specs.Answers.{greatest_share, least_share}
+use Rattle.pool_ledger.proofs.Examples.{one_worker}
+use Rattle.pool_ledger.proofs.BlockExamples.{first_evicted, eviction_is_legal}
+use Rattle.pool_laws.specs.SafeJournal.{Grant, IsGrantOf, moment_of, held_after, IsSafeJournal}
+use Rattle.pool_laws.proofs.Safe.{legal_is_safe}
+
+abbrev evicting_journal : List Entry
+evicting_journal = journal_of first_evicted
+
+evicting_journal_is_safe : IsSafeJournal one_worker evicting_journal
+evicting_journal_is_safe = legal_is_safe one_worker evicting_journal (lit≤ tt) eviction_is_legal
+
+-- the fifth entry grants the task the 300 bytes that it asks
+abbrev whole_grant : Grant
+whole_grant = record { place = 4; task = 0; asked = 300; granted = 300 }
+
+grant_is_there : IsGrantOf evicting_journal whole_grant
+grant_is_there = record { worker = 0; moved = 250; evictions = 1; there = refl }
+
+-- the limit of 400 is all the task's, half a fair share is half of the pool of 400, and the task then holds 300
+grant_numbers : (greatest_share (moment_of one_worker evicting_journal whole_grant) ≡ 400) × (least_share (moment_of one_worker evicting_journal whole_grant) ≡ 200) × (held_after evicting_journal whole_grant ≡ 300)
+grant_numbers = (refl, refl, refl)
