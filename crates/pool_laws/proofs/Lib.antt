@@ -13,4 +13,5 @@ pub mod Safe
 pub mod NextEntries
 pub mod NoBlocks
 pub mod Lone
+pub mod Uses
 pub mod Examples

@@ -16,6 +16,7 @@ use Rattle.pool_ledger.specs.Recorded.{CanCome, IsRecorded}
 use Rattle.pool_ledger.proofs.Tasks.{entry_of, untouched, active-Attempt, open_worker_known}
 use Rattle.pool_laws.proofs.Active.{active_few}
 use Rattle.pool_laws.proofs.Ends.{ends_free_all, idle}
+use Rattle.pool_laws.proofs.Uses.{uses_in_order}
 use Rattle.pool_laws.proofs.Passing.{holds}
 use Rattle.pool_laws.proofs.Pins.{pinned_fit, pins_fit}
 use Rattle.pool_laws.proofs.Region.{legal_evicts_above_region}
@@ -151,4 +152,6 @@ keeps_laws s h region perm = record {
   pins_fit = pinned_fit s h region perm;
   victims_exist = victims_exist s h region perm;
   above_region = legal_evicts_above_region s h region perm;
+  taken = λ entry may. (holds s (entry ∷ h) region (perm, may)).recorded.1;
+  use_order = uses_in_order s h (holds s h region perm).recorded;
 }

@@ -2,11 +2,14 @@
 -- After Spark: UnifiedMemoryManager and ExecutionMemoryPool. The floor, pins and the amounts evicted are this project's own.
 use Rattle.std.specs.Prelude.{ℕ, ◌≡◌, ◌≢◌, ◌+◌, ◌≤◌, ◌<◌, true, false, cond, Option, Some, None, IsSome, [], ◌∷◌, filter}
 use Rattle.std.specs.Bool.{MatchBool}
+use Rattle.pool_ledger.specs.declared.entry.Entry.{Entry}
 use Rattle.pool_ledger.specs.Sizes.{Sizes, floor_of}
 use Rattle.pool_ledger.specs.History.{History, held, exec, is_active, active, open_task, maximum, execution_pool, storage_pool}
 use Rattle.pool_ledger.specs.Blocks.{residents, is_pinned, sizes, stored, victims}
 use Rattle.pool_ledger.specs.Answers.{growth, answer}
-use Rattle.pool_ledger.specs.Legal.{is_eviction, AttemptIsRight}
+use Rattle.pool_ledger.specs.Legal.{is_eviction, AttemptIsRight, MayFollow}
+use Rattle.pool_ledger.specs.Recorded.{CanFollow}
+use Rattle.pool_laws.specs.UseOrder.{AreInUseOrder}
 
 -- execution and storage never pass their pools, and the pools add up to what there is
 pub record NeverPasses (setup : Sizes) (history : History) : Type 0 where
@@ -79,6 +82,12 @@ EvictsAboveRegion setup history =
     (task asked moved evictions : ℕ) (got : Option ℕ)
     → AttemptIsRight setup history task asked moved evictions got → AreEvictedAboveRegion setup history
 
+-- Entries
+
+-- an entry that may legally follow is one that a ledger takes
+abbrev pub AreTaken : Sizes → History → Type 0
+AreTaken setup history = (entry : Entry) → MayFollow setup history entry → CanFollow setup history entry
+
 -- All of them
 pub record KeepsLaws (setup : Sizes) (history : History) : Type 0 where
   pub never_passes : NeverPasses setup history
@@ -90,3 +99,5 @@ pub record KeepsLaws (setup : Sizes) (history : History) : Type 0 where
   pub pins_fit : pinned_bytes history ≤ setup.region
   pub victims_exist : VictimsExist setup history
   pub above_region : EvictsAboveRegion setup history
+  pub taken : AreTaken setup history
+  pub use_order : AreInUseOrder history

@@ -1,3 +1,4 @@
+pub mod UseOrder
 pub mod Laws
 pub mod Growing
 pub mod Uncached
