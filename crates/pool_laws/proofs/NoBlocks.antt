@@ -7,9 +7,10 @@ use Rattle.pool_ledger.specs.Sizes.{Sizes}
 use Rattle.pool_ledger.specs.History.{History, storage_pool, execution_free}
 use Rattle.pool_ledger.specs.Blocks.{Resident, residents, residents_after, CachesNothing, sizes, stored, storage_free, victims}
 use Rattle.pool_ledger.specs.Answers.{Growth, growth, evicted_for, target_of}
-use Rattle.pool_ledger.specs.Legal.{pending, MayCome, MayLeave, IsPermitted}
+use Rattle.pool_ledger.specs.Legal.{pending, MayCome, MayLeave, IsPermitted, IsLegal}
 use Rattle.pool_ledger.proofs.Tasks.{entry_of}
-use Rattle.pool_laws.specs.Uncached.{moved_for, StoresNothing}
+use Rattle.pool_laws.specs.Uncached.{moved_for, StoresNothing, MayAlwaysAttempt}
+use Rattle.pool_laws.proofs.NextEntries.{grows}
 
 cached_before : (h : History) (v : ℕ) (e : Event) → CachesNothing (entry_of v e ∷ h) → CachesNothing h
 cached_before h v e none = omega (arith, none)
@@ -79,3 +80,7 @@ no_pending-more s h v _ none may = refl
 pub no_pending : (s : Sizes) (h : History) → CachesNothing h → IsPermitted s h → pending h ≡ []
 no_pending s [] none perm = refl
 no_pending s (entry ∷ h) none perm = no_pending-more s h entry.worker entry.event (no_block h (cached_before h entry.worker entry.event none)) perm.1.event
+
+pub may_always_attempt : (s : Sizes) (h : History) → CachesNothing h → IsLegal s h → MayAlwaysAttempt s h
+may_always_attempt s h none legal w t asked known now some small =
+    (grows s h legal).attempts w t asked known now some small (ap (λ (g : Growth). g.evicted) (uncached_growth s h asked none))

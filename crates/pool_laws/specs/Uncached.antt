@@ -1,10 +1,12 @@
 -- Histories in which no block was ever stored, in bytes.
 -- After Spark: UnifiedMemoryManager, where no storage level was given.
-use Rattle.std.specs.Prelude.{ℕ, ◌≡◌, ◌≢◌, ◌-◌, ◌==◌, min, if◌then◌else◌, Option, Some, None, []}
+use Rattle.std.specs.Prelude.{ℕ, ◌≡◌, ◌≢◌, ◌-◌, ◌≤◌, ◌<◌, ◌^◌, ◌==◌, min, if◌then◌else◌, Option, Some, None, []}
 use Rattle.pool_ledger.specs.Sizes.{Sizes}
 use Rattle.pool_ledger.specs.History.{History, held, open_task, maximum, execution_free}
 use Rattle.pool_ledger.specs.Blocks.{residents, stored, storage_free, victims}
 use Rattle.pool_ledger.specs.Answers.{growth, answer}
+use Rattle.pool_ledger.specs.Legal.{MayFollow}
+use Rattle.pool_laws.specs.Growing.{attempt_by}
 use Rattle.pool_laws.specs.Laws.{IsIdle}
 
 -- what an ask moves where there are no blocks: what it lacks, as far as storage has it free
@@ -18,6 +20,12 @@ pub record StoresNothing (setup : Sizes) (history : History) : Type 0 where
   pub no_victims : (need : ℕ) (except : Option ℕ) → victims history need except ≡ (if need == 0 then Some [] else None)
   pub grows : (asked : ℕ)
       → growth setup history asked ≡ record { unused = moved_for setup history asked; need = 0; evicted = []; moved = moved_for setup history asked }
+
+-- each attempt of a worker's task may follow, with what moves and what is granted by the rules
+abbrev pub MayAlwaysAttempt : Sizes → History → Type 0
+MayAlwaysAttempt setup history =
+    (worker task asked : ℕ) → worker < setup.workers → open_task history worker ≡ Some task → 1 ≤ asked → asked ≤ 2 ^ 50
+    → MayFollow setup history (attempt_by setup history worker task asked)
 
 -- every other task that a worker has open holds nothing and isn't active
 abbrev pub HoldsAlone : History → ℕ → Type 0
