@@ -1,0 +1,15 @@
+pub mod Numbers
+pub mod Fields
+pub mod QueryTexts
+pub mod Printed
+pub mod Zips
+pub mod Landings
+pub mod Lookups
+pub mod Tallies
+pub mod Exactly
+pub mod Ordered
+pub mod OneTasks
+pub mod Costing
+pub mod Heaps
+pub mod Rows
+pub mod Ends

@@ -1,0 +1,17 @@
+pub mod Numbers
+pub mod Lengths
+pub mod Queries
+pub mod QueryViews
+pub mod Words
+pub mod AskedViews
+pub mod Kept
+pub mod Landing
+pub mod Groups
+pub mod Answer
+pub mod Costs
+pub mod Grouping
+pub mod OneTask
+pub mod Tasks
+pub mod Tables
+pub mod Statuses
+pub mod Endings
