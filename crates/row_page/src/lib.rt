@@ -1,0 +1,17 @@
+//! Rows as lists of fields in one encoding, and pages that lend their rows as slices of their bytes.
+#![tactic(auto)]
+
+mod laws;
+mod page;
+mod piece;
+mod row_buf;
+mod row_view;
+
+pub use laws::{fields_have_one_encoding, no_encoding_begins_another};
+pub use page::{Page, PageFault};
+pub use piece::split_piece;
+pub use row_buf::RowBuf;
+pub use row_view::RowView;
+
+#[cfg(test)]
+mod tests;

@@ -1,0 +1,62 @@
+//! A row that is put together.
+
+ghost use Rattle.std.specs.Prelude.{◌≡◌, ◌+◌, ◌<◌, ◌^◌, ◌++◌, ◌∷◌, [], length, OnOk, OnErr};
+ghost use Rattle.row_page.specs.Spelling.{row_length};
+
+use crate::RowView;
+use crate::piece::append_piece;
+use std::alloc::{AllocError, Global};
+use std::marker::Model;
+
+/// A row that is put together field by field, as one run of bytes that is used again for the next row.
+/// Contracts see the list of its fields.
+#[derive(Debug, Drop)]
+pub struct RowBuf {
+    bytes: Vec<u8>,
+}
+
+impl Model for RowBuf {
+    ghost use Rattle.std.specs.Prelude.{List, ℕ};
+    ghost use Rattle.row_page.specs.Grammar.{IsRow};
+    ghost use Rattle.row_page.specs.Reading.{fields_of};
+
+    ghost Value = { List (List ℕ) };
+
+    ghost view = { λ row. fields_of row.bytes.items };
+
+    ghost invariant = { λ row. IsRow row.bytes.items (fields_of row.bytes.items) };
+}
+
+impl RowBuf {
+    /// A row without fields.
+    pub fn new(alloc: Global) -> RowBuf
+        ensures { result ≡ [] }
+    {
+        RowBuf {
+            bytes: Vec::new(alloc),
+        }
+    }
+
+    /// Puts a field behind the others. After an `Err` nothing changed.
+    pub fn add(&mut self, field: &[u8]) -> Result<(), AllocError>
+        requires { row_length self.old + (4 + length field.now) < 2 ^ 31 }
+        ensures ok { OnOk result (self.new ≡ self.old ++ field.now ∷ []) }
+        ensures err { OnErr result (self.new ≡ self.old) }
+    {
+        append_piece(&mut self.bytes, field)
+    }
+
+    /// Takes all fields away, and keeps the memory for the next row.
+    pub fn clear(&mut self)
+        ensures { self.new ≡ [] }
+    {
+        self.bytes.clear();
+    }
+
+    /// The row.
+    pub fn view(&self) -> RowView<'_>
+        ensures { result ≡ self.now }
+    {
+        RowView::of_row(&self.bytes)
+    }
+}

@@ -1,0 +1,90 @@
+//! A row that is lent.
+
+ghost use Rattle.std.specs.Prelude.{◌≡◌, ◌<◌, [], List, ℕ, length, slice_index_or, IfSome, IfNone};
+ghost use Rattle.row_page.specs.Grammar.{IsRow};
+ghost use Rattle.row_page.specs.Reading.{fields_of};
+ghost use Rattle.row_page.specs.Spelling.{row_bytes, row_length};
+
+use crate::piece::{are_pieces, first_piece};
+use std::marker::Model;
+
+/// A row as a slice of somebody's bytes. Contracts see the list of its fields. No field is copied: each
+/// that it lends is a part of that slice. A view that is needed twice is lent again by `again`.
+#[derive(Debug, Drop)]
+pub struct RowView<'a> {
+    bytes: &'a [u8],
+}
+
+impl<'a> Model for RowView<'a> {
+    ghost use Rattle.std.specs.Prelude.{List, ℕ};
+    ghost use Rattle.row_page.specs.Grammar.{IsRow};
+    ghost use Rattle.row_page.specs.Reading.{fields_of};
+
+    ghost Value = { List (List ℕ) };
+
+    ghost view = { λ row. fields_of row.bytes.now };
+
+    ghost invariant = { λ row. IsRow row.bytes.now (fields_of row.bytes.now) };
+}
+
+impl<'a> RowView<'a> {
+    /// The row whose encoding these bytes are, all of them.
+    pub fn of(bytes: &'a [u8]) -> Option<RowView<'a>>
+        ensures found { IfSome result (IsRow bytes.now) }
+        ensures none { IfNone result ((fields : List (List ℕ)) → IsRow bytes.now fields → ⊥) }
+    {
+        if bytes.len() > u32::MAX as usize || !are_pieces(bytes) {
+            return None;
+        }
+        Some(RowView { bytes })
+    }
+
+    /// The row of which this is known to be the encoding.
+    pub(crate) fn of_row(bytes: &'a [u8]) -> RowView<'a>
+        requires { IsRow bytes.now (fields_of bytes.now) }
+        ensures { result ≡ fields_of bytes.now }
+    {
+        RowView { bytes }
+    }
+
+    /// How many fields the row has. It goes over all of them.
+    pub fn count(&self) -> usize
+        ensures { result ≡ length self.now }
+    {
+        let mut rest = self.bytes;
+        let mut count = 0;
+        while !rest.is_empty() {
+            rest = first_piece(rest).1;
+            count += 1;
+        }
+        count
+    }
+
+    /// The field at this place, from 0. It goes over the fields before it.
+    pub fn field(&self, j: usize) -> &'a [u8]
+        requires { j < length self.now }
+        ensures { result.now ≡ slice_index_or self.now j [] }
+    {
+        let mut rest = self.bytes;
+        for _ in 0..j {
+            rest = first_piece(rest).1;
+        }
+        first_piece(rest).0
+    }
+
+    /// The row's encoding.
+    pub fn bytes(&self) -> &'a [u8]
+        ensures grammar { IsRow result.now self.now }
+        ensures spelling { result.now ≡ row_bytes self.now }
+        ensures length { length result.now ≡ row_length self.now }
+    {
+        self.bytes
+    }
+
+    /// The same row, lent once more.
+    pub fn again(&self) -> RowView<'a>
+        ensures { result ≡ self.now }
+    {
+        RowView { bytes: self.bytes }
+    }
+}
