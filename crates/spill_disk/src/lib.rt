@@ -1,0 +1,19 @@
+//! Files by number on a disk, and shelves of disks.
+#![tactic(auto)]
+
+mod disk;
+mod folder_disk;
+mod has_disk;
+mod memory_disk;
+mod opened;
+mod shelf;
+mod slots;
+
+pub use disk::{Disk, DiskError};
+pub use folder_disk::FolderDisk;
+pub use has_disk::HasDisk;
+pub use memory_disk::MemoryDisk;
+pub use shelf::{One, Shelf};
+
+#[cfg(test)]
+mod tests;

@@ -1,0 +1,109 @@
+//! A disk in memory, which tells.
+
+ghost use Rattle.std.specs.Prelude.{◌≡◌, ◌<◌, ◌≤◌, ◌-◌, ◌+◌, ◌^◌, min, Some, is_err, length, is_some, vec_len, Err, IfOk, OnOk, OnErr, IsErrOf, IsTrue};
+ghost use Rattle.std.specs.FinMap as map;
+ghost use Rattle.fault_count.specs.Faults.{HasCauseAt};
+ghost use Rattle.spill_disk.specs.Memory.{memory_files, created_of, fails_of, calls_of, next_fails};
+
+use crate::slots::{add_bytes, add_slot, bytes_at, clear_slot, fill};
+use crate::{Disk, DiskError};
+use std::alloc::Global;
+
+/// A file number's slot: whether the file is there, and its bytes.
+#[derive(Drop)]
+pub struct Stored {
+    pub(crate) is_there: bool,
+    pub(crate) bytes: Vec<u8>,
+}
+
+/// A disk in memory. It tells its files, and fails at the calls that it was told to fail at and at no
+/// other; an `append` that fails so has added the first half of its bytes. A removed file leaves a small
+/// slot, since its number isn't given out again.
+#[derive(Drop)]
+pub struct MemoryDisk {
+    alloc: Global,
+    slots: Vec<Stored>,
+    fails: Vec<u64>,
+    calls: u64,
+    faults: u64,
+}
+
+impl MemoryDisk {
+    /// A disk without files, on which the calls with these numbers fail. The calls of all four methods
+    /// are numbered together, from 0.
+    pub fn new(fails: Vec<u64>) -> MemoryDisk
+        ensures files { memory_files result ≡ map.empty }
+        ensures fails { fails_of result ≡ fails.items }
+        ensures calls { calls_of result ≡ 0 }
+        ensures created { created_of result ≡ 0 }
+    {
+        let alloc = *fails.allocator();
+        MemoryDisk {
+            alloc,
+            slots: Vec::new(alloc),
+            fails,
+            calls: 0,
+            faults: 0,
+        }
+    }
+
+    /// How many files were made so far: the number of the next one.
+    pub fn created(&self) -> u64
+        ensures { result ≡ created_of self.now }
+    {
+        self.slots.len() as u64
+    }
+
+    /// Counts a call. `Failed` comes exactly where its number is one of those that fail.
+    fn begin_call(&mut self) -> Result<(), DiskError>
+        ensures failed { is_err result ≡ next_fails self.old }
+        ensures only { OnErr result (result ≡ Err DiskError.Failed) }
+        ensures calls { self.new.calls ≡ min (self.old.calls + 1) (2 ^ 64 - 1) }
+        ensures same { self.new.slots ≡ self.old.slots }
+        ensures kept { self.new.fails ≡ self.old.fails }
+        ensures cause { HasCauseAt DiskError.Failed self.old.faults self.new.faults result }
+    {
+        let number = self.calls;
+        self.calls = number.saturating_add(1);
+        if self.fails.contains(&number) {
+            self.faults = self.faults.saturating_add(1);
+            return Err(DiskError::Failed);
+        }
+        Ok(())
+    }
+}
+
+impl Disk for MemoryDisk {
+    ghost files = { λ disk. Some (memory_files disk) };
+
+    ghost faults = { λ disk. disk.faults };
+
+    ghost next_number = { created_of };
+
+    fn create(&mut self) -> Result<u64, DiskError> {
+        self.begin_call()?;
+        let number = self.slots.len() as u64;
+        add_slot(self.alloc, &mut self.slots)?;
+        Ok(number)
+    }
+
+    fn append(&mut self, file: u64, bytes: &[u8]) -> Result<(), DiskError> {
+        if let Err(failed) = self.begin_call() {
+            let _ = add_bytes(&mut self.slots, file, &bytes[..bytes.len() / 2]);
+            return Err(failed);
+        }
+        add_bytes(&mut self.slots, file, bytes)?;
+        Ok(())
+    }
+
+    fn read_at(&mut self, file: u64, place: u64, buf: &mut [u8]) -> Result<usize, DiskError> {
+        self.begin_call()?;
+        Ok(fill(bytes_at(&self.slots, file), place, buf))
+    }
+
+    fn remove(&mut self, file: u64) -> Result<(), DiskError> {
+        self.begin_call()?;
+        clear_slot(self.alloc, &mut self.slots, file);
+        Ok(())
+    }
+}

@@ -1,0 +1,148 @@
+//! An open file of a folder disk, with what is collected for its end and what was read ahead.
+
+ghost use Rattle.std.specs.Prelude.{◌≤◌, length, IfOk};
+
+use crate::DiskError;
+use std::alloc::Global;
+use std::io::{Read, Seek, SeekFrom, Write};
+
+/// How many bytes are collected before they are written, and how many are read ahead.
+pub const BUFFER_BYTES: usize = 65_536;
+
+/// An open file: what is collected stands behind what it has, and what was read ahead began at
+/// `ahead_at`. What is collected is written when the file is closed.
+pub struct Opened<F: Read + Write + Seek + Drop> {
+    pub number: u64,
+    file: F,
+    collected: Vec<u8>,
+    ahead: Vec<u8>,
+    ahead_at: u64,
+}
+
+impl<F: Read + Write + Seek + Drop> Opened<F> {
+    pub fn new(alloc: Global, number: u64, file: F) -> Opened<F> {
+        Opened {
+            number,
+            file,
+            collected: Vec::new(alloc),
+            ahead: Vec::new(alloc),
+            ahead_at: 0,
+        }
+    }
+
+    /// Writes what is collected. After an `Err` what wasn't written is lost.
+    pub fn flush(&mut self) -> Result<(), DiskError> {
+        if self.collected.is_empty() {
+            return Ok(());
+        }
+        let written = write_at_end(&mut self.file, &self.collected);
+        self.collected.clear();
+        written
+    }
+
+    /// Adds bytes at the end: small ones are collected.
+    pub fn append(&mut self, bytes: &[u8]) -> Result<(), DiskError> {
+        if bytes.len() >= BUFFER_BYTES || self.collected.len() >= BUFFER_BYTES - bytes.len() {
+            self.flush()?;
+        }
+        if bytes.len() >= BUFFER_BYTES {
+            return write_at_end(&mut self.file, bytes);
+        }
+        self.collected.extend_from_slice(bytes)?;
+        Ok(())
+    }
+
+    /// Fills the front of `buf` from a place on, through what was read ahead where that has it all.
+    pub fn read_at(&mut self, place: u64, buf: &mut [u8]) -> Result<usize, DiskError>
+        ensures { IfOk result (λ count. count ≤ length buf.old) }
+    {
+        self.flush()?;
+        if buf.len() >= BUFFER_BYTES {
+            return read_from(&mut self.file, place, buf);
+        }
+        if !covers(&self.ahead, self.ahead_at, place, buf.len()) {
+            self.read_ahead(place)?;
+        }
+        Ok(copy_from(&self.ahead, self.ahead_at, place, buf))
+    }
+
+    /// Reads a buffer ahead, from a place on.
+    fn read_ahead(&mut self, place: u64) -> Result<(), DiskError> {
+        self.ahead.resize(BUFFER_BYTES, 0)?;
+        self.ahead_at = place;
+        match read_from(&mut self.file, place, &mut self.ahead) {
+            Ok(count) => {
+                self.ahead.truncate(count);
+                Ok(())
+            }
+            Err(failed) => {
+                self.ahead.clear();
+                Err(failed)
+            }
+        }
+    }
+
+    /// Forgets what is collected, of a file that is taken away.
+    pub fn forget(&mut self) {
+        self.collected.clear();
+    }
+}
+
+impl<F: Read + Write + Seek + Drop> Drop for Opened<F> {
+    fn drop(self) {
+        let Opened {
+            number: _,
+            mut file,
+            collected,
+            ahead: _,
+            ahead_at: _,
+        } = self;
+        if !collected.is_empty() {
+            let _ = write_at_end(&mut file, &collected);
+        }
+    }
+}
+
+fn write_at_end<F: Write + Seek>(file: &mut F, bytes: &[u8]) -> Result<(), DiskError> {
+    file.seek(SeekFrom::End(0))?;
+    file.write_all(bytes)?;
+    Ok(())
+}
+
+/// Fills the front of `buf` from a place of the file on, as far as there is something.
+fn read_from<F: Read + Seek>(file: &mut F, place: u64, buf: &mut [u8]) -> Result<usize, DiskError>
+    ensures { IfOk result (λ count. count ≤ length buf.old) }
+{
+    file.seek(SeekFrom::Start(place))?;
+    let mut filled = 0;
+    while filled < buf.len() {
+        let count = file.read(&mut buf[filled..])?;
+        if count == 0 {
+            break;
+        }
+        filled += count;
+    }
+    Ok(filled)
+}
+
+/// Whether the bytes ahead, which begin at `from`, have so many bytes at a place.
+fn covers(ahead: &[u8], from: u64, place: u64, count: usize) -> bool {
+    if place < from {
+        return false;
+    }
+    let skipped = place - from;
+    skipped <= ahead.len() as u64 && count <= ahead.len() - skipped as usize
+}
+
+/// Copies what stands ahead at a place.
+fn copy_from(ahead: &[u8], from: u64, place: u64, buf: &mut [u8]) -> usize
+    ensures { result ≤ length buf.old }
+{
+    if place < from || place - from >= ahead.len() as u64 {
+        return 0;
+    }
+    let rest = &ahead[(place - from) as usize..];
+    let count = rest.len().min(buf.len());
+    buf[..count].copy_from_slice(&rest[..count]);
+    count
+}
