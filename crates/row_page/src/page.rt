@@ -111,7 +111,7 @@ impl Page {
         ensures { result ≡ slice_index_or self.now.rows i [] }
     {
         let start = self.starts[i];
-        RowView::of_row(first_piece(&self.bytes[start..]).0)
+        RowView::of_known(first_piece(&self.bytes[start..]).0)
     }
 
     /// Puts a row behind the others. `Full` comes exactly where the page's bytes with this row pass the

@@ -57,6 +57,6 @@ impl RowBuf {
     pub fn view(&self) -> RowView<'_>
         ensures { result ≡ self.now }
     {
-        RowView::of_row(&self.bytes)
+        RowView::of_known(&self.bytes)
     }
 }

@@ -2,7 +2,6 @@
 
 ghost use Rattle.std.specs.Prelude.{◌≡◌, ◌<◌, [], List, ℕ, length, slice_index_or, IfSome, IfNone};
 ghost use Rattle.row_page.specs.Grammar.{IsRow};
-ghost use Rattle.row_page.specs.Reading.{fields_of};
 ghost use Rattle.row_page.specs.Spelling.{row_bytes, row_length};
 
 use crate::piece::{are_pieces, first_piece};
@@ -39,10 +38,12 @@ impl<'a> RowView<'a> {
         Some(RowView { bytes })
     }
 
-    /// The row of which this is known to be the encoding.
-    pub(crate) fn of_row(bytes: &'a [u8]) -> RowView<'a>
-        requires { IsRow bytes.now (fields_of bytes.now) }
-        ensures { result ≡ fields_of bytes.now }
+    /// The row whose encoding these bytes are known to be: what `of` gives, without a look at them. Who
+    /// keeps the bytes of a row that was checked lends it by this call.
+    pub fn of_known(bytes: &'a [u8]) -> RowView<'a>
+        requires { (fields : List (List ℕ)) × IsRow bytes.now fields }
+        ensures row { IsRow bytes.now result }
+        ensures only { (fields : List (List ℕ)) → IsRow bytes.now fields → result ≡ fields }
     {
         RowView { bytes }
     }
