@@ -42,12 +42,14 @@ impl<D: Disk, P: HasDisk<D>> Shelf<D> for Vec<P> {
         owner.disk()
     }
 
-    ghost use Rattle.std.proofs.Common.{refl};
+    ghost use Rattle.std.proofs.Common.{refl, ap};
     ghost use Rattle.spill_disk.specs.Shelves.{same_len, disk_changed, disk_others};
 
     ghost same_count = { λ owners i disk. same_len P.with_own owners i disk };
 
     ghost same_names = { λ owners i j disk. refl };
+
+    ghost one_disk = { λ owners i j same. ap (disk_at P.own owners) same };
 
     ghost changed = { λ owners i j disk within same. disk_changed P.own P.with_own P.own_with_own owners i j disk within same };
 

@@ -35,6 +35,9 @@ pub trait Shelf<D: Disk> {
     /// Nor what a number names.
     ghost same_names: { (shelf : Self) (i j : ℕ) (disk : D) → named (with_disk shelf i disk) j ≡ named shelf j };
 
+    /// Numbers that name one disk have the same.
+    ghost one_disk: { (shelf : Self) (i j : ℕ) → named shelf j ≡ named shelf i → disk_of shelf j ≡ disk_of shelf i };
+
     /// The disk that was changed is the one that is there.
     ghost changed: { (shelf : Self) (i j : ℕ) (disk : D) → i < count_of shelf → named shelf j ≡ named shelf i →
         disk_of (with_disk shelf i disk) j ≡ Some disk };
@@ -64,6 +67,8 @@ impl<'a, D: Disk> Shelf<D> for One<'a, D> {
     ghost same_count = { λ shelf i disk. refl };
 
     ghost same_names = { λ shelf i j disk. refl };
+
+    ghost one_disk = { λ shelf i j same. refl };
 
     ghost changed = { λ shelf i j disk within same. refl };
 
