@@ -1,0 +1,4 @@
+pub mod Numerals
+pub mod Writing
+pub mod Filing
+pub mod Stepping

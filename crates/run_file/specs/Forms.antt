@@ -1,0 +1,29 @@
+-- Which rows a reader takes: entries of a query, or landed rows.
+-- This project's own.
+use Rattle.std.specs.Prelude.{◌≡◌, ℕ, ◌+◌, ◌*◌, ◌≤◌, IsTrue, List, [], length, slice_index, slice_index_or, EachIndex}
+use Rattle.row_page.specs.Spelling.{row_length}
+use Rattle.aggregate.specs.declared.kind.Kind.{Kind}
+use Rattle.aggregate.specs.declared.kind.Kind.TheVariants.{Group, Order}
+use Rattle.run_file.specs.Numbers.{is_number}
+use Rattle.run_file.specs.declared.form.Form.{Form}
+use Rattle.run_file.specs.declared.form.Form.TheVariants.{Entries, Landed}
+
+-- a value of a group has 16 bytes for each aggregate; one of an order has any bytes
+abbrev pub IsValueOf : Kind → List ℕ → Type 0
+IsValueOf (Group aggs) value = length value ≡ 16 * length aggs
+IsValueOf Order value = Unit {0}
+
+-- the field of a kept column, behind the row's number, is a number
+abbrev pub IsNumberAt : List (List ℕ) → ℕ → Type 0
+IsNumberAt row place = IsTrue (is_number (slice_index_or row (place + 1) []))
+
+-- the fields are those of the form: a key and a value, or a number of 8 bytes and the kept columns
+abbrev pub HasForm : Form → List (List ℕ) → Type 0
+HasForm (Entries kind) row = (length row ≡ 2) × IsValueOf kind (slice_index_or row 1 [])
+HasForm (Landed columns numbers) row =
+    (length row ≡ columns + 1) × (length (slice_index_or row 0 []) ≡ 8) × EachIndex numbers (λ k. IsNumberAt row (slice_index numbers k))
+
+-- the row is well formed for the form, and costs at most so much
+pub record IsWellFormed (form : Form) (greatest : ℕ) (row : List (List ℕ)) : Type 0 where
+  pub has_form : HasForm form row
+  pub cost : 24 + row_length row ≤ greatest

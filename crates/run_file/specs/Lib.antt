@@ -1,0 +1,6 @@
+pub mod Numbers
+pub mod Runs
+pub mod Causes
+pub mod Forms
+pub mod Reading
+pub mod Shelved

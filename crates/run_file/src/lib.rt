@@ -1,0 +1,20 @@
+//! Runs: rows in a file, written once and read once.
+#![tactic(auto)]
+
+mod form;
+mod laws;
+mod number;
+mod number_list;
+mod run;
+mod run_reader;
+mod run_writer;
+
+pub use form::Form;
+pub use laws::written_runs_stand;
+pub use number_list::NumberList;
+pub use run::{Run, RunFault};
+pub use run_reader::RunReader;
+pub use run_writer::RunWriter;
+
+#[cfg(test)]
+mod tests;
