@@ -1,4 +1,4 @@
-//! Rows as lists of fields in one encoding, and pages that lend their rows as slices of their bytes.
+//! Rows as lists of fields in one encoding, and pages that lend them as slices of their bytes.
 #![tactic(auto)]
 
 mod laws;

@@ -47,7 +47,8 @@ impl Model for Page {
 
     ghost view = { λ page. record { rows = rows_of page.bytes.items; room = page.room } };
 
-    ghost invariant = { λ page. IsSound page.starts.items page.bytes.items page.room (rows_of page.bytes.items) };
+    ghost invariant = { λ page. IsSound page.starts.items page.bytes.items page.room
+        (rows_of page.bytes.items) };
 }
 
 impl Page {
@@ -67,7 +68,8 @@ impl Page {
     /// where the bytes are no page's, or pass the room. An `Err` is want of memory.
     pub fn read(alloc: Global, bytes: Vec<u8>, room: u64) -> Result<Option<Page>, AllocError>
         requires { room ≤ 2 ^ 40 }
-        ensures found { IfOk result (λ read. IfSome read (λ page. IsPage bytes.items page.rows × (page.room ≡ room))) }
+        ensures found { IfOk result (λ read. IfSome read (λ page. IsPage bytes.items page.rows
+            × (page.room ≡ room))) }
         ensures none { IfOk result (λ read. IfNone read
             ((rows : List (List (List ℕ))) → IsPage bytes.items rows → room < length bytes.items)) }
     {
@@ -117,7 +119,8 @@ impl Page {
     /// Puts a row behind the others. `Full` comes exactly where the page's bytes with this row pass the
     /// room. After an `Err` nothing changed.
     pub fn push(&mut self, row: RowView<'_>) -> Result<(), PageFault>
-        ensures ok { OnOk result (self.new ≡ record self.old { rows = self.old.rows ++ row.entry ∷ [] }) }
+        ensures ok { OnOk result
+            (self.new ≡ record self.old { rows = self.old.rows ++ row.entry ∷ [] }) }
         ensures err { OnErr result (self.new ≡ self.old) }
         ensures full { (result ≡ Err PageFault.Full)
             ↔ (self.old.room < page_length self.old.rows + (4 + row_length row.entry)) }
@@ -143,7 +146,8 @@ impl Page {
 fn add_piece(starts: &mut Vec<usize>, bytes: &mut Vec<u8>, piece: &[u8]) -> Result<(), AllocError>
     requires { length piece.now < 2 ^ 32 }
     ensures bytes { OnOk result (bytes.new.items ≡ bytes.old.items ++ with_length piece.now) }
-    ensures starts { OnOk result (starts.new.items ≡ starts.old.items ++ length bytes.old.items ∷ []) }
+    ensures starts { OnOk result
+        (starts.new.items ≡ starts.old.items ++ length bytes.old.items ∷ []) }
     ensures bytes_err { OnErr result (bytes.new.items ≡ bytes.old.items) }
     ensures starts_err { OnErr result (starts.new.items ≡ starts.old.items) }
 {

@@ -48,7 +48,8 @@ impl Form {
 
 /// Whether a row is a key and a value of this kind.
 fn is_entry(kind: &Kind, row: &RowView<'_>) -> bool
-    ensures { IsTrue result ↔ ((length row.now ≡ 2) × IsValueOf kind.now (slice_index_or row.now 1 [])) }
+    ensures { IsTrue result
+        ↔ ((length row.now ≡ 2) × IsValueOf kind.now (slice_index_or row.now 1 [])) }
 {
     if row.count() != 2 {
         return false;
@@ -61,7 +62,8 @@ fn is_entry(kind: &Kind, row: &RowView<'_>) -> bool
 
 /// Whether a row is a landed one.
 fn is_landed(columns: u32, numbers: &NumberList, row: &RowView<'_>) -> bool
-    ensures { IsTrue result ↔ ((length row.now ≡ columns + 1) × (length (slice_index_or row.now 0 []) ≡ 8)
+    ensures { IsTrue result
+        ↔ ((length row.now ≡ columns + 1) × (length (slice_index_or row.now 0 []) ≡ 8)
         × EachIndex numbers.now (λ k. IsNumberAt row.now (slice_index numbers.now k))) }
 {
     if row.count() != columns as usize + 1 || row.field(0).len() != 8 {

@@ -67,7 +67,8 @@ impl RunReader {
         ensures taken { TakesRow self.new result }
         ensures run { run_of self.new ≡ run_of self.old }
         ensures form { form_of self.new ≡ form_of self.old }
-        ensures cause { HasCauseOn (run_of self.old).disk (faults_on H.disk_of D.faults shelf.old (run_of self.old).disk)
+        ensures cause { HasCauseOn (run_of self.old).disk
+            (faults_on H.disk_of D.faults shelf.old (run_of self.old).disk)
             (faults_on H.disk_of D.faults shelf.new (run_of self.old).disk) result }
         ensures shelf { LeavesFiles H.count_of H.named H.disk_of D.files D.faults shelf.old shelf.new }
     {
@@ -87,9 +88,11 @@ impl RunReader {
     ) -> Result<Option<RowView<'_>>, RunFault>
         requires there { (run_of self.old).disk < H.count_of shelf.old }
         ensures gives { (rows : List (List (List ℕ))) →
-            IsAhead (files_on H.disk_of D.files shelf.old (run_of self.old).disk) self.old rows → GivesFirst rows result }
+            IsAhead (files_on H.disk_of D.files shelf.old (run_of self.old).disk) self.old rows →
+            GivesFirst rows result }
         ensures end { (result ≡ Ok None) ↔ ((run_of self.old).count ≤ found_of self.old) }
-        ensures cause { HasCauseOn (run_of self.old).disk (faults_on H.disk_of D.faults shelf.old (run_of self.old).disk)
+        ensures cause { HasCauseOn (run_of self.old).disk
+            (faults_on H.disk_of D.faults shelf.old (run_of self.old).disk)
             (faults_on H.disk_of D.faults shelf.new (run_of self.old).disk) result }
         ensures shelf { LeavesFiles H.count_of H.named H.disk_of D.files D.faults shelf.old shelf.new }
     {
@@ -104,11 +107,13 @@ impl RunReader {
         requires there { self.old.run.disk < H.count_of shelf.old }
         ensures read { OnOk result (HasRead self.new) }
         ensures bytes { OnOk result ((rows : List (List (List ℕ))) →
-            HasBytes (files_on H.disk_of D.files shelf.old self.old.run.disk) self.old rows → IsPage (rest_of self.new) rows) }
+            HasBytes (files_on H.disk_of D.files shelf.old self.old.run.disk) self.old rows →
+            IsPage (rest_of self.new) rows) }
         ensures run { self.new.run ≡ self.old.run }
         ensures form { self.new.form ≡ self.old.form }
         ensures found { self.new.found ≡ self.old.found }
-        ensures cause { HasCauseOn self.old.run.disk (faults_on H.disk_of D.faults shelf.old self.old.run.disk)
+        ensures cause { HasCauseOn self.old.run.disk
+            (faults_on H.disk_of D.faults shelf.old self.old.run.disk)
             (faults_on H.disk_of D.faults shelf.new self.old.run.disk) result }
         ensures sound { NotDamaged result }
         ensures shelf { LeavesFiles H.count_of H.named H.disk_of D.files D.faults shelf.old shelf.new }

@@ -29,7 +29,8 @@ impl Model for RunWriter {
 impl RunWriter {
     /// Begins a run in a new file of this disk, which has this number on its shelf.
     pub fn start<D: Disk>(disk: &mut D, number: u32) -> Result<RunWriter, RunFault>
-        ensures made { IfOk result (λ writer. Creates (D.files disk.old) (D.files disk.new) writer.file) }
+        ensures made { IfOk result
+            (λ writer. Creates (D.files disk.old) (D.files disk.new) writer.file) }
         ensures there { IfOk result (λ writer. IsThere (D.files disk.new) writer.file) }
         ensures empty { IfOk result (λ writer. IsFileOf (D.files disk.new) writer.file []) }
         ensures counts { IfOk result (λ writer. Counts writer []) }
@@ -58,12 +59,16 @@ impl RunWriter {
     /// file, and the writer is only dropped.
     pub fn write<D: Disk>(&mut self, disk: &mut D, page: &Page) -> Result<(), RunFault>
         requires there { IsThere (D.files disk.old) self.old.file }
-        ensures ok { OnOk result (Appends (D.files disk.old) (D.files disk.new) self.old.file (page_bytes page.now.rows)) }
-        ensures err { OnErr result (AppendsPart (D.files disk.old) (D.files disk.new) self.old.file (page_bytes page.now.rows)) }
+        ensures ok { OnOk result (Appends (D.files disk.old) (D.files disk.new) self.old.file
+            (page_bytes page.now.rows)) }
+        ensures err { OnErr result (AppendsPart (D.files disk.old) (D.files disk.new) self.old.file
+            (page_bytes page.now.rows)) }
         ensures there { IsThere (D.files disk.new) self.new.file }
-        ensures written { OnOk result ((rows : List (List (List ℕ))) → IsFileOf (D.files disk.old) self.old.file rows →
+        ensures written { OnOk result ((rows : List (List (List ℕ))) →
+            IsFileOf (D.files disk.old) self.old.file rows →
             IsFileOf (D.files disk.new) self.new.file (rows ++ page.now.rows)) }
-        ensures counts { OnOk result ((rows : List (List (List ℕ))) → Counts self.old rows → Counts self.new (rows ++ page.now.rows)) }
+        ensures counts { OnOk result ((rows : List (List (List ℕ))) →
+            Counts self.old rows → Counts self.new (rows ++ page.now.rows)) }
         ensures unwritten { OnErr result (self.new ≡ self.old) }
         ensures disk { self.new.disk ≡ self.old.disk }
         ensures file { self.new.file ≡ self.old.file }

@@ -15,8 +15,8 @@ use std::rt::Files;
 const OPEN_FILES: usize = 32;
 
 /// A disk whose files lie in a folder under their numbers. It makes the folder at the first `create`,
-/// and removes nothing that it did not make. It keeps some files kept, collects small appends and reads
-/// ahead; what is collected is on a file before it is read and before the disk is dropped.
+/// and removes nothing that it did not make. It keeps some files open, collects small appends and
+/// reads ahead; what is collected is on a file before it is read and before the disk is dropped.
 #[derive(Drop)]
 pub struct FolderDisk<R: Files + Drop> {
     rt: R,

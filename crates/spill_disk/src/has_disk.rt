@@ -51,7 +51,8 @@ impl<D: Disk, P: HasDisk<D>> Shelf<D> for Vec<P> {
 
     ghost one_disk = { λ owners i j same. ap (disk_at P.own owners) same };
 
-    ghost changed = { λ owners i j disk within same. disk_changed P.own P.with_own P.own_with_own owners i j disk within same };
+    ghost changed = { λ owners i j disk within same.
+        disk_changed P.own P.with_own P.own_with_own owners i j disk within same };
 
     ghost others = { λ owners i j disk apart. disk_others P.own P.with_own owners i j disk apart };
 }

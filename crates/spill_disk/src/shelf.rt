@@ -30,16 +30,20 @@ pub trait Shelf<D: Disk> {
         ensures value { disk_of self.old number ≡ Some result.now };
 
     /// A change of a disk changes no count.
-    ghost same_count: { (shelf : Self) (i : ℕ) (disk : D) → count_of (with_disk shelf i disk) ≡ count_of shelf };
+    ghost same_count: { (shelf : Self) (i : ℕ) (disk : D) →
+        count_of (with_disk shelf i disk) ≡ count_of shelf };
 
     /// Nor what a number names.
-    ghost same_names: { (shelf : Self) (i j : ℕ) (disk : D) → named (with_disk shelf i disk) j ≡ named shelf j };
+    ghost same_names: { (shelf : Self) (i j : ℕ) (disk : D) →
+        named (with_disk shelf i disk) j ≡ named shelf j };
 
     /// Numbers that name one disk have the same.
-    ghost one_disk: { (shelf : Self) (i j : ℕ) → named shelf j ≡ named shelf i → disk_of shelf j ≡ disk_of shelf i };
+    ghost one_disk: { (shelf : Self) (i j : ℕ) → named shelf j ≡ named shelf i →
+        disk_of shelf j ≡ disk_of shelf i };
 
     /// The disk that was changed is the one that is there.
-    ghost changed: { (shelf : Self) (i j : ℕ) (disk : D) → i < count_of shelf → named shelf j ≡ named shelf i →
+    ghost changed: { (shelf : Self) (i j : ℕ) (disk : D) →
+        i < count_of shelf → named shelf j ≡ named shelf i →
         disk_of (with_disk shelf i disk) j ≡ Some disk };
 
     /// Each other disk is as before.

@@ -9,7 +9,8 @@ use std::alloc::{AllocError, Global};
 
 /// Adds an empty file in the next slot. After an `Err` nothing changed.
 pub fn add_slot(alloc: Global, slots: &mut Vec<Stored>) -> Result<(), AllocError>
-    ensures ok { OnOk result (Creates (Some (files_from 0 slots.old.items)) (Some (files_from 0 slots.new.items)) (vec_len slots.old)) }
+    ensures ok { OnOk result (Creates (Some (files_from 0 slots.old.items))
+        (Some (files_from 0 slots.new.items)) (vec_len slots.old)) }
     ensures err { OnErr result (files_from 0 slots.new.items ≡ files_from 0 slots.old.items) }
     ensures there { OnOk result (IsThere (Some (files_from 0 slots.new.items)) (vec_len slots.old)) }
     ensures more { OnOk result (vec_len slots.new ≡ vec_len slots.old + 1) }
@@ -28,7 +29,8 @@ pub fn add_slot(alloc: Global, slots: &mut Vec<Stored>) -> Result<(), AllocError
 /// Adds bytes to a file that is there. After an `Err` nothing changed.
 pub fn add_bytes(slots: &mut Vec<Stored>, file: u64, bytes: &[u8]) -> Result<(), AllocError>
     requires { IsThere (Some (files_from 0 slots.old.items)) file }
-    ensures ok { OnOk result (Appends (Some (files_from 0 slots.old.items)) (Some (files_from 0 slots.new.items)) file bytes.now) }
+    ensures ok { OnOk result (Appends (Some (files_from 0 slots.old.items))
+        (Some (files_from 0 slots.new.items)) file bytes.now) }
     ensures err { OnErr result (files_from 0 slots.new.items ≡ files_from 0 slots.old.items) }
     ensures there { IsThere (Some (files_from 0 slots.new.items)) file }
     ensures same { vec_len slots.new ≡ vec_len slots.old }
@@ -61,7 +63,8 @@ pub fn fill(bytes: &[u8], place: u64, buf: &mut [u8]) -> usize
 
 /// Takes a file away, if it is there.
 pub fn clear_slot(alloc: Global, slots: &mut Vec<Stored>, file: u64)
-    ensures files { Removes (Some (files_from 0 slots.old.items)) (Some (files_from 0 slots.new.items)) file }
+    ensures files { Removes (Some (files_from 0 slots.old.items))
+        (Some (files_from 0 slots.new.items)) file }
     ensures same { vec_len slots.new ≡ vec_len slots.old }
 {
     if file < slots.len() as u64 {
