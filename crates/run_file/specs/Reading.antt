@@ -74,6 +74,14 @@ TellsDamage before after (Err (Damaged disk file kept found)) =
     × (found < kept) × HasRead after × IsDamagedAhead after
 TellsDamage before after (Err NoMemory) = ⊤
 
+-- damage is told with the run's place, its count, and how many rows were given, which are fewer
+abbrev pub TellsPlace : {T : Type 0} → RunReader → Result T RunFault → Type 0
+TellsPlace before (Ok x) = ⊤
+TellsPlace before (Err (DiskFault disk)) = ⊤
+TellsPlace before (Err (Damaged disk file kept found)) =
+    (disk ≡ before.run.disk) × (file ≡ before.run.file) × (kept ≡ before.run.count) × (found ≡ before.found) × (found < kept)
+TellsPlace before (Err NoMemory) = ⊤
+
 -- the row that it took is well formed
 abbrev pub TakesRow : RunReader → Result Bool RunFault → Type 0
 TakesRow after (Ok true) = (row : List (List ℕ)) × IsAtRow after row × IsWellFormed after.form after.run.greatest row

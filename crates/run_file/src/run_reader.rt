@@ -4,7 +4,7 @@ ghost use Rattle.std.specs.Prelude.{◌≡◌, ◌<◌, ◌≤◌, ◌+◌, ◌�
 ghost use Rattle.row_page.specs.Grammar.{IsPage};
 ghost use Rattle.run_file.specs.Shelved.{files_on, faults_on, LeavesFiles};
 ghost use Rattle.run_file.specs.Causes.{HasCauseOn, NotDamaged, NoDiskFault};
-ghost use Rattle.run_file.specs.Reading.{run_of, form_of, found_of, IsAtRow, HasRead, IsAhead, GoesOn, GivesFirst, TellsDamage, TakesRow, Moves, HasBytes, ReadsRun, rest_of};
+ghost use Rattle.run_file.specs.Reading.{run_of, form_of, found_of, IsAtRow, HasRead, IsAhead, GoesOn, GivesFirst, TellsDamage, TellsPlace, TakesRow, Moves, HasBytes, ReadsRun, rest_of};
 
 use crate::run::fault_of;
 use crate::{Form, Run, RunFault};
@@ -91,6 +91,7 @@ impl RunReader {
             IsAhead (files_on H.disk_of D.files shelf.old (run_of self.old).disk) self.old rows →
             GivesFirst rows result }
         ensures end { (result ≡ Ok None) ↔ ((run_of self.old).count ≤ found_of self.old) }
+        ensures damaged { TellsPlace self.old result }
         ensures cause { HasCauseOn (run_of self.old).disk
             (faults_on H.disk_of D.faults shelf.old (run_of self.old).disk)
             (faults_on H.disk_of D.faults shelf.new (run_of self.old).disk) result }
