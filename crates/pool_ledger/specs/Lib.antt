@@ -7,3 +7,4 @@ pub mod Recorded
 pub mod Accounts
 pub mod Kept
 pub mod Journal
+pub mod Workers
