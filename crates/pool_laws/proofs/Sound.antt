@@ -1,6 +1,6 @@
 -- The laws of the pool, for every permitted history.
 use Rattle.pool_ledger.specs.Answers.{answer}
-use Rattle.std.proofs.Common.{◌≡◌, ℕ, ◌≤◌, ◌<◌, Bool, true, false, cond, not, ◌&&◌, Some, None, List, [], ◌∷◌, count_by, refl, sym, ap, ◌∙◌, arith, inl, inr, ◌⊎◌, subst}
+use Rattle.std.proofs.Common.{◌≡◌, ℕ, ◌≤◌, ◌<◌, Bool, true, false, cond, not, ◌&&◌, Some, None, List, [], ◌∷◌, count_by, sum_by, refl, sym, ap, ◌∙◌, arith, inl, inr, ◌⊎◌, subst}
 use Rattle.std.specs.List.{list_any}
 use Rattle.std.specs.Prelude.{nat_eq}
 use Rattle.std.proofs.lemmas.List.Sums.{sum_by-cons}
@@ -11,7 +11,7 @@ use Rattle.pool_ledger.specs.declared.entry.Event.TheVariants.{Attempt, Release,
 use Rattle.pool_ledger.specs.Sizes.{Sizes}
 use Rattle.pool_ledger.specs.History.{History, held, begun, is_active, active, open_task, was_begun}
 use Rattle.pool_ledger.specs.Legal.{IsPermitted}
-use Rattle.pool_laws.specs.Laws.{NeverPasses, active_with, AreFewActive, GreatestNeverWaits, ShortGrantsKeepFloor, IsPassed, VictimsExist, KeepsLaws}
+use Rattle.pool_laws.specs.Laws.{NeverPasses, active_with, TasksFit, AreFewActive, GreatestNeverWaits, ShortGrantsKeepFloor, IsPassed, VictimsExist, KeepsLaws}
 use Rattle.pool_ledger.specs.Recorded.{CanCome, IsRecorded}
 use Rattle.pool_ledger.proofs.Tasks.{entry_of, untouched, active-Attempt, open_worker_known}
 use Rattle.pool_laws.proofs.Active.{active_few}
@@ -135,8 +135,25 @@ few_active s h region perm =
     let r = (holds s h region perm).recorded in
     record {
       now = active_few s h r (ends_free_all s h perm);
+      counted = active_counted s h r;
       asking = λ w t now. active_with_few s h region perm w t now (open_worker_known s h r w t now);
     }
+
+-- one of a list has no more than the list
+part : (f : ℕ → ℕ) (t : ℕ) (xs : List ℕ) → list_any (λ u. nat_eq u t) xs ≡ true → f t ≤ sum_by f xs
+part f t [] present = absurd (false≢true present)
+part f t (x ∷ xs) present = elim (or_cases (nat_eq x t) (list_any (λ u. nat_eq u t) xs) present) [
+  | inl here ↦ omega (arith, sum_by-cons f x xs, ap f (eqb-true x t here))
+  | inr later ↦ omega (arith, sum_by-cons f x xs, part f t xs later)
+]
+
+tasks_fit : (s : Sizes) (h : History) → s.region ≤ s.maximum → IsPermitted s h → TasksFit h
+tasks_fit s h region perm task = elim (cases_Bool (was_begun h task)) [
+  | inl old ↦ part (held h) task (begun h) old
+  | inr new ↦
+      let nothing = untouched s h (holds s h region perm).recorded task new in
+      omega (arith, nothing.granted)
+]
 
 victims_exist : (s : Sizes) (h : History) → s.region ≤ s.maximum → IsPermitted s h → VictimsExist s h
 victims_exist s h region perm asked some = victims_found s h asked (legal_is_sound s h region perm)
@@ -144,6 +161,7 @@ victims_exist s h region perm asked some = victims_found s h asked (legal_is_sou
 pub keeps_laws : (s : Sizes) (h : History) → s.region ≤ s.maximum → IsPermitted s h → KeepsLaws s h
 keeps_laws s h region perm = record {
   never_passes = never_passes s h region perm;
+  tasks_fit = tasks_fit s h region perm;
   few_active = few_active s h region perm;
   closed_idle = idle s h (holds s h region perm).recorded (ends_free_all s h perm);
   greatest = legal_greatest_never_waits s h region perm;

@@ -23,9 +23,10 @@ pub record NeverPasses (setup : Sizes) (history : History) : Type 0 where
 abbrev pub active_with : History → ℕ → ℕ
 active_with history task = active history + cond (is_active history task) 0 1
 
--- no more tasks are active than there are workers, also once a worker's task asks
+-- no more tasks are active than there are workers, also once a worker's task asks; each active task counts
 pub record AreFewActive (setup : Sizes) (history : History) : Type 0 where
   pub now : active history ≤ setup.workers
+  pub counted : (task : ℕ) → is_active history task ≡ true → 1 ≤ active history
   pub asking : (worker task : ℕ) → open_task history worker ≡ Some task → active_with history task ≤ setup.workers
 
 -- the task holds nothing and isn't active
@@ -36,6 +37,10 @@ pub record IsIdle (history : History) (task : ℕ) : Type 0 where
 -- a task that no worker has open, since it was ended or never begun, is idle
 abbrev pub ClosedTasksAreIdle : History → Type 0
 ClosedTasksAreIdle history = (task : ℕ) → ((worker : ℕ) → open_task history worker ≢ Some task) → IsIdle history task
+
+-- what one task holds is part of what all hold
+abbrev pub TasksFit : History → Type 0
+TasksFit history = (task : ℕ) → held history task ≤ exec history
 
 -- no active task holds more
 abbrev pub HoldsMost : History → ℕ → Type 0
@@ -91,6 +96,7 @@ AreTaken setup history = (entry : Entry) → MayFollow setup history entry → C
 -- All of them
 pub record KeepsLaws (setup : Sizes) (history : History) : Type 0 where
   pub never_passes : NeverPasses setup history
+  pub tasks_fit : TasksFit history
   pub few_active : AreFewActive setup history
   pub closed_idle : ClosedTasksAreIdle history
   pub greatest : GreatestNeverWaits setup history

@@ -1,4 +1,4 @@
-ghost use Rattle.std.specs.Prelude.{◌≡◌, ◌+◌, ◌-◌, ◌≤◌, ◌<◌, [], ◌∷◌, ◌++◌, ◌^◌, reverse, length, OnOk, OnErr, vec_len, vec_capacity};
+ghost use Rattle.std.specs.Prelude.{◌≡◌, ◌+◌, ◌-◌, ◌≤◌, ◌<◌, [], ◌∷◌, ◌++◌, ◌^◌, reverse, length, IsOk, OnOk, OnErr, vec_len, vec_capacity};
 ghost use Rattle.pool_ledger.specs.Sizes.{Sizes, IsInRange};
 ghost use Rattle.pool_ledger.specs.History.{held, exec, active, execution_pool, storage_pool, is_active};
 ghost use Rattle.pool_ledger.specs.Blocks.{stored};
@@ -56,6 +56,13 @@ impl Ledger {
             pool: setup.max() - setup.region(),
             active: 0,
         }
+    }
+
+    /// The sizes that the pool started with.
+    pub fn setup(&self) -> &Setup
+        ensures { result.now ≡ self.now.setup }
+    {
+        &self.setup
     }
 
     /// The bytes that all tasks hold.
@@ -116,9 +123,12 @@ impl Ledger {
         &self.entries
     }
 
-    /// Makes room for `n` entries. After an `Err`, which is want of memory, all is as before.
+    /// Makes room for `n` entries. After an `Err`, which is want of memory, all is as before; it doesn't
+    /// come where there is room for them.
     pub fn reserve(&mut self, n: u64) -> Result<(), AllocError>
         ensures ok { OnOk result (n ≤ self.new.spare) }
+        ensures enough { n ≤ self.old.spare → IsOk result }
+        ensures keeps { self.old.spare ≤ self.new.spare }
         ensures err { OnErr result (self.new ≡ self.old) }
         ensures setup { self.new.setup ≡ self.old.setup }
         ensures history { self.new.history ≡ self.old.history }

@@ -35,6 +35,7 @@ fn a_ledger_keeps_the_sums_of_two_tasks(rt: HostRuntime) -> Result<(), Fail> {
     let mut ledger = Ledger::new(rt.alloc(), setup);
     ledger.reserve(7)?;
     push_two_tasks(&mut ledger);
+    assert_eq!(rt; ledger.setup().max(), 600);
     assert_eq!(rt; ledger.execution_pool(), 600);
     assert_eq!(rt; ledger.storage_pool(), 0);
     assert_eq!(rt; ledger.exec(), 600);
