@@ -123,6 +123,13 @@ impl Ledger {
         &self.entries
     }
 
+    /// The number of entries for which there is room.
+    pub fn spare(&self) -> u64
+        ensures { result ≡ self.now.spare }
+    {
+        self.spare
+    }
+
     /// Makes room for `n` entries. After an `Err`, which is want of memory, all is as before; it doesn't
     /// come where there is room for them.
     pub fn reserve(&mut self, n: u64) -> Result<(), AllocError>
