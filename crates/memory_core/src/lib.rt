@@ -3,6 +3,8 @@
 
 mod attempted;
 mod plan;
+#[cfg(test)]
+mod scripts;
 mod state;
 #[cfg(test)]
 mod tests;

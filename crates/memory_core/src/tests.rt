@@ -1,307 +1,115 @@
-// Scripts of asks whose answers were computed from the definitions, as sums over the whole journal.
+// Tasks that share a pool, by scripts of what their workers call.
 ghost use Rattle.std.specs.Prelude.{◌≡◌};
 ghost use Rattle.pool_ledger.specs.History.{open_task, was_begun};
 ghost use Rattle.pool_ledger.specs.Journal.{history_of};
 
+use crate::scripts::SCRIPTS;
 use crate::{Attempted, MemoryState};
-use pool_ledger::{Entry, Event, Setup};
+use pool_ledger::{Entry, Event, Journal, Setup};
 use std::alloc::Global;
 use std::string::{String, ToString};
 use std::test::*;
 
-// The numbers are the bytes of both pools, the storage fraction in thousandths, and how many workers, from 0 on,
-// have begun a task. `ask:W:N=G` is an ask of worker W's task for N bytes that is granted G or told to wait,
-// `release:W:N=F` frees F, `end:W=F` too, and `begin:W` begins the worker's next task.
 #[test]
 fn scripts_of_many_tasks_have_their_answers(rt: HostRuntime) -> Result<(), Fail> {
-    let scripts: [(&str, u64, u32, u32, &str); 34] = [
-        (
-            "one task takes all",
-            600,
-            500,
-            1,
-            "ask:0:600=600 ask:0:1=0 end:0=600",
-        ),
-        (
-            "one task takes all in parts",
-            600,
-            500,
-            1,
-            "ask:0:100=100 ask:0:250=250 ask:0:250=250 ask:0:50=0 end:0=600",
-        ),
-        (
-            "a lone task is granted short of what there isn't",
-            600,
-            500,
-            1,
-            "ask:0:700=600 end:0=600",
-        ),
-        (
-            "two tasks, the first holds most",
-            600,
-            500,
-            2,
-            "ask:0:500=500 ask:1:200=wait ask:0:50=0 release:0:100=100 ask:1:200=200",
-        ),
-        (
-            "two tasks meet at a half each",
-            600,
-            500,
-            2,
-            "ask:0:600=600 ask:1:300=wait release:0:300=300 ask:1:300=300 ask:0:1=0 \
-            ask:1:1=0",
-        ),
-        (
-            "half of a half is enough to go on",
-            600,
-            500,
-            2,
-            "ask:0:450=450 ask:1:300=150 ask:0:1=0",
-        ),
-        (
-            "one byte less than half of a half is not",
-            600,
-            500,
-            2,
-            "ask:0:451=451 ask:1:300=wait release:0:1=1 ask:1:300=150",
-        ),
-        (
-            "a third waits until it can have a sixth",
-            600,
-            500,
-            3,
-            "ask:0:300=300 ask:1:300=300 ask:2:200=wait release:0:50=50 ask:2:200=wait \
-            release:1:50=50 ask:2:200=100 ask:2:100=0",
-        ),
-        (
-            "a task that released all is no longer counted",
-            600,
-            500,
-            2,
-            "ask:0:400=400 release:0:1000=400 ask:1:600=600 ask:0:100=wait release:0:1=0",
-        ),
-        (
-            "an ended task is no longer counted",
-            600,
-            500,
-            2,
-            "ask:0:300=300 ask:1:300=300 end:0=300 ask:1:300=300 end:1=600",
-        ),
-        (
-            "a begun task isn't counted before it asks",
-            600,
-            500,
-            2,
-            "ask:0:600=600 end:0=600 ask:1:600=600 end:1=600",
-        ),
-        (
-            "a waiting task counts though it holds nothing",
-            600,
-            500,
-            3,
-            "ask:0:500=500 ask:1:200=wait ask:2:200=100 release:0:500=500 ask:0:600=200 \
-            ask:1:200=200 ask:2:200=100",
-        ),
-        (
-            "a worker's next task starts anew",
-            600,
-            500,
-            1,
-            "ask:0:600=600 end:0=600 begin:0 ask:0:600=600 end:0=600 begin:0 ask:0:10=10 \
-            end:0=10",
-        ),
-        (
-            "what moved stays after a wait",
-            600,
-            500,
-            2,
-            "ask:0:250=250 ask:1:50=50 ask:0:50=50 ask:1:260=250 ask:1:250=0",
-        ),
-        (
-            "a release frees at most what is held",
-            600,
-            500,
-            1,
-            "ask:0:100=100 release:0:40=40 release:0:100=60 release:0:1=0 end:0=0",
-        ),
-        (
-            "an end frees all that is held",
-            600,
-            500,
-            2,
-            "ask:0:200=200 ask:1:100=100 end:0=200 end:1=100",
-        ),
-        (
-            "no byte of storage is taken before it is needed",
-            600,
-            500,
-            2,
-            "ask:0:300=300 ask:1:100=100 release:0:300=300 ask:1:100=100",
-        ),
-        (
-            "storage without a region gives nothing",
-            600,
-            0,
-            2,
-            "ask:0:600=600 ask:1:1=wait release:0:150=150 ask:1:150=150 ask:1:200=0",
-        ),
-        (
-            "a region of all starts with an empty execution pool",
-            600,
-            1000,
-            2,
-            "ask:0:1=1 ask:1:299=299 ask:0:300=299 end:0=300 ask:1:301=301",
-        ),
-        (
-            "a pool of one byte",
-            1,
-            0,
-            2,
-            "ask:0:1=1 ask:1:1=0 end:0=1 ask:1:1=1 end:1=1",
-        ),
-        (
-            "quotients are rounded down",
-            601,
-            500,
-            3,
-            "ask:0:200=200 ask:1:200=200 ask:2:201=200 ask:2:1=0 ask:0:1=0",
-        ),
-        (
-            "the least share is rounded down",
-            599,
-            0,
-            3,
-            "ask:0:300=300 ask:1:200=200 ask:2:100=99 end:0=300 ask:2:200=200 \
-            ask:1:100=99",
-        ),
-        (
-            "four tasks at a quarter each",
-            1_000,
-            500,
-            4,
-            "ask:0:250=250 ask:1:250=250 ask:2:250=250 ask:3:250=250 ask:0:1=0 ask:3:1=0 \
-            end:2=250 ask:0:250=83 ask:1:100=83",
-        ),
-        (
-            "the fourth waits for an eighth",
-            1_000,
-            500,
-            4,
-            "ask:0:400=400 ask:1:300=300 ask:2:200=200 ask:3:200=wait release:0:24=24 \
-            ask:3:200=wait release:0:1=1 ask:3:200=125",
-        ),
-        (
-            "eight tasks, of which seven came first",
-            800,
-            500,
-            8,
-            "ask:0:100=100 ask:1:100=100 ask:2:100=100 ask:3:100=100 ask:4:100=100 \
-            ask:5:100=100 ask:6:100=100 ask:7:150=100 ask:7:1=0 end:0=100 ask:7:20=14 \
-            ask:6:50=14",
-        ),
-        (
-            "sixteen tasks get a sixteenth each",
-            1_600,
-            500,
-            16,
-            "ask:0:100=100 ask:1:100=100 ask:2:100=100 ask:3:100=100 ask:4:100=100 \
-            ask:5:100=100 ask:6:100=100 ask:7:100=100 ask:8:100=100 ask:9:100=100 \
-            ask:10:100=100 ask:11:100=100 ask:12:100=100 ask:13:100=100 ask:14:100=100 \
-            ask:15:101=100 ask:0:1=0",
-        ),
-        (
-            "sixteen tasks wait behind the first",
-            1_600,
-            500,
-            16,
-            "ask:0:1600=1600 ask:1:50=wait ask:2:50=wait ask:3:50=wait ask:4:50=wait \
-            ask:5:50=wait ask:6:50=wait ask:7:50=wait ask:8:50=wait ask:9:50=wait \
-            ask:10:50=wait ask:11:50=wait ask:12:50=wait ask:13:50=wait ask:14:50=wait \
-            ask:15:50=wait release:0:99=99 ask:15:60=60 release:0:1=1 ask:15:60=40 \
-            ask:14:50=wait end:0=1500 ask:14:50=50",
-        ),
-        (
-            "an ask of 2^50 is granted what there is",
-            1_099_511_627_776,
-            0,
-            2,
-            "ask:0:1125899906842624=1099511627776 ask:1:1125899906842624=wait \
-            release:0:549755813888=549755813888 ask:1:1125899906842624=549755813888",
-        ),
-        (
-            "a small ask is granted whole below half a share",
-            600,
-            500,
-            2,
-            "ask:0:500=500 ask:1:100=100 ask:0:1=0",
-        ),
-        (
-            "the greatest holder is granted nothing rather than told to wait",
-            600,
-            500,
-            2,
-            "ask:0:500=500 ask:1:100=100 ask:0:100=0 ask:0:100=0 end:1=100 ask:0:100=100",
-        ),
-        (
-            "a task that gave all back comes again",
-            600,
-            500,
-            2,
-            "ask:0:600=600 release:0:600=600 ask:1:300=300 ask:0:300=300 \
-            release:1:300=300 ask:1:1=1",
-        ),
-        (
-            "two short grants in a row",
-            600,
-            500,
-            2,
-            "ask:0:400=400 ask:1:400=200 ask:1:400=0 release:0:200=200 ask:1:400=100",
-        ),
-        (
-            "the limit falls below what is held",
-            600,
-            500,
-            3,
-            "ask:0:600=600 release:0:200=200 ask:1:100=100 ask:2:100=100 ask:0:1=0 \
-            ask:1:100=0 ask:2:1=0",
-        ),
-        (
-            "an ask past the fair share is cut to it",
-            1_000,
-            0,
-            2,
-            "ask:0:200=200 ask:1:900=500 ask:0:400=300 begin:2 ask:2:400=wait end:1=500 \
-            ask:2:400=400",
-        ),
-    ];
-    for (name, max, storage, tasks, script) in scripts {
-        let answers = run_script(rt.alloc(), max, storage, tasks, script)?;
+    for (name, max, storage, tasks, script) in SCRIPTS {
+        let (answers, _) = run_script(rt.alloc(), max, storage, 16, tasks, script)?;
         assert_eq!(rt; answers.as_str(), script, "{name}");
     }
     Ok(())
 }
 
-// The script with the answers that it gets.
+// Two tasks in a pool of 600 bytes, half of it storage's.
+#[test]
+fn what_moves_and_waits_is_written_down(rt: HostRuntime) -> Result<(), Fail> {
+    let script = "ask:0:500=500 ask:1:200=wait ask:0:50=0 release:0:100=100 ask:1:200=200";
+    let (answers, journal) = run_script(rt.alloc(), 600, 500, 2, 2, script)?;
+    assert_eq!(rt; answers.as_str(), script);
+    let wanted = [
+        entry(0, Event::Begin { task: 0 }),
+        entry(1, Event::Begin { task: 1 }),
+        attempt(0, 500, 200, Some(500)),
+        attempt(1, 200, 100, None),
+        attempt(0, 50, 0, Some(0)),
+        entry(
+            0,
+            Event::Release {
+                task: 0,
+                freed: 100,
+            },
+        ),
+        attempt(1, 200, 0, Some(200)),
+    ];
+    assert_eq!(rt; journal.entries(), wanted.as_slice());
+    Ok(())
+}
+
+#[test]
+fn a_task_that_gave_all_back_no_longer_counts(rt: HostRuntime) -> Result<(), Fail> {
+    let script = "ask:0:400=400 release:0:1000=400 ask:1:600=600 ask:0:100=wait release:0:1=0";
+    let (answers, journal) = run_script(rt.alloc(), 600, 500, 2, 2, script)?;
+    assert_eq!(rt; answers.as_str(), script);
+    let wanted = [
+        entry(0, Event::Begin { task: 0 }),
+        entry(1, Event::Begin { task: 1 }),
+        attempt(0, 400, 100, Some(400)),
+        entry(
+            0,
+            Event::Release {
+                task: 0,
+                freed: 400,
+            },
+        ),
+        attempt(1, 600, 200, Some(600)),
+        attempt(0, 100, 0, None),
+        entry(0, Event::Release { task: 0, freed: 0 }),
+    ];
+    assert_eq!(rt; journal.entries(), wanted.as_slice());
+    Ok(())
+}
+
+fn entry(worker: u32, event: Event) -> Entry {
+    Entry { worker, event }
+}
+
+// An attempt of a worker's first task, which has the worker's number.
+fn attempt(worker: u32, asked: u64, moved: u64, got: Option<u64>) -> Entry {
+    let evictions = 0;
+    entry(
+        worker,
+        Event::Attempt {
+            task: worker,
+            asked,
+            moved,
+            evictions,
+            got,
+        },
+    )
+}
+
+// The script with the answers that it gets from a state of so many workers, and its journal.
 fn run_script(
     alloc: Global,
     max: u64,
     storage: u32,
+    workers: u32,
     tasks: u32,
     script: &str,
-) -> Result<String, Fail> {
-    if max < 1 || max > 1 << 40 || storage > 1000 {
+) -> Result<(String, Journal), Fail> {
+    if max < 1 || max > 1 << 40 || storage > 1000 || workers < 1 || workers > 16 {
         return Err("numbers out of range".into());
     }
-    let setup = Setup::of(max, 0, 1000, storage, 16)?;
+    let setup = Setup::of(max, 0, 1000, storage, workers)?;
     let mut state = MemoryState::new(alloc, setup);
+    state.reserve(8)?;
     let mut answers = String::new(alloc);
     for worker in 0..tasks {
-        begin(&mut state, worker, worker)?;
+        begin(&mut state, workers, worker, worker)?;
     }
     let mut number = tasks;
     for word in script.split(' ') {
         let (step, _) = word.split_once('=').unwrap_or((word, ""));
-        let answer = play(&mut state, alloc, step, number)?;
+        let answer = play(&mut state, workers, alloc, step, number)?;
         number = number.wrapping_add(1);
         if !answers.is_empty() {
             answers.push(' ')?;
@@ -309,23 +117,29 @@ fn run_script(
         answers.push_str(step)?;
         answers.push_str(answer.as_str())?;
     }
-    Ok(answers)
+    Ok((answers, state.close()))
 }
 
 // One step of a script, and what it is answered.
-fn play(state: &mut MemoryState, alloc: Global, step: &str, number: u32) -> Result<String, Fail>
-    requires { state.old.setup.workers ≡ 16 }
+fn play(
+    state: &mut MemoryState,
+    workers: u32,
+    alloc: Global,
+    step: &str,
+    number: u32,
+) -> Result<String, Fail>
+    requires { state.old.setup.workers ≡ workers }
     ensures { state.new.setup ≡ state.old.setup }
 {
     let (kind, rest) = step.split_once(':').ok_or("a step without a worker")?;
     let (worker, bytes) = rest.split_once(':').unwrap_or((rest, "0"));
     let worker: u32 = worker.parse()?;
     let bytes: u64 = bytes.parse()?;
-    if worker >= 16 {
+    if worker >= workers {
         return Err("an unknown worker".into());
     }
     if kind == "begin" {
-        begin(state, worker, number)?;
+        begin(state, workers, worker, number)?;
         return Ok(String::new(alloc));
     }
     let task = open_of(state.entries(), worker).ok_or("a worker without a task")?;
@@ -348,11 +162,11 @@ fn equals(alloc: Global, bytes: u64) -> Result<String, Fail> {
 }
 
 // Begins a task that is new, of a worker that has none.
-fn begin(state: &mut MemoryState, worker: u32, task: u32) -> Result<(), Fail>
-    requires { state.old.setup.workers ≡ 16 }
+fn begin(state: &mut MemoryState, workers: u32, worker: u32, task: u32) -> Result<(), Fail>
+    requires { state.old.setup.workers ≡ workers }
     ensures { state.new.setup ≡ state.old.setup }
 {
-    if worker >= 16
+    if worker >= workers
         || open_of(state.entries(), worker).is_some()
         || is_begun(state.entries(), task)
     {
