@@ -8,6 +8,7 @@ pub mod Lookups
 pub mod Tallies
 pub mod Exactly
 pub mod Ordered
+pub mod Asks
 pub mod OneTasks
 pub mod Costing
 pub mod Heaps

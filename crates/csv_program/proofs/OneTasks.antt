@@ -2,7 +2,6 @@
 use Rattle.std.proofs.Common.{◌≡◌, ◌≤◌, ◌+◌, ◌-◌, ◌^◌, ◌∷◌, ◌∙◌, [], ℕ, Option, Some, refl, sym, ap, subst, inl, inr, arith}
 use Rattle.std.specs.Prelude.{◌==◌}
 use Rattle.std.proofs.lemmas.Bool.{cases_Bool}
-use Rattle.pool_ledger.specs.declared.entry.Entry.{Entry}
 use Rattle.pool_ledger.specs.declared.entry.Event.{Event}
 use Rattle.pool_ledger.specs.declared.entry.Event.TheVariants.{Begin, Attempt, Release, End, Evict, Admit, Refused, Pin, Unpin, Remove}
 use Rattle.pool_ledger.specs.Sizes.{Sizes, IsInRange}
@@ -10,11 +9,9 @@ use Rattle.pool_ledger.specs.History.{History, held, open_task, task_after}
 use Rattle.pool_ledger.specs.Blocks.{CachesNothing, admission_of}
 use Rattle.pool_ledger.specs.Answers.{Growth, answer, growth}
 use Rattle.pool_ledger.specs.Legal.{IsLegal, IsPermitted, MayFollow}
-use Rattle.pool_ledger.specs.Recorded.{CanFollow}
-use Rattle.pool_laws.specs.Laws.{KeepsLaws}
 use Rattle.pool_laws.specs.Growing.{Grows, attempt_by}
 use Rattle.pool_laws.specs.Uncached.{HoldsAlone, LoneTaskIsGranted, StoresNothing, moved_for}
-use Rattle.csv_program.specs.OneTask.{Ends, GoesOn, IsOneTask, IsOwn, IsRunning, TasksGoOn, ask_entry, entry_of, granted_for}
+use Rattle.csv_program.specs.OneTask.{GoesOn, HasRun, IsOneTask, IsOwn, IsRunning, TasksGoOn, ask_entry, entry_of, granted_for}
 
 -- ---- one task caches nothing, and no other is open
 own-admission : (event : Event) → IsOwn event → admission_of event ≡ 0
@@ -57,11 +54,7 @@ alone history only worker other here apart = absurd (apart (open-is history work
 
 module _ (grow : (setup : Sizes) (history : History) → IsLegal setup history → Grows setup history)
     (lone : (setup : Sizes) (history : History) → setup.region ≤ setup.maximum → CachesNothing history → IsPermitted setup history → LoneTaskIsGranted setup history)
-    (stores : (setup : Sizes) (history : History) → CachesNothing history → StoresNothing setup history)
-    (keeps : (setup : Sizes) (history : History) → setup.region ≤ setup.maximum → IsPermitted setup history → KeepsLaws setup history) where
-  recorded : (setup : Sizes) (history : History) (entry : Entry) → setup.region ≤ setup.maximum → IsPermitted setup (entry ∷ history) → CanFollow setup history entry
-  recorded setup history entry fits permitted = (keeps setup history fits permitted.0).taken entry permitted.1
-
+    (stores : (setup : Sizes) (history : History) → CachesNothing history → StoresNothing setup history) where
   begins-well : (setup : Sizes) → IsInRange setup.maximum setup.region setup.workers → GoesOn setup [] (entry_of (Begin 0)) 0
   begins-well setup range =
       let none : IsLegal setup [] = record { permitted = tt; whole = refl } in
@@ -69,7 +62,6 @@ module _ (grow : (setup : Sizes) (history : History) → IsLegal setup history �
       let may = grows.begins 0 0 (omega (arith, range.some_worker)) refl refl in
       let legal = grows.stays (entry_of (Begin 0)) may refl in
       record {
-        can_follow = recorded setup [] (entry_of (Begin 0)) range.region_fits legal.permitted;
         running = record {
           range = range;
           legal = legal;
@@ -83,11 +75,14 @@ module _ (grow : (setup : Sizes) (history : History) → IsLegal setup history �
         holds_now = refl;
       }
 
+  granted-as : (setup : Sizes) (history : History) (asked : ℕ) → IsRunning setup history → answer setup history 0 asked ≡ Some (granted_for setup history asked)
+  granted-as setup history asked running = lone setup history running.range.region_fits (caches-nothing history running.only) running.legal.permitted 0 asked (alone history running.only)
+
   asks-as : (setup : Sizes) (history : History) (asked : ℕ) → IsRunning setup history → attempt_by setup history 0 0 asked ≡ ask_entry setup history asked
   asks-as setup history asked running =
       let uncached = caches-nothing history running.only in
       let moves : (growth setup history asked).moved ≡ moved_for setup history asked = ap (λ (g : Growth). g.moved) ((stores setup history uncached).grows asked) in
-      let answers : answer setup history 0 asked ≡ Some (granted_for setup history asked) = lone setup history running.range.region_fits uncached running.legal.permitted 0 asked (alone history running.only) in
+      let answers = granted-as setup history asked running in
       ap (λ (moved : ℕ). entry_of (Attempt 0 asked moved 0 (answer setup history 0 asked))) moves
       ∙ ap (λ (got : Option ℕ). entry_of (Attempt 0 asked (moved_for setup history asked) 0 got)) answers
 
@@ -101,7 +96,6 @@ module _ (grow : (setup : Sizes) (history : History) → IsLegal setup history �
       let may : MayFollow setup history (ask_entry setup history asked) = subst (MayFollow setup history) (asks-as setup history asked running) may_as in
       let legal = grows.stays (ask_entry setup history asked) may refl in
       record {
-        can_follow = recorded setup history (ask_entry setup history asked) running.range.region_fits legal.permitted;
         running = record {
           range = running.range;
           legal = legal;
@@ -122,7 +116,6 @@ module _ (grow : (setup : Sizes) (history : History) → IsLegal setup history �
       let may = grows.releases 0 0 freed (omega (arith, running.range.some_worker)) running.open_now fits in
       let legal = grows.stays (entry_of (Release 0 freed)) may refl in
       record {
-        can_follow = recorded setup history (entry_of (Release 0 freed)) running.range.region_fits legal.permitted;
         running = record {
           range = running.range;
           legal = legal;
@@ -136,21 +129,18 @@ module _ (grow : (setup : Sizes) (history : History) → IsLegal setup history �
         holds_now = omega arith;
       }
 
-  ends-well : (setup : Sizes) (history : History) → IsRunning setup history → Ends setup history
+  ends-well : (setup : Sizes) (history : History) → IsRunning setup history → HasRun setup (entry_of (End 0 (held history 0)) ∷ history)
   ends-well setup history running =
       let grows = grow setup history running.legal in
       let may = grows.ends 0 0 (omega (arith, running.range.some_worker)) running.open_now in
       let legal = grows.stays (entry_of (End 0 (held history 0))) may refl in
       record {
-        can_follow = recorded setup history (entry_of (End 0 (held history 0))) running.range.region_fits legal.permitted;
-        has_run = record {
-          legal = legal;
-          only = (refl, refl, running.only);
-          begun = omega (arith, running.begun);
-          ended = omega (arith, running.not_ended);
-          nothing = omega arith;
-        };
+        legal = legal;
+        only = (refl, refl, running.only);
+        begun = omega (arith, running.begun);
+        ended = omega (arith, running.not_ended);
+        nothing = omega arith;
       }
 
   pub go-on : TasksGoOn
-  go-on = record { begins = begins-well; asks = asks-well; releases = releases-well; ends = ends-well }
+  go-on = record { begins = begins-well; asks = asks-well; releases = releases-well; ends = ends-well; granted = granted-as; entered = asks-as }

@@ -8,7 +8,8 @@ use Rattle.pool_ledger.specs.Sizes.{Sizes, IsInRange}
 use Rattle.pool_ledger.specs.History.{History, begins, ends, freed_by, granted_by, held, open_task, execution_free, total}
 use Rattle.pool_ledger.specs.Blocks.{storage_free}
 use Rattle.pool_ledger.specs.Legal.{IsLegal}
-use Rattle.pool_ledger.specs.Recorded.{CanFollow}
+use Rattle.pool_ledger.specs.Answers.{answer}
+use Rattle.pool_laws.specs.Growing.{attempt_by}
 
 -- an event of task 0
 abbrev pub IsOwn : Event → Type 0
@@ -56,24 +57,23 @@ abbrev pub ask_entry : Sizes → History → ℕ → Entry
 ask_entry setup history asked =
     entry_of (Attempt 0 asked (min (asked - execution_free setup history) (storage_free setup history)) 0 (Some (granted_for setup history asked)))
 
--- an entry can follow, and what it leaves
+-- what an entry leaves
 pub record GoesOn (setup : Sizes) (history : History) (entry : Entry) (holds : ℕ) : Type 0 where
-  pub can_follow : CanFollow setup history entry
   pub running : IsRunning setup (entry ∷ history)
   pub holds_now : held (entry ∷ history) 0 ≡ holds
 
-pub record Ends (setup : Sizes) (history : History) : Type 0 where
-  pub can_follow : CanFollow setup history (entry_of (End 0 (held history 0)))
-  pub has_run : HasRun setup (entry_of (End 0 (held history 0)) ∷ history)
-
--- a task may begin, and then ask, release and end
+-- a task begins, and then asks, releases and ends; what the rules answer it is what a lone task is granted
 pub record TasksGoOn : Type 0 where
   pub begins : (setup : Sizes) → IsInRange setup.maximum setup.region setup.workers → GoesOn setup [] (entry_of (Begin 0)) 0
   pub asks : (setup : Sizes) (history : History) (asked : ℕ) → IsRunning setup history → 1 ≤ asked → asked ≤ 2 ^ 50
       → GoesOn setup history (ask_entry setup history asked) (held history 0 + granted_for setup history asked)
   pub releases : (setup : Sizes) (history : History) (freed : ℕ) → IsRunning setup history → freed ≤ held history 0
       → GoesOn setup history (entry_of (Release 0 freed)) (held history 0 - freed)
-  pub ends : (setup : Sizes) (history : History) → IsRunning setup history → Ends setup history
+  pub ends : (setup : Sizes) (history : History) → IsRunning setup history → HasRun setup (entry_of (End 0 (held history 0)) ∷ history)
+  pub granted : (setup : Sizes) (history : History) (asked : ℕ) → IsRunning setup history
+      → answer setup history 0 asked ≡ Some (granted_for setup history asked)
+  pub entered : (setup : Sizes) (history : History) (asked : ℕ) → IsRunning setup history
+      → attempt_by setup history 0 0 asked ≡ ask_entry setup history asked
 
 -- ---- what a refusal for want of room shows
 

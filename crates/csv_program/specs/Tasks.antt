@@ -11,24 +11,25 @@ use Rattle.csv_program.specs.declared.task.TaskFault.{TaskFault}
 use Rattle.csv_program.specs.declared.task.TaskFault.TheVariants.{NoRoom, NoMemory}
 
 abbrev pub history_in : LoneTask → History
-history_in task = task.ledger.history
+history_in task = task.state.history
 
 abbrev pub setup_in : LoneTask → Sizes
 setup_in task = task.setup
 
 -- the bytes that the task holds
 abbrev pub held_in : LoneTask → ℕ
-held_in task = held task.ledger.history 0
+held_in task = held task.state.history 0
 
 -- the bytes of these that its groups and its least take
 abbrev pub taken_in : LoneTask → ℕ
 taken_in task = held_in task - task.room
 
--- the task runs, and there is room in its journal for this many entries, its end among them
+-- the task runs, it knows what it holds, and there is room in its journal for this many entries beside its end
 pub record IsReady (task : LoneTask) (entries : ℕ) : Type 0 where
-  pub running : IsRunning task.setup task.ledger.history
-  pub same : task.ledger.setup ≡ task.setup
-  pub spare : entries ≤ task.ledger.spare
+  pub running : IsRunning task.setup task.state.history
+  pub same : task.state.setup ≡ task.setup
+  pub held_is : task.held ≡ held_in task
+  pub spare : entries ≤ task.state.spare
   pub room_fits : task.room ≤ held_in task
 
 -- a refusal for want of room tells what was missing, what the task holds and the floor; the newest attempt shows it

@@ -39,13 +39,13 @@ fn group_row(
     key: &[u8],
     number: i64,
 ) -> Result<(), TaskFault>
-    requires ready { IsReady task.old 1 }
+    requires ready { IsReady task.old 0 }
     requires short { length key.now ≤ 65536 }
     ensures added { OnOk result ((asked : List ℕ) → totals_at groups.new asked ≡ tally_at key.now number asked (totals_at groups.old asked)) }
     ensures taken { OnOk result (taken_in task.new ≡ taken_in task.old + row_cost (told_seen told.now) key.now (totals_at groups.old key.now)) }
     ensures no_room { IfErr result (Passes (setup_in task.old).maximum (taken_in task.old + row_cost (told_seen told.now) key.now (totals_at groups.old key.now))) }
     ensures told { IfErr result (IsTold (setup_in task.new) (history_in task.new)) }
-    ensures ready { IsReady task.new 1 }
+    ensures ready { IsReady task.new 0 }
     ensures setup { setup_in task.new ≡ setup_in task.old }
 {
     if groups.add_known(key, number) {
@@ -67,7 +67,7 @@ pub fn group_rows(
     told: &Told<'_>,
     kept: &KeptRows,
 ) -> Result<Groups, TaskFault>
-    requires ready { IsReady task.old 1 }
+    requires ready { IsReady task.old 0 }
     requires fresh { taken_in task.old ≡ 0 }
     requires holds { held_in task.old ≡ 0 }
     requires whole { IsWhole kept.now }
@@ -75,7 +75,7 @@ pub fn group_rows(
     ensures fits { OnOk result (takes (told_seen told.now) (map (λ row. row.0) (kept_entries kept.now)) ≤ (setup_in task.old).maximum) }
     ensures no_room { IfErr result (Passes (setup_in task.old).maximum (takes (told_seen told.now) (map (λ row. row.0) (kept_entries kept.now)))) }
     ensures told { IfErr result (IsTold (setup_in task.new) (history_in task.new)) }
-    ensures ready { IsReady task.new 1 }
+    ensures ready { IsReady task.new 0 }
     ensures setup { setup_in task.new ≡ setup_in task.old }
 {
     task.take_least()?;

@@ -3,11 +3,9 @@ ghost use Rattle.pool_ledger.specs.Journal.{history_of};
 ghost use Rattle.csv_program.specs.OneTask.{HasRun, TasksGoOn, ask_entry, granted_for, newest_attempt, newest_end};
 ghost use Rattle.csv_program.specs.Tasks.{IsReady, IsTold, Passes, held_in, history_in, setup_in, taken_in};
 
-use pool_laws::{
-    legal_histories_grow, lone_tasks_are_granted, permitted_histories_keep_laws,
-    uncached_histories_store_nothing,
-};
-use pool_ledger::{Entry, Event, Journal, Ledger, Setup};
+use memory_core::{Attempted, MemoryState};
+use pool_laws::{legal_histories_grow, lone_tasks_are_granted, uncached_histories_store_nothing};
+use pool_ledger::{Journal, Setup};
 use std::alloc::{AllocError, Global};
 
 // What the consumer of a grouping query holds before its first row, in bytes.
@@ -27,7 +25,8 @@ pub enum TaskFault {
 #[derive(Drop)]
 pub struct LoneTask {
     setup: Setup,
-    ledger: Ledger,
+    state: MemoryState,
+    held: u64,
     room: u64,
 }
 
@@ -37,7 +36,6 @@ fn tasks_go_on()
 {
     legal_histories_grow();
     lone_tasks_are_granted();
-    permitted_histories_keep_laws();
     uncached_histories_store_nothing();
 }
 
@@ -45,34 +43,31 @@ impl LoneTask {
     /// Begins the task. An `Err` began none.
     pub fn begin(alloc: Global, pool: &Setup) -> Result<LoneTask, AllocError>
         ensures setup { IfOk result (λ task. setup_in task ≡ pool.now) }
-        ensures ready { IfOk result (λ task. IsReady task 1) }
+        ensures ready { IfOk result (λ task. IsReady task 0) }
         ensures nothing { IfOk result (λ task. taken_in task ≡ 0) }
         ensures holds { IfOk result (λ task. held_in task ≡ 0) }
     {
         let setup = *pool;
-        let mut ledger = Ledger::new(alloc, setup);
-        ledger.reserve(2)?;
         let _range = setup.max();
+        let mut state = MemoryState::new(alloc, setup);
         tasks_go_on();
-        ledger.push(Entry {
-            worker: 0,
-            event: Event::Begin { task: 0 },
-        });
+        state.begin(0, 0)?;
         Ok(LoneTask {
             setup,
-            ledger,
+            state,
+            held: 0,
             room: 0,
         })
     }
 
     /// Takes the least of the task's one consumer.
     pub fn take_least(&mut self) -> Result<(), TaskFault>
-        requires ready { IsReady self.old 1 }
+        requires ready { IsReady self.old 0 }
         requires fresh { taken_in self.old ≡ held_in self.old }
         ensures taken { OnOk result (taken_in self.new ≡ taken_in self.old + 1024) }
         ensures short { IfErr result (Passes (setup_in self.old).maximum (taken_in self.old + 1024)) }
         ensures told { IfErr result (IsTold (setup_in self.new) (history_in self.new)) }
-        ensures ready { IsReady self.new 1 }
+        ensures ready { IsReady self.new 0 }
         ensures setup { setup_in self.new ≡ setup_in self.old }
     {
         let _got = self.acquire(LEAST, LEAST)?;
@@ -82,12 +77,12 @@ impl LoneTask {
     /// Takes the bytes of a new group: out of what is at hand, else by an ask for what is missing, or for
     /// 16,384 bytes where that is more.
     pub fn charge(&mut self, cost: u64) -> Result<(), TaskFault>
-        requires ready { IsReady self.old 1 }
+        requires ready { IsReady self.old 0 }
         requires small { cost ≤ 2 ^ 40 }
         ensures taken { OnOk result (taken_in self.new ≡ taken_in self.old + cost) }
         ensures short { IfErr result (Passes (setup_in self.old).maximum (taken_in self.old + cost)) }
         ensures told { IfErr result (IsTold (setup_in self.new) (history_in self.new)) }
-        ensures ready { IsReady self.new 1 }
+        ensures ready { IsReady self.new 0 }
         ensures setup { setup_in self.new ≡ setup_in self.old }
     {
         if cost > self.room {
@@ -101,28 +96,25 @@ impl LoneTask {
 
     /// Ends the task, which frees all that it holds.
     pub fn end(self) -> Journal
-        requires { IsReady self 1 }
+        requires { IsReady self 0 }
         ensures run { HasRun (setup_in self) (history_of result) }
         ensures freed { newest_end (history_of result) ≡ Some (held_in self) }
         ensures attempt { newest_attempt (history_of result) ≡ newest_attempt (history_in self) }
     {
         let LoneTask {
             setup: _,
-            mut ledger,
+            mut state,
+            held: _,
             room: _,
         } = self;
-        let freed = ledger.held(0);
         tasks_go_on();
-        ledger.push(Entry {
-            worker: 0,
-            event: Event::End { task: 0, freed },
-        });
-        ledger.close()
+        let _freed = state.end(0, 0);
+        state.close()
     }
 
     // Asks for `wish` bytes, and takes what is granted where that is at least `must`. Else all of it goes back.
     fn acquire(&mut self, must: u64, wish: u64) -> Result<u64, TaskFault>
-        requires ready { IsReady self.old 1 }
+        requires ready { IsReady self.old 0 }
         requires some { 1 ≤ must }
         requires wish { must ≤ wish }
         requires small { wish ≤ 2 ^ 50 }
@@ -133,7 +125,7 @@ impl LoneTask {
         ensures short { IfErr result (Passes (setup_in self.old).maximum (held_in self.old + must)) }
         ensures told { IfErr result (IsTold (setup_in self.new) (history_in self.new)) }
         ensures kept { OnErr result (held_in self.new ≡ held_in self.old) }
-        ensures ready { IsReady self.new 1 }
+        ensures ready { IsReady self.new 0 }
         ensures setup { setup_in self.new ≡ setup_in self.old }
         ensures room { self.new.room ≡ self.old.room }
     {
@@ -144,7 +136,7 @@ impl LoneTask {
             self.release(got);
             return Err(TaskFault::NoRoom {
                 asked: must,
-                held: self.ledger.held(0),
+                held: self.held,
                 floor: self.setup.floor(),
             });
         }
@@ -153,60 +145,41 @@ impl LoneTask {
 
     // One ask, and what it is granted.
     fn ask(&mut self, bytes: u64) -> Result<u64, AllocError>
-        requires ready { IsReady self.old 1 }
+        requires ready { IsReady self.old 0 }
         requires some { 1 ≤ bytes }
         requires small { bytes ≤ 2 ^ 50 }
         ensures granted { IfOk result (λ got. got ≡ granted_for (setup_in self.old) (history_in self.old) bytes) }
         ensures held { IfOk result (λ got. held_in self.new ≡ held_in self.old + got) }
         ensures history { OnOk result (history_in self.new ≡ ask_entry (setup_in self.old) (history_in self.old) bytes ∷ history_in self.old) }
-        ensures ready { OnOk result (IsReady self.new 2) }
+        ensures ready { OnOk result (IsReady self.new 1) }
         ensures err { OnErr result (self.new ≡ self.old) }
         ensures setup { setup_in self.new ≡ setup_in self.old }
         ensures room { self.new.room ≡ self.old.room }
     {
-        // One for this ask, one for a release, and one for the end.
-        self.ledger.reserve(3)?;
+        // One for this ask, and one for a release.
+        self.state.reserve(2)?;
         tasks_go_on();
-        let free = self
-            .ledger
-            .execution_pool()
-            .saturating_sub(self.ledger.exec());
-        let unused = self
-            .ledger
-            .storage_pool()
-            .saturating_sub(self.ledger.stored());
-        let held = self.ledger.held(0);
-        let got = bytes.min(self.setup.max().saturating_sub(held));
-        self.ledger.push(Entry {
-            worker: 0,
-            event: Event::Attempt {
-                task: 0,
-                asked: bytes,
-                moved: bytes.saturating_sub(free).min(unused),
-                evictions: 0,
-                got: Some(got),
-            },
-        });
+        let Attempted::Granted(got) = self.state.attempt(0, 0, bytes)? else {
+            unreachable!()
+        };
+        self.held += got;
         Ok(got)
     }
 
     // Gives bytes back.
     fn release(&mut self, bytes: u64)
-        requires ready { IsReady self.old 2 }
+        requires ready { IsReady self.old 1 }
         requires holds { bytes + self.old.room ≤ held_in self.old }
         ensures held { held_in self.new + bytes ≡ held_in self.old }
         ensures attempt { newest_attempt (history_in self.new) ≡ newest_attempt (history_in self.old) }
-        ensures ready { IsReady self.new 1 }
+        ensures ready { IsReady self.new 0 }
         ensures setup { setup_in self.new ≡ setup_in self.old }
         ensures room { self.new.room ≡ self.old.room }
     {
         tasks_go_on();
-        self.ledger.push(Entry {
-            worker: 0,
-            event: Event::Release {
-                task: 0,
-                freed: bytes,
-            },
-        });
+        let Ok(freed) = self.state.release(0, 0, bytes) else {
+            unreachable!()
+        };
+        self.held -= freed;
     }
 }

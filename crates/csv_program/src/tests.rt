@@ -291,6 +291,7 @@ fn a_fault_of_the_output_is_told_after_a_part_of_the_table(rt: HostRuntime) -> R
 #[test]
 fn the_journal_of_a_run_is_that_of_its_one_task(rt: HostRuntime) -> Result<(), Fail> {
     let (outcome, _) = run_on(&rt, rt.alloc(), &["run", BOTH], CITIES, &[], &[])?;
+    assert_eq!(rt; outcome.status, Status::Done);
     let setup = outcome.setup.ok_or("no pool")?;
     assert_eq!(rt; setup.max(), 455_501_414);
     assert_eq!(rt; setup.region(), 227_750_707);

@@ -9,7 +9,7 @@ use Rattle.csv_program.proofs.grouping.group_rows.Given as goal
 
 abbrev pub invariant-loop-i : goal.invariant-loop-i
 invariant-loop-i l =
-    IsReady l.task 1
+    IsReady l.task 0
     × (setup_in l.task ≡ setup_in l.fn.task)
     × (taken_in l.task ≡ takes (told_seen l.told) (keys_in (take l.i (kept_entries l.kept))))
     × ((key : List ℕ) → totals_at l.groups key ≡ total_at key (take l.i (kept_entries l.kept)))
