@@ -9,6 +9,7 @@ pub mod Sound
 pub mod Region
 pub mod Prefixes
 pub mod Once
+pub mod Owning
 pub mod Safe
 pub mod NextEntries
 pub mod NoBlocks

@@ -3,3 +3,4 @@ pub mod Laws
 pub mod Growing
 pub mod Uncached
 pub mod SafeJournal
+pub mod Owners
