@@ -12,6 +12,7 @@ pub mod Once
 pub mod Owning
 pub mod Safe
 pub mod NextEntries
+pub mod Evictions
 pub mod NoBlocks
 pub mod Lone
 pub mod Uses

@@ -4,3 +4,4 @@ pub mod Growing
 pub mod Uncached
 pub mod SafeJournal
 pub mod Owners
+pub mod Evicting

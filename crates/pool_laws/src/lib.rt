@@ -1,12 +1,14 @@
 //! The laws that every legal journal of the memory pool keeps, for readers of journals and for the crates above.
 #![tactic(auto)]
 
+mod evicting;
 mod growing;
 mod journals;
 mod owners;
 mod permitted;
 mod uncached;
 
+pub use evicting::victims_go_one_by_one;
 pub use growing::legal_histories_grow;
 pub use journals::legal_journals_are_safe;
 pub use owners::own_entries_tell;
