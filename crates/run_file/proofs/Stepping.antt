@@ -10,7 +10,7 @@ use Rattle.run_file.specs.declared.run_reader.RunReader.{RunReader}
 use Rattle.run_file.specs.declared.run.Run.{Run}
 use Rattle.run_file.specs.Causes.{HasCauseOn, NoDiskFault}
 use Rattle.run_file.specs.Forms.{IsWellFormed}
-use Rattle.run_file.specs.Reading.{rest_of, IsAtRow, HasRead, GoesOn, GivesFirst, TellsDamage, Moves}
+use Rattle.run_file.specs.Reading.{rest_of, IsAtRow, HasRead, GoesOn, GivesFirst, GivesFormed, TellsDamage, TakesRow, Moves}
 
 -- bytes are what stands before a piece's end, and what stands behind it
 parts : (bytes piece behind : List ℕ) → IsPieceThen bytes piece behind → (front : List ℕ) × (bytes ≡ front ++ behind)
@@ -75,3 +75,7 @@ goes_on files before middle after (row ∷ rows) (Err (Damaged disk file kept_co
 pub first_given : (files : Option Files) (after : RunReader) (rows : List (List (List ℕ))) (given : List (List ℕ)) → ((row : List (List ℕ)) → IsAtRow after row → given ≡ row) → GoesOn files after rows (Ok true) → GivesFirst rows (Ok (Some given))
 first_given files after [] given at went = absurd went
 first_given files after (row ∷ rows) given at went = at row went.0
+
+-- and it is well formed
+pub formed_given : (before after : RunReader) (given : List (List ℕ)) → ((row : List (List ℕ)) → IsAtRow after row → given ≡ row) → after.run ≡ before.run → after.form ≡ before.form → TakesRow after (Ok true) → GivesFormed before (Ok (Some given))
+formed_given before after given at run form (row, here, formed) = rw (at row here, ← run, ← form) formed

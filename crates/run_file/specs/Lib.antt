@@ -3,4 +3,5 @@ pub mod Runs
 pub mod Causes
 pub mod Forms
 pub mod Reading
+pub mod Damage
 pub mod Shelved

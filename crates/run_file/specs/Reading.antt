@@ -59,11 +59,15 @@ GoesOn files after (row ∷ rows) (Ok true) = IsAtRow after row × IsAhead files
 GoesOn files after (row ∷ rows) (Ok false) = ⊥
 GoesOn files after (row ∷ rows) (Err fault) = NotDamaged {T = Bool} (Err fault)
 
+-- these bytes don't begin with a row that is well formed for the form, its cost at most the greatest
+abbrev pub BeginsDamaged : Form → ℕ → List ℕ → Type 0
+BeginsDamaged form greatest bytes =
+    (row : List (List ℕ)) (piece behind : List ℕ) → IsPieceThen bytes piece behind → IsRow piece row
+    → IsWellFormed form greatest row → ⊥
+
 -- the row that is next isn't well formed
 abbrev pub IsDamagedAhead : RunReader → Type 0
-IsDamagedAhead reader =
-    (row : List (List ℕ)) (piece behind : List ℕ) → IsPieceThen (rest_of reader) piece behind → IsRow piece row
-    → IsWellFormed reader.form reader.run.greatest row → ⊥
+IsDamagedAhead reader = BeginsDamaged reader.form reader.run.greatest (rest_of reader)
 
 -- damage is told with the run's place, its count and what was found, where the next row isn't well formed
 abbrev pub TellsDamage : RunReader → RunReader → Result Bool RunFault → Type 0
@@ -109,3 +113,9 @@ GivesFirst [] (Err fault) = ⊥
 GivesFirst (row ∷ rows) (Ok None) = ⊥
 GivesFirst (row ∷ rows) (Ok (Some given)) = given ≡ row
 GivesFirst (row ∷ rows) (Err fault) = NotDamaged {T = Bool} (Err fault)
+
+-- the row that it lends is well formed
+abbrev pub GivesFormed : RunReader → Result (Option (List (List ℕ))) RunFault → Type 0
+GivesFormed before (Ok None) = ⊤
+GivesFormed before (Ok (Some given)) = IsWellFormed before.form before.run.greatest given
+GivesFormed before (Err fault) = ⊤

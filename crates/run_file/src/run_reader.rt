@@ -4,7 +4,8 @@ ghost use Rattle.std.specs.Prelude.{◌≡◌, ◌<◌, ◌≤◌, ◌+◌, ◌�
 ghost use Rattle.row_page.specs.Grammar.{IsPage};
 ghost use Rattle.run_file.specs.Shelved.{files_on, faults_on, LeavesFiles};
 ghost use Rattle.run_file.specs.Causes.{HasCauseOn, NotDamaged, NoDiskFault};
-ghost use Rattle.run_file.specs.Reading.{run_of, form_of, found_of, IsAtRow, HasRead, IsAhead, GoesOn, GivesFirst, TellsDamage, TellsPlace, TakesRow, Moves, HasBytes, ReadsRun, rest_of};
+ghost use Rattle.run_file.specs.Reading.{run_of, form_of, found_of, IsAtRow, HasRead, IsAhead, GoesOn, GivesFirst, TellsDamage, TellsPlace, TakesRow, GivesFormed, Moves, HasBytes, ReadsRun, rest_of};
+ghost use Rattle.run_file.specs.Damage.{ExplainsDamage, ReadsAhead};
 
 use crate::run::fault_of;
 use crate::{Form, Run, RunFault};
@@ -64,6 +65,8 @@ impl RunReader {
             GoesOn (files_on H.disk_of D.files shelf.new (run_of self.old).disk) self.new rows result }
         ensures end { (result ≡ Ok false) ↔ ((run_of self.old).count ≤ found_of self.old) }
         ensures damaged { TellsDamage self.old self.new result }
+        ensures why { ExplainsDamage
+            (files_on H.disk_of D.files shelf.old (run_of self.old).disk) self.old result }
         ensures taken { TakesRow self.new result }
         ensures run { run_of self.new ≡ run_of self.old }
         ensures form { form_of self.new ≡ form_of self.old }
@@ -92,6 +95,9 @@ impl RunReader {
             GivesFirst rows result }
         ensures end { (result ≡ Ok None) ↔ ((run_of self.old).count ≤ found_of self.old) }
         ensures damaged { TellsPlace self.old result }
+        ensures why { ExplainsDamage
+            (files_on H.disk_of D.files shelf.old (run_of self.old).disk) self.old result }
+        ensures taken { GivesFormed self.old result }
         ensures cause { HasCauseOn (run_of self.old).disk
             (faults_on H.disk_of D.faults shelf.old (run_of self.old).disk)
             (faults_on H.disk_of D.faults shelf.new (run_of self.old).disk) result }
@@ -110,6 +116,8 @@ impl RunReader {
         ensures bytes { OnOk result ((rows : List (List (List ℕ))) →
             HasBytes (files_on H.disk_of D.files shelf.old self.old.run.disk) self.old rows →
             IsPage (rest_of self.new) rows) }
+        ensures ahead { OnOk result (ReadsAhead
+            (files_on H.disk_of D.files shelf.old self.old.run.disk) self.old self.new) }
         ensures run { self.new.run ≡ self.old.run }
         ensures form { self.new.form ≡ self.old.form }
         ensures found { self.new.found ≡ self.old.found }

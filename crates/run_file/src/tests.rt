@@ -110,6 +110,55 @@ fn a_run_is_read_as_it_was_written(rt: HostRuntime) -> Result<(), Fail> {
 }
 
 #[test]
+fn next_lends_the_row_behind_those_that_were_passed(rt: HostRuntime) -> Result<(), Fail> {
+    let alloc = rt.alloc();
+    let page = three_entries(alloc)?;
+    let mut disk = MemoryDisk::new(Vec::new(alloc));
+    let mut writer = RunWriter::start(&mut disk, 0)?;
+    writer.write(&mut disk, &page)?;
+    let run = writer.finish();
+    let mut one = One { disk: &mut disk };
+    let mut second = RunReader::new(alloc, &run, Form::Entries(Kind::Order));
+    assert_eq!(rt; second.advance(&mut one), Ok(true));
+    let row = second.next(&mut one)?.ok_or("no second row")?;
+    assert_eq!(rt; row.bytes(), [0, 0, 0, 1, b'b', 0, 0, 0, 0].as_slice());
+    let mut third = RunReader::new(alloc, &run, Form::Entries(Kind::Order));
+    assert_eq!(rt; third.advance(&mut one), Ok(true));
+    assert_eq!(rt; third.advance(&mut one), Ok(true));
+    let row = third.next(&mut one)?.ok_or("no third row")?;
+    assert_eq!(rt;
+        row.bytes(),
+        [0, 0, 0, 2, b'c', b'c', 0, 0, 0, 2, b'2', b'2'].as_slice()
+    );
+    Ok(())
+}
+
+#[test]
+fn a_row_of_another_form_is_damage(rt: HostRuntime) -> Result<(), Fail> {
+    let alloc = rt.alloc();
+    let page = three_entries(alloc)?;
+    let mut disk = MemoryDisk::new(Vec::new(alloc));
+    let mut writer = RunWriter::start(&mut disk, 0)?;
+    writer.write(&mut disk, &page)?;
+    let run = writer.finish();
+    let counts = Form::Entries(Kind::Group(AggList::of(alloc, &[Agg::Count])?));
+    let mut reader = RunReader::new(alloc, &run, counts);
+    let mut one = One { disk: &mut disk };
+    let damage = RunFault::Damaged {
+        disk: 0,
+        file: 0,
+        kept: 3,
+        found: 0,
+    };
+    assert_eq!(rt;
+        reader.next(&mut one).err(),
+        Some(damage),
+        "a value of 1 byte"
+    );
+    Ok(())
+}
+
+#[test]
 fn a_short_file_is_damaged_and_not_ended(rt: HostRuntime) -> Result<(), Fail> {
     let alloc = rt.alloc();
     let page = three_entries(alloc)?;
@@ -132,6 +181,7 @@ fn a_short_file_is_damaged_and_not_ended(rt: HostRuntime) -> Result<(), Fail> {
         found: 2,
     };
     assert_eq!(rt; reader.advance(&mut one), Err(damage));
+    assert_eq!(rt; reader.next(&mut one).err(), Some(damage), "and once more");
     Ok(())
 }
 
