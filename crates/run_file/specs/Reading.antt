@@ -50,6 +50,12 @@ pub record IsAhead (files : Option Files) (reader : RunReader) (rows : List (Lis
   pub formed : AllByRecursion (IsWellFormed reader.form reader.run.greatest) rows
   pub bytes : HasBytes files reader rows
 
+-- it begins at its run's first row: the rows of a run that stands are ahead, where they are well formed
+abbrev pub Begins : RunReader → Type 0
+Begins reader =
+    (files : Option Files) (rows : List (List (List ℕ))) → Stands files reader.run rows
+    → AllByRecursion (IsWellFormed reader.form reader.run.greatest) rows → IsAhead files reader rows
+
 -- it goes on to the first of these rows, or says that there is none; and it finds no damage
 abbrev pub GoesOn : Option Files → RunReader → List (List (List ℕ)) → Result Bool RunFault → Type 0
 GoesOn files after [] (Ok true) = ⊥
@@ -91,6 +97,12 @@ abbrev pub TakesRow : RunReader → Result Bool RunFault → Type 0
 TakesRow after (Ok true) = (row : List (List ℕ)) × IsAtRow after row × IsWellFormed after.form after.run.greatest row
 TakesRow after (Ok false) = ⊤
 TakesRow after (Err fault) = ⊤
+
+-- a row that it took is one more that it gave, and nothing else is
+abbrev pub CountsRow : RunReader → RunReader → Result Bool RunFault → Type 0
+CountsRow before after (Ok true) = after.found ≡ before.found + 1
+CountsRow before after (Ok false) = after.found ≡ before.found
+CountsRow before after (Err fault) = after.found ≡ before.found
 
 -- how far it went: past the row that it stands at then, or not at all
 abbrev pub Moves : RunReader → RunReader → Result Bool RunFault → Type 0

@@ -2,10 +2,11 @@
 
 ghost use Rattle.std.specs.Prelude.{◌≡◌, ◌<◌, ◌≤◌, ◌+◌, ◌↔◌, List, ℕ, true, false, take, drop, Option, None, Ok, OnOk, OnErr, is_some};
 ghost use Rattle.row_page.specs.Grammar.{IsPage};
+ghost use Rattle.spill_disk.specs.Files.{Files};
 ghost use Rattle.run_file.specs.Shelved.{files_on, faults_on, LeavesFiles};
 ghost use Rattle.run_file.specs.Causes.{HasCauseOn, NotDamaged, NoDiskFault};
-ghost use Rattle.run_file.specs.Reading.{run_of, form_of, found_of, IsAtRow, HasRead, IsAhead, GoesOn, GivesFirst, TellsDamage, TellsPlace, TakesRow, GivesFormed, Moves, HasBytes, ReadsRun, rest_of};
-ghost use Rattle.run_file.specs.Damage.{ExplainsDamage, ReadsAhead};
+ghost use Rattle.run_file.specs.Reading.{run_of, form_of, found_of, IsAtRow, HasRead, IsAhead, Begins, GoesOn, GivesFirst, TellsDamage, TellsPlace, TakesRow, CountsRow, GivesFormed, Moves, HasBytes, ReadsRun, rest_of};
+ghost use Rattle.run_file.specs.Damage.{known_bytes, known_ahead, ExplainsDamage, ReadsAhead};
 
 use crate::run::fault_of;
 use crate::{Form, Run, RunFault};
@@ -32,6 +33,9 @@ impl RunReader {
         ensures form { form_of result ≡ form }
         ensures found { found_of result ≡ 0 }
         ensures unread { HasRead result → ⊥ }
+        ensures begins { Begins result }
+        ensures bytes { (files : Option Files) →
+            known_ahead files result ≡ known_bytes files run.now }
     {
         RunReader {
             run: *run,
@@ -68,6 +72,7 @@ impl RunReader {
         ensures why { ExplainsDamage
             (files_on H.disk_of D.files shelf.old (run_of self.old).disk) self.old result }
         ensures taken { TakesRow self.new result }
+        ensures found { CountsRow self.old self.new result }
         ensures run { run_of self.new ≡ run_of self.old }
         ensures form { form_of self.new ≡ form_of self.old }
         ensures cause { HasCauseOn (run_of self.old).disk
