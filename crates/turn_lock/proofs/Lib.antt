@@ -1,0 +1,16 @@
+pub mod Prefixes
+pub mod Entries
+pub mod Parts
+pub mod Views
+pub mod Slots
+pub mod Reviews
+pub mod Taking
+pub mod Moving
+pub mod Giving
+pub mod Settling
+pub mod Splitting
+pub mod Joining
+pub mod Ends
+pub mod AtSeat
+pub mod AtRest
+pub mod Covering
