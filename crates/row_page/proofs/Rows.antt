@@ -2,6 +2,8 @@
 use Rattle.std.proofs.Common.{◌≡◌, ℕ, ◌+◌, ◌^◌, ◌<◌, List, [], ◌∷◌, ◌++◌, length, Result, Ok, Err, refl, sym, ap, subst, ◌∙◌, arith, lit<}
 use Rattle.std.specs.Prelude.{OnOk, OnErr}
 use Rattle.std.specs.List.{AllByRecursion}
+use Rattle.std.proofs.Math.Logic.{∥∥₁_elim}
+use Rattle.std.specs.Coded.{Coded-set, coded_list, coded_ℕ, le_prop}
 use Rattle.std.proofs.lemmas.List.{length-append}
 use Rattle.std.proofs.lemmas.List.Sums.{sum_by-cons}
 use Rattle.row_page.specs.Grammar.{IsPieceThen, IsRow}
@@ -39,6 +41,13 @@ pub row_shown : (bytes : List ℕ) (fields : List (List ℕ)) → IsRow bytes fi
 row_shown bytes fields h =
     let e = fields_shown bytes fields h.pieces in
     (subst (IsRow bytes) (sym e) h, e)
+
+-- the bytes that a view lends are a row's
+pub row_had : (bytes : List ℕ) → ∥ IsRow bytes (fields_of bytes) ∥₁ → IsRow bytes (fields_of bytes)
+row_had bytes had =
+    let spelled : bytes ≡ row_bytes (fields_of bytes) = ∥∥₁_elim had (Coded-set (coded_list coded_ℕ) _ _) (λ h. pieces_spell bytes (fields_of bytes) h.pieces) in
+    let short : length bytes < 2 ^ 32 = ∥∥₁_elim had le_prop (λ h. h.short) in
+    subst (λ (t : List ℕ). IsRow t (fields_of bytes)) (sym spelled) (row_of_fields (fields_of bytes) (omega (arith, short, ap length spelled, length-row_bytes (fields_of bytes))))
 
 -- one more field at the end of a row, as long as the row stays short
 pub row_push : (bytes : List ℕ) (fields : List (List ℕ)) (field new : List ℕ) → IsRow bytes fields → row_length fields + (4 + length field) < 2 ^ 32 → new ≡ bytes ++ with_length field → IsRow new (fields_of new) × (fields_of new ≡ fields ++ field ∷ [])

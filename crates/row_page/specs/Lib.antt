@@ -1,4 +1,5 @@
 pub mod Grammar
 pub mod Spelling
 pub mod Reading
+pub mod Views
 pub mod Pages

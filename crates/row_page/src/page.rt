@@ -6,6 +6,7 @@ ghost use Rattle.row_page.specs.Grammar.{IsPage, HasRows};
 ghost use Rattle.row_page.specs.Pages.{HasPlaces};
 ghost use Rattle.row_page.specs.Reading.{rows_of};
 ghost use Rattle.row_page.specs.Spelling.{with_length, page_bytes, page_length, page_cost, row_length};
+ghost use Rattle.row_page.specs.Views.{fields_in};
 
 use crate::RowView;
 use crate::piece::{LENGTH_BYTES, append_piece, are_pieces, first_piece, split_piece};
@@ -110,7 +111,7 @@ impl Page {
     /// The row at this place, from 0, as a slice of the page's bytes.
     pub fn row(&self, i: usize) -> RowView<'_>
         requires { i < length self.now.rows }
-        ensures { result ≡ slice_index_or self.now.rows i [] }
+        ensures { fields_in result ≡ slice_index_or self.now.rows i [] }
     {
         let start = self.starts[i];
         RowView::of_known(first_piece(&self.bytes[start..]).0)
@@ -120,10 +121,10 @@ impl Page {
     /// room. After an `Err` nothing changed.
     pub fn push(&mut self, row: RowView<'_>) -> Result<(), PageFault>
         ensures ok { OnOk result
-            (self.new ≡ record self.old { rows = self.old.rows ++ row.entry ∷ [] }) }
+            (self.new ≡ record self.old { rows = self.old.rows ++ fields_in row.entry ∷ [] }) }
         ensures err { OnErr result (self.new ≡ self.old) }
         ensures full { (result ≡ Err PageFault.Full)
-            ↔ (self.old.room < page_length self.old.rows + (4 + row_length row.entry)) }
+            ↔ (self.old.room < page_length self.old.rows + (4 + row_length (fields_in row.entry))) }
     {
         let piece = row.bytes();
         if self.room < (self.bytes.len() + LENGTH_BYTES + piece.len()) as u64 {

@@ -2,6 +2,7 @@
 
 ghost use Rattle.std.specs.Prelude.{◌≡◌, ◌+◌, ◌<◌, ◌^◌, ◌++◌, ◌∷◌, [], length, OnOk, OnErr};
 ghost use Rattle.row_page.specs.Spelling.{row_length};
+ghost use Rattle.row_page.specs.Views.{fields_in};
 
 use crate::RowView;
 use crate::piece::append_piece;
@@ -55,7 +56,7 @@ impl RowBuf {
 
     /// The row.
     pub fn view(&self) -> RowView<'_>
-        ensures { result ≡ self.now }
+        ensures { fields_in result ≡ self.now }
     {
         RowView::of_known(&self.bytes)
     }

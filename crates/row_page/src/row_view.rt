@@ -2,34 +2,25 @@
 
 ghost use Rattle.std.specs.Prelude.{◌≡◌, ◌<◌, [], List, ℕ, length, slice_index_or, IfSome, IfNone};
 ghost use Rattle.row_page.specs.Grammar.{IsRow};
+ghost use Rattle.row_page.specs.Reading.{fields_of};
 ghost use Rattle.row_page.specs.Spelling.{row_bytes, row_length};
 
 use crate::piece::{are_pieces, first_piece};
-use std::marker::Model;
 
-/// A row as a slice of somebody's bytes. Contracts see the list of its fields. No field is copied: each
-/// that it lends is a part of that slice. A view that is needed twice is lent again by `again`.
-#[derive(Debug, Drop)]
+/// A row as a slice of somebody's bytes, which are a row's. Contracts see the list of its fields. No
+/// field is copied: each that it lends is a part of that slice.
+#[derive(Clone, Copy, Debug, Drop)]
 pub struct RowView<'a> {
     bytes: &'a [u8],
-}
-
-impl<'a> Model for RowView<'a> {
-    ghost use Rattle.std.specs.Prelude.{List, ℕ};
-    ghost use Rattle.row_page.specs.Grammar.{IsRow};
-    ghost use Rattle.row_page.specs.Reading.{fields_of};
-
-    ghost Value = { List (List ℕ) };
-
-    ghost view = { λ row. fields_of row.bytes.now };
-
-    ghost invariant = { λ row. IsRow row.bytes.now (fields_of row.bytes.now) };
+    ghost formed: { ∥ IsRow bytes.now (fields_of bytes.now) ∥₁ },
 }
 
 impl<'a> RowView<'a> {
+    ghost use Rattle.row_page.specs.Views.{fields_in};
+
     /// The row whose encoding these bytes are, all of them.
     pub fn of(bytes: &'a [u8]) -> Option<RowView<'a>>
-        ensures found { IfSome result (IsRow bytes.now) }
+        ensures found { IfSome result (λ row. IsRow bytes.now (fields_in row)) }
         ensures none { IfNone result ((fields : List (List ℕ)) → IsRow bytes.now fields → ⊥) }
     {
         if bytes.len() > u32::MAX as usize || !are_pieces(bytes) {
@@ -42,15 +33,16 @@ impl<'a> RowView<'a> {
     /// keeps the bytes of a row that was checked lends it by this call.
     pub fn of_known(bytes: &'a [u8]) -> RowView<'a>
         requires { (fields : List (List ℕ)) × IsRow bytes.now fields }
-        ensures row { IsRow bytes.now result }
-        ensures only { (fields : List (List ℕ)) → IsRow bytes.now fields → result ≡ fields }
+        ensures row { IsRow bytes.now (fields_in result) }
+        ensures only { (fields : List (List ℕ)) → IsRow bytes.now fields →
+            fields_in result ≡ fields }
     {
         RowView { bytes }
     }
 
     /// How many fields the row has. It goes over all of them.
     pub fn count(&self) -> usize
-        ensures { result ≡ length self.now }
+        ensures { result ≡ length (fields_in self.now) }
     {
         let mut rest = self.bytes;
         let mut count = 0;
@@ -63,8 +55,8 @@ impl<'a> RowView<'a> {
 
     /// The field at this place, from 0. It goes over the fields before it.
     pub fn field(&self, j: usize) -> &'a [u8]
-        requires { j < length self.now }
-        ensures { result.now ≡ slice_index_or self.now j [] }
+        requires { j < length (fields_in self.now) }
+        ensures { result.now ≡ slice_index_or (fields_in self.now) j [] }
     {
         let mut rest = self.bytes;
         for _ in 0..j {
@@ -75,9 +67,9 @@ impl<'a> RowView<'a> {
 
     /// The row's encoding.
     pub fn bytes(&self) -> &'a [u8]
-        ensures grammar { IsRow result.now self.now }
-        ensures spelling { result.now ≡ row_bytes self.now }
-        ensures length { length result.now ≡ row_length self.now }
+        ensures grammar { IsRow result.now (fields_in self.now) }
+        ensures spelling { result.now ≡ row_bytes (fields_in self.now) }
+        ensures length { length result.now ≡ row_length (fields_in self.now) }
     {
         self.bytes
     }
@@ -86,6 +78,6 @@ impl<'a> RowView<'a> {
     pub fn again(&self) -> RowView<'a>
         ensures { result ≡ self.now }
     {
-        RowView { bytes: self.bytes }
+        *self
     }
 }

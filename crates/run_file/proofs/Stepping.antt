@@ -3,6 +3,8 @@ use Rattle.std.proofs.Common.{◌≡◌, ℕ, ◌+◌, ◌-◌, ◌<◌, Bool, t
 use Rattle.std.proofs.lemmas.List.{take-append-drop, drop_at, length-append}
 use Rattle.std.specs.List.{AllByRecursion}
 use Rattle.row_page.specs.Grammar.{IsPieceThen, IsPage}
+use Rattle.row_page.specs.Views.{fields_in}
+use Rattle.row_page.specs.declared.row_view.RowView.{RowView}
 use Rattle.spill_disk.specs.Files.{Files}
 use Rattle.run_file.specs.declared.run.RunFault.{RunFault}
 use Rattle.run_file.specs.declared.run.RunFault.TheVariants.{DiskFault, Damaged, NoMemory}
@@ -72,10 +74,10 @@ goes_on files before middle after (row ∷ rows) (Err (Damaged disk file kept_co
     told.6 row page.0 page.1 (subst (λ (t : List ℕ). IsPieceThen t page.0 page.1) (sym here) page.2) page.3 (rw (kept.form, kept.run) formed.0)
 
 -- the row that a reader went on to is the first of those that were ahead
-pub first_given : (files : Option Files) (after : RunReader) (rows : List (List (List ℕ))) (given : List (List ℕ)) → ((row : List (List ℕ)) → IsAtRow after row → given ≡ row) → GoesOn files after rows (Ok true) → GivesFirst rows (Ok (Some given))
+pub first_given : (files : Option Files) (after : RunReader) (rows : List (List (List ℕ))) (given : RowView) → ((row : List (List ℕ)) → IsAtRow after row → fields_in given ≡ row) → GoesOn files after rows (Ok true) → GivesFirst rows (Ok (Some given))
 first_given files after [] given at went = absurd went
 first_given files after (row ∷ rows) given at went = at row went.0
 
--- and it is well formed
-pub formed_given : (before after : RunReader) (given : List (List ℕ)) → ((row : List (List ℕ)) → IsAtRow after row → given ≡ row) → after.run ≡ before.run → after.form ≡ before.form → TakesRow after (Ok true) → GivesFormed before (Ok (Some given))
+-- the row that it lends is well formed
+pub formed_given : (before after : RunReader) (given : RowView) → ((row : List (List ℕ)) → IsAtRow after row → fields_in given ≡ row) → after.run ≡ before.run → after.form ≡ before.form → TakesRow after (Ok true) → GivesFormed before (Ok (Some given))
 formed_given before after given at run form (row, here, formed) = rw (at row here, ← run, ← form) formed

@@ -4,6 +4,8 @@ use Rattle.std.specs.Prelude.{◌≡◌, ◌<◌, ℕ, ◌+◌, List, [], ◌∷
 use Rattle.std.specs.Prelude.{Bool}
 use Rattle.std.specs.List.{AllByRecursion}
 use Rattle.row_page.specs.Grammar.{IsPieceThen, IsRow, IsPage}
+use Rattle.row_page.specs.Views.{fields_in}
+use Rattle.row_page.specs.declared.row_view.RowView.{RowView}
 use Rattle.spill_disk.specs.Files.{Files, bytes_of}
 use Rattle.run_file.specs.declared.run.Run.{Run}
 use Rattle.run_file.specs.declared.form.Form.{Form}
@@ -118,16 +120,16 @@ ReadsRun None run bytes = ⊤
 ReadsRun (Some files) run bytes = bytes ≡ take run.bytes (bytes_of files run.file)
 
 -- it lends the first of these rows, or says that there is none; and it finds no damage
-abbrev pub GivesFirst : List (List (List ℕ)) → Result (Option (List (List ℕ))) RunFault → Type 0
+abbrev pub GivesFirst : List (List (List ℕ)) → Result (Option RowView) RunFault → Type 0
 GivesFirst [] (Ok None) = ⊤
 GivesFirst [] (Ok (Some given)) = ⊥
 GivesFirst [] (Err fault) = ⊥
 GivesFirst (row ∷ rows) (Ok None) = ⊥
-GivesFirst (row ∷ rows) (Ok (Some given)) = given ≡ row
+GivesFirst (row ∷ rows) (Ok (Some given)) = fields_in given ≡ row
 GivesFirst (row ∷ rows) (Err fault) = NotDamaged {T = Bool} (Err fault)
 
 -- the row that it lends is well formed
-abbrev pub GivesFormed : RunReader → Result (Option (List (List ℕ))) RunFault → Type 0
+abbrev pub GivesFormed : RunReader → Result (Option RowView) RunFault → Type 0
 GivesFormed before (Ok None) = ⊤
-GivesFormed before (Ok (Some given)) = IsWellFormed before.form before.run.greatest given
+GivesFormed before (Ok (Some given)) = IsWellFormed before.form before.run.greatest (fields_in given)
 GivesFormed before (Err fault) = ⊤

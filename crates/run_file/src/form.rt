@@ -1,6 +1,7 @@
 //! Which rows a reader takes.
 
 ghost use Rattle.std.specs.Prelude.{◌≡◌, ◌+◌, ◌↔◌, [], length, slice_index, slice_index_or, EachIndex, IsTrue, IfOk};
+ghost use Rattle.row_page.specs.Views.{fields_in};
 ghost use Rattle.run_file.specs.Forms.{IsWellFormed, IsValueOf, IsNumberAt};
 
 use crate::NumberList;
@@ -34,7 +35,7 @@ impl Form {
 
     /// Whether the row is well formed for this form, and costs at most `greatest` bytes in a run file.
     pub fn accepts(&self, row: RowView<'_>, greatest: u64) -> bool
-        ensures { IsTrue result ↔ IsWellFormed self.now greatest row.entry }
+        ensures { IsTrue result ↔ IsWellFormed self.now greatest (fields_in row.entry) }
     {
         if row.bytes().len() as u64 + 24 > greatest {
             return false;
@@ -49,7 +50,8 @@ impl Form {
 /// Whether a row is a key and a value of this kind.
 fn is_entry(kind: &Kind, row: &RowView<'_>) -> bool
     ensures { IsTrue result
-        ↔ ((length row.now ≡ 2) × IsValueOf kind.now (slice_index_or row.now 1 [])) }
+        ↔ ((length (fields_in row.now) ≡ 2)
+        × IsValueOf kind.now (slice_index_or (fields_in row.now) 1 [])) }
 {
     if row.count() != 2 {
         return false;
@@ -63,8 +65,10 @@ fn is_entry(kind: &Kind, row: &RowView<'_>) -> bool
 /// Whether a row is a landed one.
 fn is_landed(columns: u32, numbers: &NumberList, row: &RowView<'_>) -> bool
     ensures { IsTrue result
-        ↔ ((length row.now ≡ columns + 1) × (length (slice_index_or row.now 0 []) ≡ 8)
-        × EachIndex numbers.now (λ k. IsNumberAt row.now (slice_index numbers.now k))) }
+        ↔ ((length (fields_in row.now) ≡ columns + 1)
+        × (length (slice_index_or (fields_in row.now) 0 []) ≡ 8)
+        × EachIndex numbers.now
+        (λ k. IsNumberAt (fields_in row.now) (slice_index numbers.now k))) }
 {
     if row.count() != columns as usize + 1 || row.field(0).len() != 8 {
         return false;

@@ -2,6 +2,7 @@
 
 ghost use Rattle.std.specs.Prelude.{◌≡◌, ◌<◌, ◌≤◌, ◌+◌, ◌↔◌, List, ℕ, true, false, take, drop, Option, None, Ok, OnOk, OnErr, is_some};
 ghost use Rattle.row_page.specs.Grammar.{IsPage};
+ghost use Rattle.row_page.specs.Views.{fields_in};
 ghost use Rattle.spill_disk.specs.Files.{Files};
 ghost use Rattle.run_file.specs.Shelved.{files_on, faults_on, LeavesFiles};
 ghost use Rattle.run_file.specs.Causes.{HasCauseOn, NotDamaged, NoDiskFault};
@@ -51,7 +52,7 @@ impl RunReader {
     /// The row that the reader stands at, lent from its buffer.
     pub fn row(&self) -> RowView<'_>
         requires { (row : List (List ℕ)) × IsAtRow self.now row }
-        ensures { (row : List (List ℕ)) → IsAtRow self.now row → result ≡ row }
+        ensures { (row : List (List ℕ)) → IsAtRow self.now row → fields_in result ≡ row }
     {
         no_encoding_begins_another();
         let Some((piece, _)) = split_piece(rest_at(&self.bytes, self.from)) else {

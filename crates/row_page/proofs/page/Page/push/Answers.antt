@@ -3,6 +3,7 @@ use Rattle.std.proofs.lemmas.Result.{err_from_is_err_and}
 use Rattle.row_page.specs.Pages.{PageView}
 use Rattle.row_page.specs.Reading.{rows_of}
 use Rattle.row_page.specs.Spelling.{page_length}
+use Rattle.row_page.specs.Views.{fields_in}
 use Rattle.row_page.proofs.PageRows.{length_page}
 use Rattle.row_page.proofs.PagePlaces.{page_grown}
 use Rattle.row_page.proofs.page.Page.push.Goals as goal
@@ -28,11 +29,11 @@ returns-in_err-add_piece-clause-full c =
 
 pub invariant_of-self-2 : goal.invariant_of-self-2
 invariant_of-self-2 c =
-    (page_grown c.self.inside.starts.items c.self.inside.bytes.items c.add_piece.new.starts.items c.add_piece.new.bytes.items c.self.inside.room c.args.self.now.rows c.bytes-piece.result.now c.args.row c.self.invariant (ap (λ (v : PageView). v.rows) c.self.view_is) c.bytes-piece.ensures.grammar (omega (arith, c.len.ensures, c.if-self-len.false)) c.in_ok-add_piece.ensures.starts c.in_ok-add_piece.ensures.bytes).0
+    (page_grown c.self.inside.starts.items c.self.inside.bytes.items c.add_piece.new.starts.items c.add_piece.new.bytes.items c.self.inside.room c.args.self.now.rows c.bytes-piece.result.now (fields_in c.args.row) c.self.invariant (ap (λ (v : PageView). v.rows) c.self.view_is) c.bytes-piece.ensures.grammar (omega (arith, c.len.ensures, c.if-self-len.false)) c.in_ok-add_piece.ensures.starts c.in_ok-add_piece.ensures.bytes).0
 
 pub returns-clause-ok : goal.returns-clause-ok
 returns-clause-ok c =
-    let grown = (page_grown c.self.inside.starts.items c.self.inside.bytes.items c.add_piece.new.starts.items c.add_piece.new.bytes.items c.self.inside.room c.args.self.now.rows c.bytes-piece.result.now c.args.row c.self.invariant (ap (λ (v : PageView). v.rows) c.self.view_is) c.bytes-piece.ensures.grammar (omega (arith, c.len.ensures, c.if-self-len.false)) c.in_ok-add_piece.ensures.starts c.in_ok-add_piece.ensures.bytes).1 in
+    let grown = (page_grown c.self.inside.starts.items c.self.inside.bytes.items c.add_piece.new.starts.items c.add_piece.new.bytes.items c.self.inside.room c.args.self.now.rows c.bytes-piece.result.now (fields_in c.args.row) c.self.invariant (ap (λ (v : PageView). v.rows) c.self.view_is) c.bytes-piece.ensures.grammar (omega (arith, c.len.ensures, c.if-self-len.false)) c.in_ok-add_piece.ensures.starts c.in_ok-add_piece.ensures.bytes).1 in
     let room = ap (λ (v : PageView). v.room) c.self.view_is in
     cc
 

@@ -1,12 +1,14 @@
-use Rattle.std.proofs.Common.{ap, ◌∙◌}
-use Rattle.std.proofs.Common.{length}
+use Rattle.std.proofs.Common.{ap, length, ◌∙◌}
 use Rattle.row_page.proofs.Parts.{pieces_spell}
 use Rattle.row_page.proofs.Lengths.{length-row_bytes}
+use Rattle.row_page.proofs.Rows.{row_had}
 use Rattle.row_page.proofs.row_view.RowView.bytes.Goals as goal
 
+pub returns-clause-grammar : goal.returns-clause-grammar
+returns-clause-grammar c = row_had _ c.args.self.now.formed
+
 pub returns-clause-spelling : goal.returns-clause-spelling
-returns-clause-spelling c = rw (← c.self.view_is) (pieces_spell _ _ c.self.invariant.pieces)
+returns-clause-spelling c = pieces_spell _ _ (row_had _ c.args.self.now.formed).pieces
 
 pub returns-clause-length : goal.returns-clause-length
-returns-clause-length c =
-    rw (← c.self.view_is) (ap length (pieces_spell _ _ c.self.invariant.pieces) ∙ length-row_bytes _)
+returns-clause-length c = ap length (pieces_spell _ _ (row_had _ c.args.self.now.formed).pieces) ∙ length-row_bytes _

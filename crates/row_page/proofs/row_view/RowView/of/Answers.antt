@@ -11,7 +11,7 @@ shown_row bytes short h =
 
 pub invariant_of-result : goal.invariant_of-result
 invariant_of-result c =
-    shown_row c.args.bytes.now (omega (arith, c.if-bytes.false)) (c.are_pieces.ensures.0 (search rules))
+    record { formed = ∣ shown_row c.args.bytes.now (omega (arith, c.if-bytes.false)) (c.are_pieces.ensures.0 (search rules)) ∣₁ }
 
 pub returns-clause-found : goal.returns-clause-found
 returns-clause-found c =

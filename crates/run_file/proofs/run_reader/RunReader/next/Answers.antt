@@ -1,11 +1,22 @@
+use Rattle.std.proofs.Common.{true, Ok, rules}
+use Rattle.run_file.specs.Reading.{TakesRow}
 use Rattle.run_file.specs.Shelved.{files_on}
 use Rattle.run_file.proofs.Stepping.{first_given, formed_given}
 use Rattle.run_file.proofs.run_reader.RunReader.next.Goals as goal
 
-pub returns-then-branch-clause-gives : goal.returns-then-branch-clause-gives
-returns-then-branch-clause-gives g c rows ahead =
-    first_given (files_on g.H.Shelf.disk_of g.D.Disk.files c.advance.new.shelf c.args.self.now.run.disk) c.advance.new.self rows c.row.result c.row.ensures (rw c.if-branch.true at (c.in_ok-advance.ensures.gives rows ahead))
-
-pub returns-then-branch-clause-taken : goal.returns-then-branch-clause-taken
-returns-then-branch-clause-taken g c =
-    formed_given c.args.self.now c.advance.new.self c.row.result c.row.ensures c.advance.ensures.run c.advance.ensures.form (rw c.if-branch.true at c.in_ok-advance.ensures.taken)
+pub returns-then-branch : goal.returns-then-branch
+returns-then-branch g c =
+    let files = files_on g.H.Shelf.disk_of g.D.Disk.files c.advance.new.shelf c.args.self.now.run.disk in
+    let after = c.advance.new.self in
+    let given = c.row.result in
+    let went = c.in_ok-advance.ensures in
+    let took : TakesRow after (Ok true) = rw c.if-branch.true at went.taken in
+    record {
+      gives = λ rows ahead. first_given files after rows given c.row.ensures (rw c.if-branch.true at (went.gives rows ahead));
+      end = search rules;
+      damaged = tt;
+      why = tt;
+      taken = formed_given c.args.self.now after given c.row.ensures went.run went.form took;
+      cause = tt;
+      shelf = went.shelf;
+    }
