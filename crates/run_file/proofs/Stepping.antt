@@ -78,6 +78,10 @@ pub first_given : (files : Option Files) (after : RunReader) (rows : List (List 
 first_given files after [] given at went = absurd went
 first_given files after (row ∷ rows) given at went = at row went.0
 
+-- and it stands at that row
+pub at_lent : (after : RunReader) (given : RowView) → ((row : List (List ℕ)) → IsAtRow after row → fields_in given ≡ row) → TakesRow after (Ok true) → IsAtRow after (fields_in given)
+at_lent after given at (row, here, formed) = rw (at row here) here
+
 -- the row that it lends is well formed
 pub formed_given : (before after : RunReader) (given : RowView) → ((row : List (List ℕ)) → IsAtRow after row → fields_in given ≡ row) → after.run ≡ before.run → after.form ≡ before.form → TakesRow after (Ok true) → GivesFormed before (Ok (Some given))
 formed_given before after given at run form (row, here, formed) = rw (at row here, ← run, ← form) formed

@@ -4,4 +4,5 @@ pub mod Causes
 pub mod Forms
 pub mod Reading
 pub mod Damage
+pub mod Lending
 pub mod Shelved

@@ -1,6 +1,8 @@
 //! A run that is being read.
 
 ghost use Rattle.std.specs.Prelude.{◌≡◌, ◌<◌, ◌≤◌, ◌+◌, ◌↔◌, List, ℕ, true, false, take, drop, Option, None, Ok, OnOk, OnErr, is_some};
+ghost use Rattle.std.specs.Borrow.{sem};
+ghost use Rattle.std.specs.Io.BufRead.{Rests};
 ghost use Rattle.row_page.specs.Grammar.{IsPage};
 ghost use Rattle.row_page.specs.Views.{fields_in};
 ghost use Rattle.spill_disk.specs.Files.{Files};
@@ -8,6 +10,8 @@ ghost use Rattle.run_file.specs.Shelved.{files_on, faults_on, LeavesFiles};
 ghost use Rattle.run_file.specs.Causes.{HasCauseOn, NotDamaged, NoDiskFault};
 ghost use Rattle.run_file.specs.Reading.{run_of, form_of, found_of, IsAtRow, HasRead, IsAhead, Begins, GoesOn, GivesFirst, TellsDamage, TellsPlace, TakesRow, CountsRow, GivesFormed, Moves, HasBytes, ReadsRun, rest_of};
 ghost use Rattle.run_file.specs.Damage.{known_bytes, known_ahead, ExplainsDamage, ReadsAhead};
+ghost use Rattle.run_file.specs.Lending.{StandsAfter};
+ghost use Rattle.run_file.specs.contracts.run_reader.RunReader.{the_row};
 
 use crate::run::fault_of;
 use crate::{Form, Run, RunFault};
@@ -90,7 +94,7 @@ impl RunReader {
     }
 
     /// The next row, lent from the reader's buffer; `None` comes exactly after the run's count of rows.
-    /// Who goes on after that row takes `advance` and `row`, whose contracts say where the reader stands.
+    /// All files of the shelf stay. Once the row is let go, the reader stands where `advance` leaves it.
     pub fn next<D: Disk, H: Shelf<D>>(
         &mut self,
         shelf: &mut H,
@@ -104,6 +108,9 @@ impl RunReader {
         ensures why { ExplainsDamage
             (files_on H.disk_of D.files shelf.old (run_of self.old).disk) self.old result }
         ensures taken { GivesFormed self.old result }
+        ensures* stands { sem 𝓛 (Rests the_row self.entry (StandsAfter
+            (files_on H.disk_of D.files shelf.old (run_of self.old).disk)
+            (files_on H.disk_of D.files shelf.new (run_of self.old).disk) self.old result)) }
         ensures cause { HasCauseOn (run_of self.old).disk
             (faults_on H.disk_of D.faults shelf.old (run_of self.old).disk)
             (faults_on H.disk_of D.faults shelf.new (run_of self.old).disk) result }

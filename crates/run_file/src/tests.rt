@@ -1,7 +1,11 @@
+ghost use Rattle.std.specs.Prelude.{◌≡◌, ◌<◌, ◌++◌, List, ℕ, OnOk};
+ghost use Rattle.run_file.specs.Reading.{run_of, IsAhead};
+ghost use Rattle.run_file.specs.Shelved.{files_on};
+
 use super::*;
 use aggregate::{Agg, AggList, Kind};
 use row_page::{Page, RowBuf};
-use spill_disk::{Disk, DiskError, FolderDisk, MemoryDisk, One};
+use spill_disk::{Disk, DiskError, FolderDisk, MemoryDisk, One, Shelf};
 use std::alloc::Global;
 use std::fs;
 use std::test::Fail;
@@ -109,8 +113,25 @@ fn a_run_is_read_as_it_was_written(rt: HostRuntime) -> Result<(), Fail> {
     Ok(())
 }
 
+/// Puts the rows that are ahead behind those of a page, by `next` alone.
+fn put_rows<D: Disk, H: Shelf<D>>(
+    reader: &mut RunReader,
+    shelf: &mut H,
+    page: &mut Page,
+) -> Result<(), Fail>
+    requires there { (run_of reader.old).disk < H.count_of shelf.old }
+    ensures { (rows : List (List (List ℕ))) →
+        IsAhead (files_on H.disk_of D.files shelf.old (run_of reader.old).disk) reader.old rows →
+        OnOk result (page.new.rows ≡ page.old.rows ++ rows) }
+{
+    while let Some(row) = reader.next(shelf)? {
+        page.push(row)?;
+    }
+    Ok(())
+}
+
 #[test]
-fn next_lends_the_row_behind_those_that_were_passed(rt: HostRuntime) -> Result<(), Fail> {
+fn next_lends_the_rows_in_order_and_then_none(rt: HostRuntime) -> Result<(), Fail> {
     let alloc = rt.alloc();
     let page = three_entries(alloc)?;
     let mut disk = MemoryDisk::new(Vec::new(alloc));
@@ -118,18 +139,44 @@ fn next_lends_the_row_behind_those_that_were_passed(rt: HostRuntime) -> Result<(
     writer.write(&mut disk, &page)?;
     let run = writer.finish();
     let mut one = One { disk: &mut disk };
-    let mut second = RunReader::new(alloc, &run, Form::Entries(Kind::Order));
-    assert_eq!(rt; second.advance(&mut one), Ok(true));
-    let row = second.next(&mut one)?.ok_or("no second row")?;
+    let mut reader = RunReader::new(alloc, &run, Form::Entries(Kind::Order));
+    let row = reader.next(&mut one)?.ok_or("no first row")?;
+    assert_eq!(rt;
+        row.bytes(),
+        [0, 0, 0, 1, b'a', 0, 0, 0, 1, b'1'].as_slice()
+    );
+    let row = reader.next(&mut one)?.ok_or("no second row")?;
     assert_eq!(rt; row.bytes(), [0, 0, 0, 1, b'b', 0, 0, 0, 0].as_slice());
-    let mut third = RunReader::new(alloc, &run, Form::Entries(Kind::Order));
-    assert_eq!(rt; third.advance(&mut one), Ok(true));
-    assert_eq!(rt; third.advance(&mut one), Ok(true));
-    let row = third.next(&mut one)?.ok_or("no third row")?;
+    let row = reader.next(&mut one)?.ok_or("no third row")?;
     assert_eq!(rt;
         row.bytes(),
         [0, 0, 0, 2, b'c', b'c', 0, 0, 0, 2, b'2', b'2'].as_slice()
     );
+    assert!(rt; reader.next(&mut one)?.is_none());
+    assert!(rt; reader.next(&mut one)?.is_none(), "and once more");
+
+    let mut again = RunReader::new(alloc, &run, Form::Entries(Kind::Order));
+    let mut copy = Page::new(alloc, 100);
+    put_rows(&mut again, &mut one, &mut copy)?;
+    assert_eq!(rt; copy.bytes(), page.bytes(), "in a loop");
+    Ok(())
+}
+
+#[test]
+fn next_goes_on_from_the_row_that_advance_stands_at(rt: HostRuntime) -> Result<(), Fail> {
+    let alloc = rt.alloc();
+    let page = three_entries(alloc)?;
+    let mut disk = MemoryDisk::new(Vec::new(alloc));
+    let mut writer = RunWriter::start(&mut disk, 0)?;
+    writer.write(&mut disk, &page)?;
+    let run = writer.finish();
+    let mut one = One { disk: &mut disk };
+    let mut reader = RunReader::new(alloc, &run, Form::Entries(Kind::Order));
+    assert_eq!(rt; reader.advance(&mut one), Ok(true));
+    let row = reader.next(&mut one)?.ok_or("no second row")?;
+    assert_eq!(rt; row.bytes(), [0, 0, 0, 1, b'b', 0, 0, 0, 0].as_slice());
+    assert_eq!(rt; reader.advance(&mut one), Ok(true));
+    assert_eq!(rt; reader.advance(&mut one), Ok(false), "after three rows");
     Ok(())
 }
 
