@@ -1,0 +1,5 @@
+pub mod Places
+pub mod UseOrder
+pub mod Filing
+pub mod Copied
+pub mod Forgetting

@@ -1,0 +1,6 @@
+pub mod Stores
+pub mod Slots
+pub mod Copies
+pub mod StoredProp
+pub mod Evictions
+pub mod Seen

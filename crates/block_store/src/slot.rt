@@ -1,0 +1,12 @@
+//! A block in memory with its pins.
+
+use crate::Block;
+use std::alloc::Global;
+use std::sync::Arc;
+
+/// A block in memory, and how many pins keep it there.
+#[derive(Drop)]
+pub struct Slot {
+    pub(crate) block: Arc<Block, Global>,
+    pub(crate) pins: u64,
+}
