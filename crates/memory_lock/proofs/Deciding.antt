@@ -1,0 +1,62 @@
+-- A worker's own entries decide what a state says of it and of its task.
+use Rattle.std.proofs.Common.{◌≡◌, ◌∙◌, ◌∷◌, [], ℕ, List, Option, Some, refl, sym, ap, subst, inl, inr}
+use Rattle.std.specs.Prelude.{reverse, ◌==◌}
+use Rattle.std.proofs.lemmas.Bool.{cases_Bool, eqb-true}
+use Rattle.std.proofs.lemmas.Grind.{reverse_onto}
+use Rattle.std.proofs.lemmas.List.{reverse-append}
+use Rattle.pool_ledger.specs.declared.entry.Entry.{Entry}
+use Rattle.pool_ledger.specs.declared.entry.Event.{Event}
+use Rattle.pool_ledger.specs.declared.entry.Event.TheVariants.{Begin, End}
+use Rattle.pool_ledger.specs.Sizes.{Sizes}
+use Rattle.pool_ledger.specs.History.{History, open_task, task_after}
+use Rattle.pool_ledger.specs.Journal.{history_of, journal_of}
+use Rattle.pool_ledger.specs.Legal.{IsPermitted}
+use Rattle.pool_ledger.specs.Workers.{entries_of}
+use Rattle.pool_laws.specs.Owners.{AreOwned, IsByOwner, TellsTask, TellsWorker}
+use Rattle.memory_core.specs.Steady.{Memory}
+use Rattle.memory_lock.specs.Fitting.{FitsBasis, OwnDecides, OwnerDecides, OwnTaskDecides, OwnEntriesDecide, own_in}
+
+pub twice_reversed : (xs : List Entry) → reverse (reverse xs) ≡ xs
+twice_reversed [] = refl
+twice_reversed (x ∷ xs) = ap reverse (reverse_onto xs x []) ∙ reverse-append (reverse xs) (x ∷ []) ∙ ap (λ ys. x ∷ ys) (twice_reversed xs)
+
+-- an open task was begun by its worker, so the worker is its owner
+owned-after : (owner : ℕ → Option ℕ) (worker task : ℕ) (event : Event) (was : Option ℕ) → IsByOwner owner worker event → (was ≡ Some task → owner task ≡ Some worker)
+    → task_after event was ≡ Some task → owner task ≡ Some worker
+owned-after owner worker task (Begin t) was by before now = let same : t ≡ task = cc now in subst (λ u. owner u ≡ Some worker) same by
+owned-after owner worker task (End t freed) was by before now = cc now
+owned-after owner worker task _ was by before now = before now
+
+open_is_owned : (owner : ℕ → Option ℕ) (history : History) (worker task : ℕ) → AreOwned owner history → open_task history worker ≡ Some task → owner task ≡ Some worker
+open_is_owned owner [] worker task owned now = cc now
+open_is_owned owner (entry ∷ before) worker task owned now = elim (cases_Bool (entry.worker == worker)) [
+  | inl mine ↦
+      let by : IsByOwner owner worker entry.event = subst (λ w. IsByOwner owner w entry.event) (eqb-true entry.worker worker mine) owned.1 in
+      owned-after owner worker task entry.event (open_task before worker) by (open_is_owned owner before worker task owned.0) (rw mine at now)
+  | inr other ↦ open_is_owned owner before worker task owned.0 (rw other at now)
+]
+
+module _ (tells_worker : (journal : List Entry) (worker : ℕ) → TellsWorker (history_of journal) (history_of (entries_of worker journal)) worker)
+    (tells_task : (setup : Sizes) (owner : ℕ → Option ℕ) (journal : List Entry) (worker task : ℕ) → IsPermitted setup (history_of journal) → AreOwned owner (history_of journal) → owner task ≡ Some worker
+    → TellsTask (history_of journal) (history_of (entries_of worker journal)) task) where
+  of_worker : (sizes : Sizes) (owner : ℕ → Option ℕ) (memory : Memory) (number : ℕ) → FitsBasis sizes owner memory → OwnDecides memory number
+  of_worker sizes owner memory number fits =
+      let tells = subst (λ (h : History). TellsWorker h (own_in number memory) number) (twice_reversed memory.history) (tells_worker (journal_of memory.history) number) in
+      record { open_is = tells.task }
+
+  of_task : (sizes : Sizes) (owner : ℕ → Option ℕ) (memory : Memory) (number task : ℕ) → FitsBasis sizes owner memory → owner task ≡ Some number → OwnerDecides memory number task
+  of_task sizes owner memory number task fits its =
+      let again = sym (twice_reversed memory.history) in
+      let permitted = subst (IsPermitted sizes) again fits.legal.permitted in
+      let owned = subst (AreOwned owner) again fits.owned in
+      let tells = subst (λ (h : History). TellsTask h (own_in number memory) task) (twice_reversed memory.history) (tells_task sizes owner (journal_of memory.history) number task permitted owned its) in
+      record { holds = tells.holds; begun = tells.begun }
+
+  of_own_task : (sizes : Sizes) (owner : ℕ → Option ℕ) (memory : Memory) (number task : ℕ) → FitsBasis sizes owner memory → open_task (own_in number memory) number ≡ Some task → OwnTaskDecides memory number task
+  of_own_task sizes owner memory number task fits now =
+      let there : open_task memory.history number ≡ Some task = (of_worker sizes owner memory number fits).open_is ∙ now in
+      let its = open_is_owned owner memory.history number task fits.owned there in
+      record { open_is = there; holds = (of_task sizes owner memory number task fits its).holds }
+
+  pub decide : OwnEntriesDecide
+  decide = record { worker = of_worker; task = of_task; own_task = of_own_task }

@@ -1,0 +1,11 @@
+use Rattle.std.proofs.Common.{◌≡◌}
+use Rattle.memory_lock.specs.Workers.{IsOpen, SeesMore}
+use Rattle.memory_lock.proofs.tests.waiting.ask_until_another_counts.Given as goal
+
+-- the worker's task is open
+abbrev pub invariant-loop : goal.invariant-loop
+invariant-loop g l = record {
+  lock : l.worker.lock ≡ l.manager;
+  its_task : IsOpen l.worker l.task;
+  sees : SeesMore l.fn.worker l.worker;
+}

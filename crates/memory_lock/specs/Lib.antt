@@ -1,0 +1,3 @@
+pub mod Fitting
+pub mod Workers
+pub mod Crew

@@ -1,0 +1,17 @@
+//! The running manager of the memory pool: one memory state that several threads share.
+#![tactic(auto)]
+
+mod basis;
+mod crew;
+mod locked;
+mod manager;
+mod task;
+#[cfg(test)]
+mod tests;
+mod wake_up_count;
+mod worker;
+
+pub use basis::Basis;
+pub use manager::Manager;
+pub use task::Task;
+pub use worker::Worker;

@@ -1,0 +1,208 @@
+//! One memory state for several threads.
+
+use crate::basis::Basis;
+use crate::locked::Locked;
+use crate::task::Task;
+use crate::wake_up_count::WakeUpCount;
+use crate::worker::Worker;
+use memory_core::Attempted;
+use pool_ledger::Setup;
+use std::alloc::AllocError;
+use std::marker::Model;
+use std::sync::Wait;
+use turn_lock::TurnLock;
+
+/// The memory pool of several threads, each of which calls it with a worker of its own. A contract sees
+/// which lock it is.
+pub struct Manager<B: Basis> {
+    pub(crate) lock: TurnLock<Locked, B>,
+    setup: Setup,
+    count: WakeUpCount,
+}
+
+impl<B: Basis> Model for Manager<B> {
+    ghost use Rattle.std.specs.Prelude.{◌≡◌};
+    ghost use Rattle.turn_lock.specs.Passes.{LockId, lock_id_coded};
+
+    ghost Value = { LockId };
+
+    ghost coded = { lock_id_coded };
+
+    ghost view = { λ manager. manager.lock };
+
+    ghost invariant = { λ manager. manager.setup ≡ B.sizes };
+}
+
+impl<B: Basis> Manager<B> {
+    ghost use Rattle.std.specs.Prelude.{◌≡◌, ◌≤◌, ◌^◌, ◌∷◌, [], Some, false, min, IfOk, IfErr, OnErr};
+    ghost use Rattle.pool_ledger.specs.History.{held, was_begun};
+    ghost use Rattle.pool_ledger.specs.declared.entry.Event.TheVariants.{Begin, Release, End};
+    ghost use Rattle.pool_laws.specs.Growing.{entry_by};
+    ghost use Rattle.memory_core.specs.Attempts.{granted_in};
+    ghost use Rattle.memory_lock.specs.Workers.{Adds, AddsAttempt, AddsGrant, AddsWaits, IsFree, IsOpen, SeesMore, own_entries, own_of};
+
+    /// The sizes that the pool started with. It takes no turn.
+    pub fn setup(&self) -> &Setup
+        ensures { result.now ≡ B.sizes }
+    {
+        &self.setup
+    }
+
+    // A manager round this lock.
+    pub(crate) fn around(lock: TurnLock<Locked, B>, setup: Setup) -> Manager<B>
+        requires basis { setup ≡ B.sizes }
+        ensures { result ≡ lock }
+    {
+        Manager {
+            lock,
+            setup,
+            count: WakeUpCount::new(),
+        }
+    }
+
+    pub(crate) fn into_lock(self) -> TurnLock<Locked, B>
+        ensures { result ≡ self }
+    {
+        let Manager {
+            lock,
+            setup: _,
+            count: _,
+        } = self;
+        lock
+    }
+
+    /// Begins a task of a worker that has none. The worker is the task's owner and has never begun it, so
+    /// nobody has. After an `Err` none of the worker's entries was added.
+    pub fn begin<R: Wait + Sync>(
+        &self,
+        rt: &R,
+        worker: &mut Worker<B>,
+        task: u32,
+    ) -> Result<Task, AllocError>
+        requires manager { worker.old.lock ≡ self.now }
+        requires owner { B.owner task ≡ Some worker.old.number }
+        requires free { IsFree worker.old }
+        requires fresh { was_begun (own_of worker.old) task ≡ false }
+        ensures begun { IfOk result (λ begun. begun ≡ task) }
+        ensures ok { IfOk result (λ _. Adds worker.old worker.new (entry_by worker.old.number (Begin task) ∷ [])) }
+        ensures its_task { IfOk result (λ _. IsOpen worker.new task) }
+        ensures err { OnErr result (own_entries worker.new ≡ own_entries worker.old) }
+        ensures sees { SeesMore worker.old worker.new }
+    {
+        let number = worker.pass.number();
+        let mut locked = self.lock.take(rt, &mut worker.pass);
+        let begun = locked.begin::<B>(number, task);
+        self.lock.give(&mut worker.pass, locked);
+        begun?;
+        Ok(Task::new(task))
+    }
+
+    /// Asks for bytes, 1 to 2^50, until the answer isn't to wait, and sleeps between two attempts. Each
+    /// attempt has its entry. After an `Err` the entries that it added are attempts that were told to wait.
+    pub fn acquire<R: Wait + Sync>(
+        &self,
+        rt: &R,
+        worker: &mut Worker<B>,
+        task: &Task,
+        asked: u64,
+    ) -> Result<u64, AllocError>
+        requires manager { worker.old.lock ≡ self.now }
+        requires its_task { IsOpen worker.old task.now }
+        requires some_asked { 1 ≤ asked }
+        requires few_asked { asked ≤ 2 ^ 50 }
+        ensures ok { IfOk result (λ got. AddsGrant worker.old.number task.now asked got (own_entries worker.old) (own_entries worker.new)) }
+        ensures err { OnErr result (AddsWaits worker.old.number task.now asked (own_entries worker.old) (own_entries worker.new)) }
+        ensures its_task { IsOpen worker.new task.now }
+        ensures sees { SeesMore worker.old worker.new }
+    {
+        for _ in rt.forever() {
+            let seen = self.count.now(rt);
+            match self.attempt(rt, worker, task, asked)? {
+                Attempted::Granted(bytes) => return Ok(bytes),
+                Attempted::Wait => self.count.wait_past(rt, seen),
+            }
+        }
+        unreachable!()
+    }
+
+    /// Gives back bytes of the worker's task, at most what it holds, and answers how many. After an `Err`
+    /// none of the worker's entries was added.
+    pub fn release<R: Wait + Sync>(
+        &self,
+        rt: &R,
+        worker: &mut Worker<B>,
+        task: &Task,
+        bytes: u64,
+    ) -> Result<u64, AllocError>
+        requires manager { worker.old.lock ≡ self.now }
+        requires its_task { IsOpen worker.old task.now }
+        ensures freed { IfOk result (λ freed. freed ≡ min bytes (held (own_of worker.old) task.now)) }
+        ensures ok { IfOk result (λ freed. Adds worker.old worker.new (entry_by worker.old.number (Release task.now freed) ∷ [])) }
+        ensures err { OnErr result (own_entries worker.new ≡ own_entries worker.old) }
+        ensures its_task { IsOpen worker.new task.now }
+        ensures sees { SeesMore worker.old worker.new }
+    {
+        let number = worker.pass.number();
+        let mut locked = self.lock.take(rt, &mut worker.pass);
+        let freed = locked.release::<B>(number, task.number(), bytes);
+        self.lock.give(&mut worker.pass, locked);
+        self.count.raise(rt);
+        freed
+    }
+
+    /// Ends the worker's task, which frees all that it holds, and answers how much that was. It takes no
+    /// memory and has no refusal.
+    pub fn end<R: Wait + Sync>(&self, rt: &R, worker: &mut Worker<B>, task: Task) -> u64
+        requires manager { worker.old.lock ≡ self.now }
+        requires its_task { IsOpen worker.old task }
+        ensures freed { result ≡ held (own_of worker.old) task }
+        ensures adds { Adds worker.old worker.new (entry_by worker.old.number (End task result) ∷ []) }
+        ensures free { IsFree worker.new }
+        ensures sees { SeesMore worker.old worker.new }
+    {
+        let number = worker.pass.number();
+        let mut locked = self.lock.take(rt, &mut worker.pass);
+        let freed = locked.end::<B>(number, task.into_number());
+        self.lock.give(&mut worker.pass, locked);
+        self.count.raise(rt);
+        freed
+    }
+
+    // One attempt.
+    fn attempt<R: Wait + Sync>(
+        &self,
+        rt: &R,
+        worker: &mut Worker<B>,
+        task: &Task,
+        asked: u64,
+    ) -> Result<Attempted, AllocError>
+        requires manager { worker.old.lock ≡ self.now }
+        requires its_task { IsOpen worker.old task.now }
+        requires some_asked { 1 ≤ asked }
+        requires few_asked { asked ≤ 2 ^ 50 }
+        ensures ok { IfOk result (λ got. AddsAttempt worker.old.number task.now asked (granted_in got) (own_entries worker.old) (own_entries worker.new)) }
+        ensures err { OnErr result (own_entries worker.new ≡ own_entries worker.old) }
+        ensures its_task { IsOpen worker.new task.now }
+        ensures sees { SeesMore worker.old worker.new }
+    {
+        let number = worker.pass.number();
+        let mut locked = self.lock.take(rt, &mut worker.pass);
+        let first = locked.asks_first(number);
+        let answer = locked.attempt::<B>(number, task.number(), asked);
+        self.lock.give(&mut worker.pass, locked);
+        if first {
+            self.count.raise(rt);
+        }
+        answer
+    }
+}
+
+impl<B: Basis> Drop for Manager<B> {
+    fn drop(self) {
+        let Self {
+            lock: _,
+            setup: _,
+            count: _,
+        } = self;
+    }
+}
