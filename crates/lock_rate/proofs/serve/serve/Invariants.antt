@@ -1,0 +1,7 @@
+use Rattle.std.proofs.Common.{◌≡◌}
+use Rattle.memory_lock.specs.Workers.{IsOpen}
+use Rattle.lock_rate.proofs.serve.serve.Given as goal
+
+-- the worker is the manager's, and its task is open
+abbrev pub invariant-loop : goal.invariant-loop
+invariant-loop g l = (l.worker.lock ≡ l.manager) × IsOpen l.worker l.task

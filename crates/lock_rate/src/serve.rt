@@ -1,0 +1,75 @@
+//! The work of the threads.
+
+ghost use Rattle.std.specs.Prelude.{◌≡◌, ℕ, Some, [], false};
+ghost use Rattle.pool_ledger.specs.History.{was_begun};
+ghost use Rattle.memory_lock.specs.Workers.{IsFree, own_of};
+
+use memory_lock::{Basis, Manager, Worker};
+use pool_ledger::Setup;
+use std::alloc::{AllocError, Global};
+use std::marker::{Send, Sync};
+use std::sync::Wait;
+use std::thread::{Threads, map_vec};
+
+/// Starts a manager of this setup and gives each worker a thread. The first so many make the rounds; the
+/// answer is how many were made in all.
+pub fn serve_all<B: Basis + Send + Sync, R: Threads + Wait + Sync>(
+    rt: &R,
+    alloc: Global,
+    setup: Setup,
+    threads: u64,
+    rounds: u64,
+) -> Result<u64, AllocError>
+    requires basis { setup ≡ B.sizes }
+    requires owner { (task : ℕ) → B.owner task ≡ Some task }
+{
+    let (manager, workers) = Manager::<B>::start(alloc, setup)?;
+    let shared = &manager;
+    let work = |worker: Worker<B>| -> u64
+        requires { (worker.lock ≡ shared.now) × (worker.seen ≡ []) × (B.owner worker.number ≡ Some worker.number) }
+    {
+        let wanted = if u64::from(worker.number()) < threads {
+            rounds
+        } else {
+            0
+        };
+        serve(rt, shared, worker, wanted)
+    };
+    let made = map_vec(rt, workers, &work)?;
+    let mut total = 0u64;
+    for count in &made {
+        total = total.saturating_add(*count);
+    }
+    Ok(total)
+}
+
+// Begins a task, asks for 100 bytes and gives them back in each round, and ends it.
+fn serve<B: Basis, R: Wait + Sync>(
+    rt: &R,
+    manager: &Manager<B>,
+    worker: Worker<B>,
+    rounds: u64,
+) -> u64
+    requires manager { worker.lock ≡ manager.now }
+    requires owner { B.owner worker.number ≡ Some worker.number }
+    requires free { IsFree worker }
+    requires fresh { was_begun (own_of worker) worker.number ≡ false }
+{
+    let mut worker = worker;
+    let number = worker.number();
+    let Ok(task) = manager.begin(rt, &mut worker, number) else {
+        return 0;
+    };
+    let mut made = 0u64;
+    for _ in 0..rounds {
+        if manager.acquire(rt, &mut worker, &task, 100).is_err() {
+            break;
+        }
+        if manager.release(rt, &mut worker, &task, 100).is_err() {
+            break;
+        }
+        made = u64::saturating_add(made, 1);
+    }
+    let _freed = manager.end(rt, &mut worker, task);
+    made
+}
