@@ -8,6 +8,7 @@ use std::alloc::{AllocError, Global};
 use std::marker::{Model, PhantomData};
 use std::mem;
 use std::sync::Wait;
+use std::sync::atomic::AtomicU64;
 
 /// A lock round one value, which those who have a pass take and give back in turn. A contract sees
 /// which lock it is.
@@ -15,6 +16,8 @@ use std::sync::Wait;
 /// Threads share it by `&`, each with a pass of its own.
 pub struct TurnLock<V: Kept<B>, B> {
     table: Table<Option<V>, View, (), Turns<B>, Global>,
+    // How many threads sleep, or are about to: contracts say nothing of it.
+    sleepers: AtomicU64,
 }
 
 impl<V: Kept<B>, B> Model for TurnLock<V, B> {
@@ -53,7 +56,10 @@ impl<V: Kept<B>, B> TurnLock<V, B> {
         let Ok((table, seat)) = Table::new(alloc, &[0], slots, &()) else {
             return Err(AllocError);
         };
-        let lock = TurnLock { table };
+        let lock = TurnLock {
+            table,
+            sleepers: AtomicU64::new(0),
+        };
         let pass = Pass {
             number: 0,
             spare: 1,
@@ -102,7 +108,13 @@ impl<V: Kept<B>, B> TurnLock<V, B> {
             ≡ entries_of pass.old.number pass.old.seen }
     {
         let mut seat = mem::replace(&mut pass.badge, Badge::blank()).into_seat();
-        let value = take_value(rt, &self.table.shared, &mut seat, pass.number);
+        let value = take_value(
+            rt,
+            &self.table.shared,
+            &self.sleepers,
+            &mut seat,
+            pass.number,
+        );
         pass.badge = seat.into_badge();
         value
     }
@@ -118,7 +130,7 @@ impl<V: Kept<B>, B> TurnLock<V, B> {
         ensures { pass.new ≡ resting (V.history value) pass.old }
     {
         let mut seat = mem::replace(&mut pass.badge, Badge::blank()).into_seat();
-        give_value(&self.table.shared, &mut seat, value);
+        give_value(&self.table.shared, &self.sleepers, &mut seat, value);
         pass.badge = seat.into_badge();
     }
 
@@ -147,7 +159,7 @@ impl<V: Kept<B>, B> TurnLock<V, B> {
         ensures meets { V.fact result }
         ensures history { V.history result ≡ pass.seen }
     {
-        let TurnLock { table } = self;
+        let TurnLock { table, sleepers: _ } = self;
         let (_, badge) = pass.into_parts();
         let mut closed = table.close_with(badge.into_seat());
         let value = closed.take(0);
@@ -158,6 +170,9 @@ impl<V: Kept<B>, B> TurnLock<V, B> {
 
 impl<V: Kept<B> + Drop, B> Drop for TurnLock<V, B> {
     fn drop(self) {
-        let Self { table: _ } = self;
+        let Self {
+            table: _,
+            sleepers: _,
+        } = self;
     }
 }

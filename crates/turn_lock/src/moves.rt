@@ -12,11 +12,13 @@ use crate::rule::{Gives, Joins, Leaves, Returns, Settles, Takes, Turns};
 use crate::view::View;
 use atomic_table::{Seat, Shared};
 use std::sync::Wait;
+use std::sync::atomic::{AtomicU64, Ordering};
 
 // Waits for the turn, and takes the value. The slot stays behind with None.
 pub(crate) fn take_value<V: Kept<B>, B, R: Wait + Sync>(
     rt: &R,
     turns: &Shared<Option<V>, View, (), Turns<B>>,
+    sleepers: &AtomicU64,
     seat: &mut Seat<Option<V>, View>,
     number: u32,
 ) -> V
@@ -36,8 +38,12 @@ pub(crate) fn take_value<V: Kept<B>, B, R: Wait + Sync>(
                 return take_out(turns, seat);
             }
         } else {
-            // A sleep sees the low 32 bits alone: they are odd while the turn is held, and else 0.
+            // A sleep sees the low 32 bits alone: they are odd while the turn is held, and else 0. Whoever
+            // sleeps is counted before the word is looked at again, and so a holder that counts nobody after
+            // it has freed the turn has kept nobody asleep.
+            sleepers.fetch_add(1, Ordering::SeqCst);
             turns.park(rt, 0, (found % LIMIT) as u32);
+            sleepers.fetch_sub(1, Ordering::SeqCst);
         }
     }
     unreachable!()
@@ -61,9 +67,10 @@ fn take_out<V: Kept<B>, B>(
     value.unwrap()
 }
 
-// Puts the value back, frees the turn, and wakes one who waits for it.
+// Puts the value back, frees the turn, and wakes one who waits for it, if somebody does.
 pub(crate) fn give_value<V: Kept<B>, B>(
     turns: &Shared<Option<V>, View, (), Turns<B>>,
+    sleepers: &AtomicU64,
     seat: &mut Seat<Option<V>, View>,
     value: V,
 )
@@ -84,7 +91,9 @@ pub(crate) fn give_value<V: Kept<B>, B>(
     }
     // The turn goes back last: until then nobody sees the value.
     turns.swap::<Gives<B>>(seat, 0, 0);
-    turns.wake_one(0);
+    if sleepers.load(Ordering::SeqCst) != 0 {
+        turns.wake_one(0);
+    }
 }
 
 // One seat for two.
