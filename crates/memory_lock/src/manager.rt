@@ -116,8 +116,8 @@ impl<B: Basis> Manager<B> {
         ensures sees { SeesMore worker.old worker.new }
     {
         for _ in rt.forever() {
-            let seen = self.count.now(rt);
-            match self.attempt(rt, worker, task, asked)? {
+            let mut seen = self.count.now(rt);
+            match self.attempt(rt, worker, task, asked, &mut seen)? {
                 Attempted::Granted(bytes) => return Ok(bytes),
                 Attempted::Wait => self.count.wait_past(rt, seen),
             }
@@ -168,13 +168,15 @@ impl<B: Basis> Manager<B> {
         freed
     }
 
-    // One attempt.
+    // One attempt. Where it raises the wake-up count, what was seen of it rises with it: a task doesn't wake for
+    // its own first attempt.
     fn attempt<R: Wait + Sync>(
         &self,
         rt: &R,
         worker: &mut Worker<B>,
         task: &Task,
         asked: u64,
+        seen: &mut u64,
     ) -> Result<Attempted, AllocError>
         requires manager { worker.old.lock ≡ self.now }
         requires its_task { IsOpen worker.old task.now }
@@ -192,6 +194,7 @@ impl<B: Basis> Manager<B> {
         self.lock.give(&mut worker.pass, locked);
         if first {
             self.count.raise(rt);
+            *seen = seen.wrapping_add(1);
         }
         answer
     }

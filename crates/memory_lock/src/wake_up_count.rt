@@ -2,8 +2,8 @@
 
 use std::sync::{Condvar, Mutex, Wait};
 
-// A number that rises by one, wrapping, whenever a task that waits may now be granted more: at each release,
-// each end, and each first attempt of a task. Nothing is claimed of it.
+// A number that rises by one, wrapping, at each release, each end and each first attempt of a task: after these
+// a task that waits may be granted what it asks. Nothing is claimed of it.
 #[derive(Drop)]
 pub struct WakeUpCount {
     count: Mutex<u64>,
