@@ -5,7 +5,7 @@ use Rattle.std.specs.Prelude.{nat_eq}
 use Rattle.std.proofs.Math.Nat.{mul-div-le, mul-le-mul_left}
 use Rattle.std.proofs.lemmas.List.Sums.{sum_by-cons}
 use Rattle.std.proofs.lemmas.List.Filters.{sum_by-filter_both}
-use Rattle.std.proofs.lemmas.Bool.{cases_Bool, ltb-true, eq-eqb, cond-true, cond-false}
+use Rattle.std.proofs.lemmas.Bool.{cases_Bool, cases_eq, ltb-true, lt-ltb, eq-eqb, cond-true, cond-false}
 use Rattle.std.proofs.lemmas.Bool.Decides.{nat_tests}
 use Rattle.pool_ledger.specs.declared.entry.Event.{Event}
 use Rattle.pool_ledger.specs.declared.entry.Event.TheVariants.{Evict, Admit, Pin, Unpin, Remove}
@@ -15,7 +15,7 @@ use Rattle.pool_ledger.specs.Blocks.{Name, Resident, is_block, without, only, re
 use Rattle.pool_ledger.specs.Legal.{MayCome, IsPermitted}
 use Rattle.pool_ledger.proofs.Sums.{sum_by-change}
 use Rattle.pool_ledger.proofs.Tasks.{entry_of}
-use Rattle.pool_laws.specs.Laws.{pinned_bytes}
+use Rattle.pool_laws.specs.Laws.{PinsKeep, pinned_bytes}
 use Rattle.pool_laws.proofs.Active.{below, below_distinct, below_present}
 use Rattle.pool_ledger.proofs.Residents.{AreDifferent, different}
 use Rattle.pool_laws.proofs.Passing.{Holds, holds, after_admission}
@@ -69,6 +69,20 @@ pins_are_kept s (entry ∷ h) perm = pins-more s h entry.worker entry.event perm
 -- a pinned block is some worker's pin
 pinned_marks : (s : Sizes) (h : History) (d p : ℕ) → IsPermitted s h → is_pinned h d p ≡ true → 1 ≤ sum_by (pin_mark h d p) (below s.workers)
 pinned_marks s h d p perm pinned = omega (arith, pins_are_kept s h perm d p, ltb-true (total (unpin_of d p) h) (total (pin_of d p) h) pinned)
+
+-- one worker's mark is part of the sum
+mark_below : (h : History) (d p w n : ℕ) → w < n → pin_mark h d p w ≤ sum_by (pin_mark h d p) (below n)
+mark_below h d p w zero known = absurd (omega arith)
+mark_below h d p w (suc n) known = elim (cases_eq w n) [
+  | inl last ↦ omega (arith, sum_by-cons (pin_mark h d p) n (below n), ap (λ (v : ℕ). pin_mark h d p v) last)
+  | inr apart ↦ omega (arith, sum_by-cons (pin_mark h d p) n (below n), mark_below h d p w n (omega arith))
+]
+
+-- a worker's pin keeps its block
+pub pins_keep : (s : Sizes) (h : History) → IsPermitted s h → PinsKeep s h
+pins_keep s h perm w d p known its =
+    let one : pin_mark h d p w ≡ 1 = ap (name_mark d p) its ∙ rw (eq-eqb d d refl, eq-eqb p p refl) refl in
+    lt-ltb (total (unpin_of d p) h) (total (pin_of d p) h) (omega (arith, pins_are_kept s h perm d p, mark_below h d p w s.workers known, one))
 
 -- Sizes
 

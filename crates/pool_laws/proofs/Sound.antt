@@ -18,7 +18,7 @@ use Rattle.pool_laws.proofs.Active.{active_few}
 use Rattle.pool_laws.proofs.Ends.{ends_free_all, idle}
 use Rattle.pool_laws.proofs.Uses.{uses_in_order}
 use Rattle.pool_laws.proofs.Passing.{holds}
-use Rattle.pool_laws.proofs.Pins.{pinned_fit, pins_fit}
+use Rattle.pool_laws.proofs.Pins.{pinned_fit, pins_fit, pins_keep}
 use Rattle.pool_laws.proofs.Region.{legal_evicts_above_region}
 use Rattle.pool_laws.proofs.Growths.{IsSound, victims_found, greatest_never_waits, short_grants_keep_floor}
 
@@ -168,6 +168,7 @@ keeps_laws s h region perm = record {
   passed = legal_waiter_is_passed s h region perm;
   floor = legal_short_grants_keep_floor s h region perm;
   pins_fit = pinned_fit s h region perm;
+  pins_keep = pins_keep s h perm;
   victims_exist = victims_exist s h region perm;
   above_region = legal_evicts_above_region s h region perm;
   taken = λ entry may. (holds s (entry ∷ h) region (perm, may)).recorded.1;

@@ -5,7 +5,7 @@ use Rattle.std.specs.Bool.{MatchBool}
 use Rattle.pool_ledger.specs.declared.entry.Entry.{Entry}
 use Rattle.pool_ledger.specs.Sizes.{Sizes, floor_of}
 use Rattle.pool_ledger.specs.History.{History, held, exec, is_active, active, open_task, maximum, execution_pool, storage_pool}
-use Rattle.pool_ledger.specs.Blocks.{residents, is_pinned, sizes, stored, victims}
+use Rattle.pool_ledger.specs.Blocks.{residents, is_pinned, sizes, stored, victims, worker_pin}
 use Rattle.pool_ledger.specs.Answers.{growth, answer}
 use Rattle.pool_ledger.specs.Legal.{is_eviction, AttemptIsRight, MayFollow}
 use Rattle.pool_ledger.specs.Recorded.{CanFollow}
@@ -70,6 +70,12 @@ ShortGrantsKeepFloor setup history =
 abbrev pub pinned_bytes : History → ℕ
 pinned_bytes history = sizes (filter (λ block. is_pinned history block.dataset block.part) (residents history))
 
+-- a worker's pin keeps its block
+abbrev pub PinsKeep : Sizes → History → Type 0
+PinsKeep setup history =
+    (worker dataset part : ℕ) → worker < setup.workers → worker_pin history worker ≡ Some (record { dataset = dataset; part = part })
+    → is_pinned history dataset part ≡ true
+
 -- where an attempt needs bytes that blocks have, there are victims that give them
 abbrev pub VictimsExist : Sizes → History → Type 0
 VictimsExist setup history =
@@ -103,6 +109,7 @@ pub record KeepsLaws (setup : Sizes) (history : History) : Type 0 where
   pub passed : WaitersArePassed setup history
   pub floor : ShortGrantsKeepFloor setup history
   pub pins_fit : pinned_bytes history ≤ setup.region
+  pub pins_keep : PinsKeep setup history
   pub victims_exist : VictimsExist setup history
   pub above_region : EvictsAboveRegion setup history
   pub taken : AreTaken setup history
