@@ -142,5 +142,8 @@ module _ (grow : (setup : Sizes) (history : History) → IsLegal setup history �
         nothing = omega arith;
       }
 
+  stores-well : (setup : Sizes) (history : History) → IsRunning setup history → StoresNothing setup history
+  stores-well setup history running = stores setup history (caches-nothing history running.only)
+
   pub go-on : TasksGoOn
-  go-on = record { begins = begins-well; asks = asks-well; releases = releases-well; ends = ends-well; granted = granted-as; entered = asks-as }
+  go-on = record { begins = begins-well; asks = asks-well; releases = releases-well; ends = ends-well; granted = granted-as; entered = asks-as; stores = stores-well }

@@ -10,6 +10,7 @@ use Rattle.pool_ledger.specs.Blocks.{storage_free}
 use Rattle.pool_ledger.specs.Legal.{IsLegal}
 use Rattle.pool_ledger.specs.Answers.{answer}
 use Rattle.pool_laws.specs.Growing.{attempt_by}
+use Rattle.pool_laws.specs.Uncached.{StoresNothing}
 
 -- an event of task 0
 abbrev pub IsOwn : Event → Type 0
@@ -62,7 +63,8 @@ pub record GoesOn (setup : Sizes) (history : History) (entry : Entry) (holds : �
   pub running : IsRunning setup (entry ∷ history)
   pub holds_now : held (entry ∷ history) 0 ≡ holds
 
--- a task begins, and then asks, releases and ends; what the rules answer it is what a lone task is granted
+-- a task begins, and then asks, releases and ends; what the rules answer it is what a lone task is granted, and no block is
+-- in memory
 pub record TasksGoOn : Type 0 where
   pub begins : (setup : Sizes) → IsInRange setup.maximum setup.region setup.workers → GoesOn setup [] (entry_of (Begin 0)) 0
   pub asks : (setup : Sizes) (history : History) (asked : ℕ) → IsRunning setup history → 1 ≤ asked → asked ≤ 2 ^ 50
@@ -74,6 +76,7 @@ pub record TasksGoOn : Type 0 where
       → answer setup history 0 asked ≡ Some (granted_for setup history asked)
   pub entered : (setup : Sizes) (history : History) (asked : ℕ) → IsRunning setup history
       → attempt_by setup history 0 0 asked ≡ ask_entry setup history asked
+  pub stores : (setup : Sizes) (history : History) → IsRunning setup history → StoresNothing setup history
 
 -- ---- what a refusal for want of room shows
 

@@ -6,6 +6,7 @@ ghost use Rattle.csv_program.specs.Tasks.{IsReady, IsTold, Passes, held_in, hist
 use memory_core::{Attempted, MemoryState};
 use pool_laws::{legal_histories_grow, lone_tasks_are_granted, uncached_histories_store_nothing};
 use pool_ledger::{Journal, Setup};
+use spill_disk::MemoryDisk;
 use std::alloc::{AllocError, Global};
 
 // What the consumer of a grouping query holds before its first row, in bytes.
@@ -21,11 +22,12 @@ pub enum TaskFault {
     NoMemory,
 }
 
-/// The one task of a run, number 0 of worker 0, with its journal. Nothing is cached.
+/// The one task of a run, number 0 of worker 0, with its journal. Nothing is cached; the store disk is in memory
+/// until runs write to real disks.
 #[derive(Drop)]
 pub struct LoneTask {
     setup: Setup,
-    state: MemoryState,
+    state: MemoryState<MemoryDisk>,
     held: u64,
     room: u64,
 }
@@ -49,7 +51,7 @@ impl LoneTask {
     {
         let setup = *pool;
         let _range = setup.max();
-        let mut state = MemoryState::new(alloc, setup);
+        let mut state = MemoryState::new(alloc, setup, MemoryDisk::new(Vec::new(alloc)));
         tasks_go_on();
         state.begin(0, 0)?;
         Ok(LoneTask {
@@ -109,7 +111,8 @@ impl LoneTask {
         } = self;
         tasks_go_on();
         let _freed = state.end(0, 0);
-        state.close()
+        let (journal, _store) = state.close();
+        journal
     }
 
     // Asks for `wish` bytes, and takes what is granted where that is at least `must`. Else all of it goes back.
@@ -159,6 +162,8 @@ impl LoneTask {
         // One for this ask, and one for a release.
         self.state.reserve(2)?;
         tasks_go_on();
+        // No block is in memory, so one entry's room is enough.
+        let _blocks = self.state.blocks();
         let Attempted::Granted(got) = self.state.attempt(0, 0, bytes)? else {
             unreachable!()
         };

@@ -6,6 +6,7 @@ ghost use Rattle.memory_lock.specs.Workers.{IsFree, own_of};
 
 use memory_lock::{Basis, Manager, Worker};
 use pool_ledger::Setup;
+use spill_disk::MemoryDisk;
 use std::alloc::{AllocError, Global};
 use std::marker::{Send, Sync};
 use std::sync::Wait;
@@ -23,7 +24,8 @@ pub fn serve_all<B: Basis + Send + Sync, R: Threads + Wait + Sync>(
     requires basis { setup ≡ B.sizes }
     requires owner { (task : ℕ) → B.owner task ≡ Some task }
 {
-    let (manager, workers) = Manager::<B>::start(alloc, setup)?;
+    let store = MemoryDisk::new(Vec::new(alloc));
+    let (manager, workers) = Manager::<MemoryDisk, B>::start(alloc, setup, store)?;
     let shared = &manager;
     let work = |worker: Worker<B>| -> u64
         requires { (worker.lock ≡ shared.now) × (worker.seen ≡ []) × (B.owner worker.number ≡ Some worker.number) }
@@ -46,7 +48,7 @@ pub fn serve_all<B: Basis + Send + Sync, R: Threads + Wait + Sync>(
 // Begins a task, asks for 100 bytes and gives them back in each round, and ends it.
 fn serve<B: Basis, R: Wait + Sync>(
     rt: &R,
-    manager: &Manager<B>,
+    manager: &Manager<MemoryDisk, B>,
     worker: Worker<B>,
     rounds: u64,
 ) -> u64

@@ -1,2 +1,11 @@
+pub mod Asking
+pub mod Choosing
+pub mod Fitting
 pub mod Going
-pub mod Attempts
+pub mod Gone
+pub mod NextVictim
+pub mod Owing
+pub mod Planned
+pub mod Removing
+pub mod Stepping
+pub mod Turning

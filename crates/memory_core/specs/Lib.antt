@@ -1,2 +1,5 @@
 pub mod Attempts
+pub mod Caches
+pub mod Changes
+pub mod Choices
 pub mod Steady

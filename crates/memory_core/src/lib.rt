@@ -1,13 +1,18 @@
 //! The whole state of the memory pool on one thread: each call adds its entries to a legal journal.
 #![tactic(auto)]
 
+mod admission;
 mod attempted;
-mod plan;
+mod choice;
+mod pinned;
+mod pool;
 #[cfg(test)]
 mod scripts;
 mod state;
 #[cfg(test)]
 mod tests;
 
+pub use admission::Admission;
 pub use attempted::Attempted;
+pub use pinned::Pinned;
 pub use state::MemoryState;

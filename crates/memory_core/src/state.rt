@@ -1,69 +1,87 @@
-//! The state: a legal journal, with room kept for the end of each open task.
+//! The state: a legal journal and the blocks, with room kept for the end of each open task and for each unpin.
 
-ghost use Rattle.std.specs.Prelude.{◌≡◌, ◌≢◌, ◌+◌, ◌≤◌, ◌<◌, ◌^◌, Option, Some, None, Ok, [], ◌∷◌, false, min, IsOk, IfOk, OnOk, OnErr};
+ghost use Rattle.std.specs.Prelude.{◌≡◌, ◌≢◌, ◌+◌, ◌≤◌, ◌<◌, ◌^◌, Option, Some, None, Ok, [], ◌∷◌, ℕ, List, map, false, length, min, nat_lt, IsOk, IfOk, OnOk, OnErr};
+ghost use Rattle.std.specs.Arc.{arc_value};
+ghost use Rattle.row_page.specs.Spelling.{page_cost};
 ghost use Rattle.pool_ledger.specs.History.{held, open_task, was_begun};
+ghost use Rattle.pool_ledger.specs.Blocks.{is_pinned, residents, worker_pin};
 ghost use Rattle.pool_ledger.specs.Journal.{history_of, journal_of};
-ghost use Rattle.pool_ledger.specs.Answers.{answer};
+ghost use Rattle.pool_ledger.specs.Answers.{answer, growth};
 ghost use Rattle.pool_ledger.specs.Legal.{IsLegal};
 ghost use Rattle.pool_ledger.specs.Workers.{Continues};
-ghost use Rattle.pool_ledger.specs.declared.entry.Event.TheVariants.{Begin, Release, End};
-ghost use Rattle.pool_laws.specs.Growing.{entry_by, attempt_by};
+ghost use Rattle.pool_ledger.specs.declared.entry.Event.TheVariants.{Begin, Release, End, Unpin};
+ghost use Rattle.pool_laws.specs.Growing.{entry_by};
 ghost use Rattle.pool_laws.specs.Laws.{HoldsMost};
+ghost use Rattle.block_store.specs.Stores.{candidate_of, pins_at, unpinned};
 ghost use Rattle.memory_core.specs.Attempts.{granted_in, KeepsFloor, WaitsBehind};
-ghost use Rattle.memory_core.specs.Steady.{StatesGoOn, GoesOn, IsSteady};
+ghost use Rattle.memory_core.specs.Caches.{Cache};
+ghost use Rattle.memory_core.specs.Changes.{Attempts, Clears, HandsGiven, HasPinnedAlone, IsAnswered, IsPinned, ReadsAlone, StillFits, StillFitsWith};
+ghost use Rattle.memory_core.specs.Steady.{IsSteady, StatesGoOn, resident_of};
 ghost use Rattle.memory_core.specs.declared.attempted.Attempted.TheVariants.{Wait};
 
+use crate::admission::Admission;
 use crate::attempted::{Attempted, answered};
-use crate::plan::{Plan, plan_attempt};
-use pool_laws::{
-    legal_histories_grow, permitted_histories_keep_laws, uncached_histories_store_nothing,
-};
-use pool_ledger::{Entry, Event, Journal, Ledger, Setup};
+use crate::pinned::Pinned;
+use crate::pool::Pool;
+use block_store::Block;
+use eviction::Candidate;
+use pool_laws::{legal_histories_grow, permitted_histories_keep_laws, victims_go_one_by_one};
+use pool_ledger::{Entry, Event, Journal, Setup};
+use spill_disk::Disk;
 use std::alloc::{AllocError, Global};
 use std::marker::Model;
+use std::sync::Arc;
 
-/// The pool's journal with its running sums. A contract sees the setup, the entries as a history, the
-/// newest first, and `spare`, the number of entries for which there is room beyond the ends of open tasks.
-///
-/// No block is stored yet, so an ask takes unused storage alone.
+/// The pool's journal with its running sums, the blocks in memory, and the store disk with the copies of evicted
+/// ones. A contract sees the setup, the entries as a history, the newest first, `spare`, the number of entries for
+/// which there is room beyond those for the ends of open tasks and for unpins, and `cache`: the blocks, the
+/// copies, and the disk's files and count of faults.
 #[derive(Drop)]
-pub struct MemoryState {
-    ledger: Ledger,
+pub struct MemoryState<K: Disk> {
+    pool: Pool<K>,
     kept: u64,
 }
 
-impl Model for MemoryState {
+impl<K: Disk> Model for MemoryState<K> {
     ghost use Rattle.std.specs.Prelude.{◌≡◌, ◌≤◌, ◌-◌};
-    ghost use Rattle.memory_core.specs.Steady.{Memory, IsSteady, ends_owed};
+    ghost use Rattle.std.specs.Coded.{codes};
+    ghost use Rattle.memory_core.specs.Caches.{Memory, files_coded};
+    ghost use Rattle.memory_core.specs.Steady.{IsSteady, owed};
 
     ghost Value = { Memory };
 
-    ghost view = { λ s. record { setup = s.ledger.setup; history = s.ledger.history; spare = s.ledger.spare - s.kept } };
+    ghost coded = { Prim.hlevel (codes, files_coded) };
 
-    ghost invariant = { λ s. IsSteady s.ledger.setup s.ledger.history
-        × (s.kept ≡ ends_owed s.ledger.setup.workers s.ledger.history)
-        × (s.kept ≤ s.ledger.spare) };
+    ghost view = { λ s. record { setup = s.pool.setup; history = s.pool.history; spare = s.pool.spare - s.kept; cache = s.pool.cache } };
+
+    ghost invariant = { λ s. IsSteady s.pool.setup s.pool.history s.pool.cache
+        × (s.kept ≡ owed s.pool.setup.workers s.pool.history)
+        × (s.kept ≤ s.pool.spare) };
 }
 
-// What the state does next is legal.
+// What the state does next is legal, and what it owes.
 fn states_go_on()
     ensures { StatesGoOn }
 {
     legal_histories_grow();
     permitted_histories_keep_laws();
-    uncached_histories_store_nothing();
+    victims_go_one_by_one();
 }
 
-impl MemoryState {
-    /// A state without entries, whose storage pool has the region's bytes. It takes no memory.
-    pub fn new(alloc: Global, setup: Setup) -> MemoryState
+impl<K: Disk> MemoryState<K> {
+    /// A state without entries and without blocks, whose storage pool has the region's bytes, over this store
+    /// disk. It takes no memory.
+    pub fn new(alloc: Global, setup: Setup, store: K) -> MemoryState<K>
         ensures setup { result.setup ≡ setup }
         ensures empty { result.history ≡ [] }
+        ensures blocks { result.cache.blocks ≡ [] }
+        ensures copies { result.cache.copies ≡ [] }
+        ensures files { result.cache.files ≡ K.files store }
+        ensures faults { result.cache.faults ≡ K.faults store }
     {
-        let _range = setup.max();
         states_go_on();
         MemoryState {
-            ledger: Ledger::new(alloc, setup),
+            pool: Pool::new(alloc, setup, store),
             kept: 0,
         }
     }
@@ -74,26 +92,36 @@ impl MemoryState {
         ensures history { history_of result.now ≡ self.now.history }
         ensures legal { IsLegal self.now.setup self.now.history }
     {
-        self.ledger.entries()
+        self.pool.ledger().entries()
     }
 
-    /// Makes room for `n` entries beside the ends of open tasks. After an `Err` all is as before; it doesn't
-    /// come where there is room for them.
+    /// The blocks in memory, the least recently used first, with their sizes and whether a pin keeps them.
+    pub fn blocks(&self) -> &[Candidate]
+        ensures blocks { result.now ≡ map candidate_of self.now.cache.blocks }
+        ensures use_order { map resident_of self.now.cache.blocks ≡ residents self.now.history }
+        ensures pins { (dataset part : ℕ) → nat_lt 0 (pins_at self.now.cache.blocks dataset part) ≡ is_pinned self.now.history dataset part }
+    {
+        self.pool.list()
+    }
+
+    /// Makes room for `n` entries beside the ends of open tasks and the unpins. After an `Err` all is as before;
+    /// it doesn't come where there is room for them.
     pub fn reserve(&mut self, n: u64) -> Result<(), AllocError>
         ensures ok { OnOk result (n ≤ self.new.spare) }
         ensures enough { n ≤ self.old.spare → IsOk result }
         ensures err { OnErr result (self.new ≡ self.old) }
         ensures setup { self.new.setup ≡ self.old.setup }
         ensures history { self.new.history ≡ self.old.history }
+        ensures cache { self.new.cache ≡ self.old.cache }
         ensures keeps { self.old.spare ≤ self.new.spare }
     {
-        if n <= self.ledger.spare() - self.kept {
+        if n <= self.pool.ledger().spare() - self.kept {
             return Ok(());
         }
         let Some(total) = n.checked_add(self.kept) else {
             return Err(AllocError);
         };
-        self.ledger.reserve(total)
+        self.pool.reserve(total)
     }
 
     /// Begins a task of a worker that has none, and keeps room for its end. The task was never begun. After
@@ -106,13 +134,14 @@ impl MemoryState {
         ensures enough { 2 ≤ self.old.spare → IsOk result }
         ensures err { OnErr result (self.new ≡ self.old) }
         ensures setup { self.new.setup ≡ self.old.setup }
+        ensures cache { self.new.cache ≡ self.old.cache }
         ensures own { Continues worker (journal_of self.old.history) (journal_of self.new.history) }
         ensures room { self.old.spare ≤ self.new.spare + 2 }
     {
         // One entry for this begin, and one for the end.
         self.reserve(2)?;
         states_go_on();
-        self.ledger.push(Entry {
+        self.pool.add(Entry {
             worker,
             event: Event::Begin { task },
         });
@@ -120,8 +149,9 @@ impl MemoryState {
         Ok(())
     }
 
-    /// An ask of a worker's open task for bytes, 1 to 2^50: what moves from storage stays moved, also where
-    /// the answer is `Wait`. After an `Err` all is as before; it doesn't come where there is room for an entry.
+    /// An ask of a worker's open task for bytes, 1 to 2^50: what moves from storage, and which blocks are evicted,
+    /// stays so, also where the answer is `Wait`. After an `Err` all is as before; it doesn't come where there is
+    /// room for an entry and one for each block in memory.
     ///
     /// After Spark's `UnifiedMemoryManager.acquireExecutionMemory` and `ExecutionMemoryPool.acquireMemory`.
     pub fn attempt(&mut self, worker: u32, task: u32, asked: u64) -> Result<Attempted, AllocError>
@@ -130,22 +160,34 @@ impl MemoryState {
         requires some_asked { 1 ≤ asked }
         requires few_asked { asked ≤ 2 ^ 50 }
         ensures answer { IfOk result (λ got. granted_in got ≡ answer self.old.setup self.old.history task asked) }
-        ensures ok { OnOk result (self.new.history ≡ attempt_by self.old.setup self.old.history worker task asked ∷ self.old.history) }
-        ensures enough { 1 ≤ self.old.spare → IsOk result }
+        ensures ok { OnOk result (Attempts worker task asked self.old self.new) }
+        ensures enough { length self.old.cache.blocks + 1 ≤ self.old.spare → IsOk result }
         ensures err { OnErr result (self.new ≡ self.old) }
         ensures setup { self.new.setup ≡ self.old.setup }
         ensures own { Continues worker (journal_of self.old.history) (journal_of self.new.history) }
-        ensures room { self.old.spare ≤ self.new.spare + 1 }
+        ensures rows { StillFits self.old.cache self.new.cache }
+        ensures room { self.old.spare ≤ self.new.spare + length (growth self.old.setup self.old.history asked).evicted + 1 }
 
-        // What a user of Spark knows of it.
-        ensures greatest { HoldsMost self.old.history task → result ≢ Ok Wait }
-        ensures passed { IfOk result (WaitsBehind self.old.history task) }
+        // The greatest holder never waits, and a short grant leaves the floor.
+        ensures greatest { HoldsMost self.old.history task → IfOk result (λ got. got ≢ Wait) }
+        ensures waits { IfOk result (WaitsBehind self.old.history task) }
         ensures floor { IfOk result (KeepsFloor self.old.setup (held self.old.history task) asked) }
     {
         permitted_histories_keep_laws();
-        let plan = self.plan(worker, task, asked);
-        self.reserve(1)?;
-        self.record(plan.entry);
+        let plan = self.pool.plan_attempt(worker, task, asked);
+        self.reserve_behind(plan.evictions)?;
+        states_go_on();
+        self.pool.evict(worker, None, plan.evictions);
+        self.pool.add(Entry {
+            worker,
+            event: Event::Attempt {
+                task,
+                asked,
+                moved: plan.moved,
+                evictions: plan.evictions,
+                got: plan.got,
+            },
+        });
         Ok(answered(plan.got))
     }
 
@@ -159,12 +201,14 @@ impl MemoryState {
         ensures enough { 1 ≤ self.old.spare → IsOk result }
         ensures err { OnErr result (self.new ≡ self.old) }
         ensures setup { self.new.setup ≡ self.old.setup }
+        ensures cache { self.new.cache ≡ self.old.cache }
         ensures own { Continues worker (journal_of self.old.history) (journal_of self.new.history) }
         ensures room { self.old.spare ≤ self.new.spare + 1 }
     {
-        let freed = self.freed(worker, task, bytes);
+        let freed = bytes.min(self.pool.ledger().held(task));
         self.reserve(1)?;
-        self.record(Entry {
+        states_go_on();
+        self.pool.add(Entry {
             worker,
             event: Event::Release { task, freed },
         });
@@ -179,12 +223,13 @@ impl MemoryState {
         ensures freed { result ≡ held self.old.history task }
         ensures history { self.new.history ≡ entry_by worker (End task (held self.old.history task)) ∷ self.old.history }
         ensures setup { self.new.setup ≡ self.old.setup }
+        ensures cache { self.new.cache ≡ self.old.cache }
         ensures own { Continues worker (journal_of self.old.history) (journal_of self.new.history) }
         ensures room { self.old.spare ≤ self.new.spare }
     {
         states_go_on();
-        let freed = self.ledger.held(task);
-        self.ledger.push(Entry {
+        let freed = self.pool.ledger().held(task);
+        self.pool.add(Entry {
             worker,
             event: Event::End { task, freed },
         });
@@ -192,51 +237,143 @@ impl MemoryState {
         freed
     }
 
-    /// The whole journal, which is legal. It takes no memory.
-    pub fn close(self) -> Journal
-        ensures journal { result ≡ journal_of self.history }
-        ensures history { history_of result ≡ self.history }
-        ensures legal { IsLegal self.setup self.history }
-    {
-        let MemoryState { ledger, kept: _ } = self;
-        ledger.close()
-    }
-
-    // What an ask would add, and be granted.
-    fn plan(&self, worker: u32, task: u32, asked: u64) -> Plan
-        requires known { worker < self.now.setup.workers }
-        requires its_task { open_task self.now.history worker ≡ Some task }
-        requires some_asked { 1 ≤ asked }
-        requires few_asked { asked ≤ 2 ^ 50 }
-        ensures entry { result.entry ≡ attempt_by self.now.setup self.now.history worker task asked }
-        ensures got { result.got ≡ answer self.now.setup self.now.history task asked }
-        ensures next { GoesOn self.now.setup self.now.history result.entry 1 1 }
-        ensures steady { IsSteady self.now.setup self.now.history }
-    {
-        states_go_on();
-        plan_attempt(&self.ledger, worker, task, asked)
-    }
-
-    // What a release would free.
-    fn freed(&self, worker: u32, task: u32, bytes: u64) -> u64
-        requires known { worker < self.now.setup.workers }
-        requires its_task { open_task self.now.history worker ≡ Some task }
-        ensures freed { result ≡ min bytes (held self.now.history task) }
-        ensures next { GoesOn self.now.setup self.now.history (entry_by worker (Release task result)) 1 1 }
-    {
-        states_go_on();
-        bytes.min(self.ledger.held(task))
-    }
-
-    // Adds an entry that neither begins nor ends a task.
-    fn record(&mut self, entry: Entry)
-        requires spare { 1 ≤ self.old.spare }
-        requires next { GoesOn self.old.setup self.old.history entry 1 1 }
-        ensures history { self.new.history ≡ entry ∷ self.old.history }
+    /// Keeps a block in memory that isn't there, if there is room: what storage has free, then what it can borrow
+    /// from what execution has free, then what blocks of other datasets give that no pin keeps. What was borrowed
+    /// stays storage's, also where the block is refused. After an `Err` all is as before.
+    ///
+    /// After Spark's `UnifiedMemoryManager.acquireStorageMemory` and `MemoryStore.evictBlocksToFreeSpace`.
+    pub fn admit(&mut self, worker: u32, block: Arc<Block, Global>) -> Result<Admission, AllocError>
+        requires known { worker < self.old.setup.workers }
+        ensures ok { IfOk result (λ answer. IsAnswered answer worker (arc_value block) (page_cost (arc_value block).page.rows) self.old self.new) }
+        ensures err { OnErr result (self.new ≡ self.old) }
         ensures setup { self.new.setup ≡ self.old.setup }
-        ensures own { Continues entry.worker (journal_of self.old.history) (journal_of self.new.history) }
-        ensures room { self.new.spare + 1 ≡ self.old.spare }
+        ensures own { Continues worker (journal_of self.old.history) (journal_of self.new.history) }
+        ensures rows { StillFitsWith (arc_value block) self.old.cache self.new.cache }
     {
-        self.ledger.push(entry);
+        let (dataset, part, size) = (block.dataset, block.part, block.size());
+        if self.pool.is_resident(dataset, part) {
+            return Ok(Admission::Resident);
+        }
+        states_go_on();
+        let plan = self.pool.plan_admission(dataset, size);
+        let Some(entries) = plan.evictions.checked_add(self.kept + 1) else {
+            return Err(AllocError);
+        };
+        self.pool.reserve_block()?;
+        self.pool.reserve(entries)?;
+        self.pool.evict(worker, Some(dataset), plan.evictions);
+        if plan.admitted {
+            self.pool
+                .admit(worker, plan.borrowed, plan.evictions, block);
+            return Ok(Admission::Admitted);
+        }
+        self.pool.add(Entry {
+            worker,
+            event: Event::Refused {
+                dataset,
+                part,
+                size,
+                borrowed: plan.borrowed,
+                evictions: plan.evictions,
+            },
+        });
+        Ok(Admission::Refused)
+    }
+
+    /// Pins a block for a worker that has no pin, if it is in memory; it then was used last, and no call evicts
+    /// or removes it until the unpin, whose room is kept. Else reads its copy, if it has one. After an `Err`
+    /// history, blocks, copies and files are as before; room may have been made.
+    pub fn pin(&mut self, worker: u32, dataset: u32, part: u32) -> Result<Pinned, AllocError>
+        requires known { worker < self.old.setup.workers }
+        requires free { worker_pin self.old.history worker ≡ None }
+        ensures ok { IfOk result (λ pinned. IsPinned pinned worker dataset part self.old self.new) }
+        ensures handed { IfOk result (λ pinned. HandsGiven pinned dataset part self.old.cache) }
+        ensures err { OnErr result (self.new.history ≡ self.old.history) }
+        ensures err_cache { OnErr result (ReadsAlone self.old.cache self.new.cache) }
+        ensures setup { self.new.setup ≡ self.old.setup }
+        ensures own { Continues worker (journal_of self.old.history) (journal_of self.new.history) }
+        ensures rows { StillFits self.old.cache self.new.cache }
+    {
+        states_go_on();
+        if self.pool.is_resident(dataset, part) {
+            // One entry for this pin, and one for the unpin.
+            self.reserve(2)?;
+            let block = self.pool.pin(worker, dataset, part)?;
+            self.kept += 1;
+            return Ok(Pinned::Hit(block));
+        }
+        self.reserve(1)?;
+        let Some(block) = self.pool.read_back(worker, dataset, part)? else {
+            return Ok(Pinned::Miss);
+        };
+        Ok(Pinned::OnDisk(block))
+    }
+
+    /// Gives the worker's pin back. It takes no memory and can't be refused: its entry has its room since the
+    /// pin.
+    pub fn unpin(&mut self, worker: u32, dataset: u32, part: u32)
+        requires known { worker < self.old.setup.workers }
+        requires its_pin { worker_pin self.old.history worker ≡ Some (record { dataset = dataset; part = part }) }
+        ensures history { self.new.history ≡ entry_by worker (Unpin dataset part) ∷ self.old.history }
+        ensures cache { self.new.cache ≡ record self.old.cache { blocks = map (unpinned dataset part) self.old.cache.blocks } }
+        ensures setup { self.new.setup ≡ self.old.setup }
+        ensures own { Continues worker (journal_of self.old.history) (journal_of self.new.history) }
+        ensures rows { StillFits self.old.cache self.new.cache }
+        ensures room { self.old.spare ≤ self.new.spare }
+    {
+        states_go_on();
+        self.pool.unpin(worker, dataset, part);
+        self.kept -= 1;
+    }
+
+    /// Removes the blocks of a dataset that no pin keeps, ascending by part, and forgets all its copies. What the
+    /// store disk answers to the removal of their files changes nothing. After an `Err` all is as before.
+    pub fn remove(&mut self, worker: u32, dataset: u32) -> Result<(), AllocError>
+        requires known { worker < self.old.setup.workers }
+        ensures ok { OnOk result (Clears worker dataset self.old self.new) }
+        ensures left { OnOk result (HasPinnedAlone dataset self.new.history) }
+        ensures err { OnErr result (self.new ≡ self.old) }
+        ensures setup { self.new.setup ≡ self.old.setup }
+        ensures own { Continues worker (journal_of self.old.history) (journal_of self.new.history) }
+        ensures rows { StillFits self.old.cache self.new.cache }
+    {
+        let count = self.pool.removable(dataset);
+        self.reserve(count)?;
+        states_go_on();
+        self.pool.remove(worker, dataset, count);
+        self.pool.forget(dataset);
+        Ok(())
+    }
+
+    /// The whole journal, which is legal, and the store disk. It takes no memory.
+    pub fn close(self) -> (Journal, K)
+        ensures journal { result.0 ≡ journal_of self.history }
+        ensures history { history_of result.0 ≡ self.history }
+        ensures legal { IsLegal self.setup self.history }
+        ensures files { K.files result.1 ≡ self.cache.files }
+        ensures faults { K.faults result.1 ≡ self.cache.faults }
+    {
+        let MemoryState { pool, kept: _ } = self;
+        pool.close()
+    }
+
+    // Makes room for so many evictions and the entry that they are for.
+    fn reserve_behind(&mut self, evictions: u64) -> Result<(), AllocError>
+        ensures ok { OnOk result (evictions + 1 ≤ self.new.spare) }
+        ensures enough { evictions + 1 ≤ self.old.spare → IsOk result }
+        ensures err { OnErr result (self.new ≡ self.old) }
+        ensures setup { self.new.setup ≡ self.old.setup }
+        ensures history { self.new.history ≡ self.old.history }
+        ensures cache { self.new.cache ≡ self.old.cache }
+        ensures keeps { self.old.spare ≤ self.new.spare }
+    {
+        if evictions < self.pool.ledger().spare() - self.kept {
+            return Ok(());
+        }
+        states_go_on();
+        let Some(total) = evictions.checked_add(self.kept + 1) else {
+            return Err(AllocError);
+        };
+        self.pool.reserve(total)
     }
 }

@@ -1,41 +1,22 @@
 -- What a call adds to a worker's own entries.
-use Rattle.std.proofs.Common.{◌≡◌, ◌∙◌, ◌∷◌, ◌++◌, [], ℕ, List, Option, None, min, refl, sym, ap, subst, append_assoc, append-nil}
-use Rattle.std.specs.Prelude.{IfOk, OnOk, Result, Ok, Err}
-use Rattle.std.specs.List.{AllByRecursion}
-use Rattle.std.proofs.lemmas.Grind.{reverse_onto}
+use Rattle.std.proofs.Common.{◌≡◌, ◌∙◌, ◌∷◌, ◌++◌, ◌⊎◌, [], ℕ, List, Option, None, min, refl, sym, ap, subst, inl, inr, append_assoc, append-nil}
+use Rattle.std.specs.Prelude.{IfOk, Result, length}
 use Rattle.pool_ledger.specs.declared.entry.Entry.{Entry}
 use Rattle.pool_ledger.specs.declared.entry.Event.TheVariants.{Attempt}
-use Rattle.pool_ledger.specs.Sizes.{Sizes}
-use Rattle.pool_ledger.specs.History.{History, held}
+use Rattle.pool_ledger.specs.History.{held}
 use Rattle.pool_ledger.specs.Journal.{history_of, journal_of}
-use Rattle.pool_ledger.specs.Answers.{growth, answer}
 use Rattle.pool_ledger.specs.Workers.{entries_of}
-use Rattle.pool_laws.specs.Growing.{attempt_by, entry_by}
+use Rattle.pool_laws.specs.Growing.{entry_by}
 use Rattle.memory_core.specs.declared.attempted.Attempted.{Attempted}
 use Rattle.memory_core.specs.declared.attempted.Attempted.TheVariants.{Wait}
 use Rattle.memory_core.specs.Attempts.{granted_in}
-use Rattle.memory_core.specs.Steady.{Memory}
-use Rattle.turn_lock.proofs.Entries.{entries_of-push}
+use Rattle.memory_core.specs.Caches.{Memory}
 use Rattle.turn_lock.specs.Passes.{PassState}
 use Rattle.memory_lock.specs.Fitting.{own_in}
-use Rattle.memory_lock.specs.Workers.{AddsAttempt, AddsWaits, IsWait, SeesMore, own_entries, own_of}
-
--- ---- one entry
-
-pub pushed : (worker : ℕ) (entry : Entry) (history : History) → entry.worker ≡ worker → entries_of worker (journal_of (entry ∷ history)) ≡ entries_of worker (journal_of history) ++ entry ∷ []
-pushed worker entry history its = ap (entries_of worker) (reverse_onto history entry []) ∙ entries_of-push worker (journal_of history) entry its
+use Rattle.memory_lock.specs.Workers.{AddsAttempt, AddsWaits, IsEviction, IsWait, SeesMore, own_entries, own_of}
+use Rattle.memory_lock.proofs.Staying.{all_append, all_then}
 
 module _ {E : Type 0} where
-  pub attempted : (result : Result Attempted E) (setup : Sizes) (history later : History) (worker task asked : ℕ) → OnOk result (later ≡ attempt_by setup history worker task asked ∷ history)
-      → IfOk result (λ got. granted_in got ≡ answer setup history task asked)
-      → IfOk result (λ got. AddsAttempt worker task asked (granted_in got) (entries_of worker (journal_of history)) (entries_of worker (journal_of later)))
-  attempted (Ok got) setup history later worker task asked is answers =
-      let entry = attempt_by setup history worker task asked in
-      let adds : entries_of worker (journal_of later) ≡ entries_of worker (journal_of history) ++ entry ∷ [] = ap (λ (h : History). entries_of worker (journal_of h)) is ∙ pushed worker entry history refl in
-      let same : entry ≡ entry_by worker (Attempt task asked (growth setup history asked).moved 0 (granted_in got)) = ap (λ (g : Option ℕ). entry_by worker (Attempt task asked (growth setup history asked).moved 0 g)) (sym answers) in
-      ((growth setup history asked).moved, 0, adds ∙ ap (λ (e : Entry). entries_of worker (journal_of history) ++ e ∷ []) same)
-  attempted (Err e) setup history later worker task asked is answers = tt
-
   -- what was freed, where what is held is known in two ways
   pub freed_as : (result : Result ℕ E) (bytes one other : ℕ) → one ≡ other → IfOk result (λ freed. freed ≡ min bytes one) → IfOk result (λ freed. freed ≡ min bytes other)
   freed_as result bytes one other same is = subst (λ (n : ℕ). IfOk result (λ freed. freed ≡ min bytes n)) same is
@@ -50,16 +31,18 @@ held_as pass now number task again locked is number_is again_is own =
 
 -- ---- waits
 
-all_push : (worker task asked : ℕ) (waits : List Entry) (entry : Entry) → AllByRecursion (IsWait worker task asked) waits → IsWait worker task asked entry → AllByRecursion (IsWait worker task asked) (waits ++ entry ∷ [])
-all_push worker task asked [] entry all wait = (wait, tt)
-all_push worker task asked (w ∷ waits) entry all wait = (all.0, all_push worker task asked waits entry all.1 wait)
+-- an attempt that was told to wait, or an eviction for one
+abbrev pub IsWaiting : ℕ → ℕ → ℕ → Entry → Type 0
+IsWaiting worker task asked entry = IsWait worker task asked entry ⊎ IsEviction worker entry
 
 pub one_wait_more : (worker task asked : ℕ) (before amid after : List Entry) → AddsWaits worker task asked before amid → AddsAttempt worker task asked None amid after → AddsWaits worker task asked before after
 one_wait_more worker task asked before amid after waits wait =
-    let entry = entry_by worker (Attempt task asked wait.0 wait.1 None) in (
-      waits.0 ++ entry ∷ [],
-      wait.2 ∙ ap (λ (es : List Entry). es ++ entry ∷ []) waits.1 ∙ append_assoc before waits.0 (entry ∷ []),
-      all_push worker task asked waits.0 entry waits.2 (wait.0, wait.1, refl),
+    let entry = entry_by worker (Attempt task asked wait.1 (length wait.0) None) in
+    let more = wait.0 ++ entry ∷ [] in (
+      waits.0 ++ more,
+      wait.3 ∙ ap (λ (es : List Entry). es ++ more) waits.1 ∙ append_assoc before waits.0 more,
+      all_append (IsWaiting worker task asked) waits.0 more waits.2
+          (all_then (IsWaiting worker task asked) worker wait.0 entry (λ e is. inr is) wait.2 (inl (wait.1, length wait.0, refl))),
     )
 
 pub no_wait : (worker task asked : ℕ) (before : List Entry) → AddsWaits worker task asked before before

@@ -13,7 +13,7 @@ use Rattle.pool_ledger.specs.Journal.{history_of, journal_of}
 use Rattle.pool_ledger.specs.Legal.{IsPermitted}
 use Rattle.pool_ledger.specs.Workers.{entries_of}
 use Rattle.pool_laws.specs.Owners.{AreOwned, IsByOwner, TellsTask, TellsWorker}
-use Rattle.memory_core.specs.Steady.{Memory}
+use Rattle.memory_core.specs.Caches.{Memory, RowsByName}
 use Rattle.memory_lock.specs.Fitting.{FitsBasis, OwnDecides, OwnerDecides, OwnTaskDecides, OwnEntriesDecide, own_in}
 
 pub twice_reversed : (xs : List Entry) → reverse (reverse xs) ≡ xs
@@ -39,24 +39,24 @@ open_is_owned owner (entry ∷ before) worker task owned now = elim (cases_Bool 
 module _ (tells_worker : (journal : List Entry) (worker : ℕ) → TellsWorker (history_of journal) (history_of (entries_of worker journal)) worker)
     (tells_task : (setup : Sizes) (owner : ℕ → Option ℕ) (journal : List Entry) (worker task : ℕ) → IsPermitted setup (history_of journal) → AreOwned owner (history_of journal) → owner task ≡ Some worker
     → TellsTask (history_of journal) (history_of (entries_of worker journal)) task) where
-  of_worker : (sizes : Sizes) (owner : ℕ → Option ℕ) (memory : Memory) (number : ℕ) → FitsBasis sizes owner memory → OwnDecides memory number
-  of_worker sizes owner memory number fits =
+  of_worker : (sizes : Sizes) (owner : ℕ → Option ℕ) (given : RowsByName) (memory : Memory) (number : ℕ) → FitsBasis sizes owner given memory → OwnDecides memory number
+  of_worker sizes owner given memory number fits =
       let tells = subst (λ (h : History). TellsWorker h (own_in number memory) number) (twice_reversed memory.history) (tells_worker (journal_of memory.history) number) in
-      record { open_is = tells.task }
+      record { open_is = tells.task; pin_is = tells.pin }
 
-  of_task : (sizes : Sizes) (owner : ℕ → Option ℕ) (memory : Memory) (number task : ℕ) → FitsBasis sizes owner memory → owner task ≡ Some number → OwnerDecides memory number task
-  of_task sizes owner memory number task fits its =
+  of_task : (sizes : Sizes) (owner : ℕ → Option ℕ) (given : RowsByName) (memory : Memory) (number task : ℕ) → FitsBasis sizes owner given memory → owner task ≡ Some number → OwnerDecides memory number task
+  of_task sizes owner given memory number task fits its =
       let again = sym (twice_reversed memory.history) in
       let permitted = subst (IsPermitted sizes) again fits.legal.permitted in
       let owned = subst (AreOwned owner) again fits.owned in
       let tells = subst (λ (h : History). TellsTask h (own_in number memory) task) (twice_reversed memory.history) (tells_task sizes owner (journal_of memory.history) number task permitted owned its) in
       record { holds = tells.holds; begun = tells.begun }
 
-  of_own_task : (sizes : Sizes) (owner : ℕ → Option ℕ) (memory : Memory) (number task : ℕ) → FitsBasis sizes owner memory → open_task (own_in number memory) number ≡ Some task → OwnTaskDecides memory number task
-  of_own_task sizes owner memory number task fits now =
-      let there : open_task memory.history number ≡ Some task = (of_worker sizes owner memory number fits).open_is ∙ now in
+  of_own_task : (sizes : Sizes) (owner : ℕ → Option ℕ) (given : RowsByName) (memory : Memory) (number task : ℕ) → FitsBasis sizes owner given memory → open_task (own_in number memory) number ≡ Some task → OwnTaskDecides memory number task
+  of_own_task sizes owner given memory number task fits now =
+      let there : open_task memory.history number ≡ Some task = (of_worker sizes owner given memory number fits).open_is ∙ now in
       let its = open_is_owned owner memory.history number task fits.owned there in
-      record { open_is = there; holds = (of_task sizes owner memory number task fits its).holds }
+      record { open_is = there; holds = (of_task sizes owner given memory number task fits its).holds }
 
   pub decide : OwnEntriesDecide
   decide = record { worker = of_worker; task = of_task; own_task = of_own_task }

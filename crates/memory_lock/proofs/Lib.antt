@@ -1,5 +1,10 @@
 pub mod Deciding
+pub mod Pushed
+pub mod Evicted
+pub mod Answering
 pub mod Adding
 pub mod Staying
+pub mod Turned
+pub mod Beginning
 pub mod Crews
 pub mod Pairs

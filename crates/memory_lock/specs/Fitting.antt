@@ -8,13 +8,16 @@ use Rattle.pool_ledger.specs.Journal.{history_of, journal_of}
 use Rattle.pool_ledger.specs.Legal.{IsLegal}
 use Rattle.pool_ledger.specs.Workers.{entries_of}
 use Rattle.pool_laws.specs.Owners.{AreOwned}
-use Rattle.memory_core.specs.Steady.{Memory}
+use Rattle.pool_ledger.specs.Blocks.{worker_pin}
+use Rattle.memory_core.specs.Caches.{FitsRows, Memory, RowsByName}
 
--- the state is of these sizes, its journal is legal, and each task was begun by its owner
-pub record FitsBasis (sizes : Sizes) (owner : ℕ → Option ℕ) (memory : Memory) : Type 0 where
+-- the state is of these sizes, its journal is legal, each task was begun by its owner, and each block has the rows that are
+-- given for it
+pub record FitsBasis (sizes : Sizes) (owner : ℕ → Option ℕ) (given : RowsByName) (memory : Memory) : Type 0 where
   pub setup_is : memory.setup ≡ sizes
   pub legal : IsLegal sizes memory.history
   pub owned : AreOwned owner memory.history
+  pub rows : FitsRows given memory.cache
 
 -- a worker's own entries, as a history
 abbrev pub own_history : ℕ → List Entry → History
@@ -27,6 +30,7 @@ own_in worker memory = own_history worker (journal_of memory.history)
 -- what a state says of a worker and its task is what the worker's own entries say
 pub record OwnDecides (memory : Memory) (worker : ℕ) : Type 0 where
   pub open_is : open_task memory.history worker ≡ open_task (own_in worker memory) worker
+  pub pin_is : worker_pin memory.history worker ≡ worker_pin (own_in worker memory) worker
 
 -- what a state says of a task is what its owner's entries say
 pub record OwnerDecides (memory : Memory) (worker task : ℕ) : Type 0 where
@@ -40,6 +44,6 @@ pub record OwnTaskDecides (memory : Memory) (worker task : ℕ) : Type 0 where
 
 -- a worker's own entries decide
 pub record OwnEntriesDecide : Type 0 where
-  pub worker : (sizes : Sizes) (owner : ℕ → Option ℕ) (memory : Memory) (number : ℕ) → FitsBasis sizes owner memory → OwnDecides memory number
-  pub task : (sizes : Sizes) (owner : ℕ → Option ℕ) (memory : Memory) (number task : ℕ) → FitsBasis sizes owner memory → owner task ≡ Some number → OwnerDecides memory number task
-  pub own_task : (sizes : Sizes) (owner : ℕ → Option ℕ) (memory : Memory) (number task : ℕ) → FitsBasis sizes owner memory → open_task (own_in number memory) number ≡ Some task → OwnTaskDecides memory number task
+  pub worker : (sizes : Sizes) (owner : ℕ → Option ℕ) (given : RowsByName) (memory : Memory) (number : ℕ) → FitsBasis sizes owner given memory → OwnDecides memory number
+  pub task : (sizes : Sizes) (owner : ℕ → Option ℕ) (given : RowsByName) (memory : Memory) (number task : ℕ) → FitsBasis sizes owner given memory → owner task ≡ Some number → OwnerDecides memory number task
+  pub own_task : (sizes : Sizes) (owner : ℕ → Option ℕ) (given : RowsByName) (memory : Memory) (number task : ℕ) → FitsBasis sizes owner given memory → open_task (own_in number memory) number ≡ Some task → OwnTaskDecides memory number task

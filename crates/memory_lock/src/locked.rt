@@ -1,46 +1,56 @@
 //! The state under the lock: each call's conditions and effects in words of a worker's own entries.
 
 ghost use Rattle.std.specs.Prelude.{◌≡◌, ◌<◌, ◌≤◌, ◌^◌, Option, Some, None, [], ◌∷◌, ◌++◌, false, min, IfOk, OnOk, OnErr};
+ghost use Rattle.std.specs.Arc.{arc_value};
+ghost use Rattle.row_page.specs.Spelling.{page_cost};
+ghost use Rattle.pool_ledger.specs.Blocks.{worker_pin};
 ghost use Rattle.pool_ledger.specs.History.{held, open_task, was_begun};
 ghost use Rattle.pool_ledger.specs.Journal.{journal_of};
 ghost use Rattle.pool_ledger.specs.Workers.{Continues, entries_of};
-ghost use Rattle.pool_ledger.specs.declared.entry.Event.TheVariants.{Begin, Release, End};
+ghost use Rattle.pool_ledger.specs.declared.entry.Event.TheVariants.{Begin, Release, End, Unpin};
 ghost use Rattle.pool_laws.specs.Growing.{entry_by};
 ghost use Rattle.memory_core.specs.Attempts.{granted_in};
+ghost use Rattle.memory_core.specs.Caches.{AreGiven};
 ghost use Rattle.memory_lock.specs.Fitting.{FitsBasis, OwnEntriesDecide, own_in};
-ghost use Rattle.memory_lock.specs.Workers.{AddsAttempt};
+ghost use Rattle.memory_lock.specs.Workers.{AddsAttempt, AdmissionGrows, HandsRows, PinGrows, RemovalGrows};
 
 use crate::basis::Basis;
-use memory_core::{Attempted, MemoryState};
+use block_store::Block;
+use memory_core::{Admission, Attempted, MemoryState, Pinned};
 use pool_laws::own_entries_tell;
 use pool_ledger::{Journal, Setup};
+use spill_disk::Disk;
 use std::alloc::{AllocError, Global};
 use std::marker::Model;
 use std::mem;
+use std::sync::Arc;
 use turn_lock::Kept;
 
 // A memory state that lies under the lock. It also knows of which workers the open task has asked before.
 #[derive(Drop)]
-pub struct Locked {
-    state: MemoryState,
+pub struct Locked<K: Disk> {
+    state: MemoryState<K>,
     asked: [bool; 16],
 }
 
-impl Model for Locked {
-    ghost use Rattle.memory_core.specs.Steady.{Memory};
+impl<K: Disk> Model for Locked<K> {
+    ghost use Rattle.std.specs.Coded.{codes};
+    ghost use Rattle.memory_core.specs.Caches.{Memory, files_coded};
 
     ghost Value = { Memory };
+
+    ghost coded = { Prim.hlevel (codes, files_coded) };
 
     ghost view = { λ locked. locked.state };
 }
 
-impl<B: Basis> Kept<B> for Locked {
+impl<K: Disk, B: Basis> Kept<B> for Locked<K> {
     ghost use Rattle.pool_ledger.specs.Journal.{journal_of};
     ghost use Rattle.memory_lock.specs.Fitting.{FitsBasis};
 
     ghost history = { λ locked. journal_of locked.history };
 
-    ghost fact = { λ locked. FitsBasis B.sizes B.owner locked };
+    ghost fact = { λ locked. FitsBasis B.sizes B.owner B.rows locked };
 }
 
 // A worker's own entries tell what the whole journal would.
@@ -50,26 +60,29 @@ fn own_entries_decide()
     own_entries_tell();
 }
 
-impl Locked {
-    // An empty state.
-    pub fn new(alloc: Global, setup: Setup) -> Locked
+impl<K: Disk> Locked<K> {
+    // An empty state over this store disk.
+    pub fn new(alloc: Global, setup: Setup, store: K) -> Locked<K>
         ensures setup { result.setup ≡ setup }
         ensures empty { result.history ≡ [] }
+        ensures blocks { result.cache.blocks ≡ [] }
+        ensures copies { result.cache.copies ≡ [] }
+        ensures files { result.cache.files ≡ K.files store }
     {
         Locked {
-            state: MemoryState::new(alloc, setup),
+            state: MemoryState::new(alloc, setup, store),
             asked: [false; 16],
         }
     }
 
     // Begins the worker's task.
     pub fn begin<B: Basis>(&mut self, worker: u32, task: u32) -> Result<(), AllocError>
-        requires fits { FitsBasis B.sizes B.owner self.old }
+        requires fits { FitsBasis B.sizes B.owner B.rows self.old }
         requires known { worker < B.sizes.workers }
         requires owner { B.owner task ≡ Some worker }
         requires free { open_task (own_in worker self.old) worker ≡ None }
         requires fresh { was_begun (own_in worker self.old) task ≡ false }
-        ensures fits { FitsBasis B.sizes B.owner self.new }
+        ensures fits { FitsBasis B.sizes B.owner B.rows self.new }
         ensures own { Continues worker (journal_of self.old.history) (journal_of self.new.history) }
         ensures ok { OnOk result (entries_of worker (journal_of self.new.history)
             ≡ entries_of worker (journal_of self.old.history) ++ entry_by worker (Begin task) ∷ []) }
@@ -98,12 +111,12 @@ impl Locked {
         task: u32,
         asked: u64,
     ) -> Result<Attempted, AllocError>
-        requires fits { FitsBasis B.sizes B.owner self.old }
+        requires fits { FitsBasis B.sizes B.owner B.rows self.old }
         requires known { worker < B.sizes.workers }
         requires its_task { open_task (own_in worker self.old) worker ≡ Some task }
         requires some_asked { 1 ≤ asked }
         requires few_asked { asked ≤ 2 ^ 50 }
-        ensures fits { FitsBasis B.sizes B.owner self.new }
+        ensures fits { FitsBasis B.sizes B.owner B.rows self.new }
         ensures own { Continues worker (journal_of self.old.history) (journal_of self.new.history) }
         ensures ok { IfOk result (λ got. AddsAttempt worker task asked (granted_in got)
             (entries_of worker (journal_of self.old.history)) (entries_of worker (journal_of self.new.history))) }
@@ -122,10 +135,10 @@ impl Locked {
         task: u32,
         bytes: u64,
     ) -> Result<u64, AllocError>
-        requires fits { FitsBasis B.sizes B.owner self.old }
+        requires fits { FitsBasis B.sizes B.owner B.rows self.old }
         requires known { worker < B.sizes.workers }
         requires its_task { open_task (own_in worker self.old) worker ≡ Some task }
-        ensures fits { FitsBasis B.sizes B.owner self.new }
+        ensures fits { FitsBasis B.sizes B.owner B.rows self.new }
         ensures own { Continues worker (journal_of self.old.history) (journal_of self.new.history) }
         ensures freed { IfOk result (λ freed. freed ≡ min bytes (held (own_in worker self.old) task)) }
         ensures ok { IfOk result (λ freed. entries_of worker (journal_of self.new.history)
@@ -140,10 +153,10 @@ impl Locked {
 
     // The end of the worker's task.
     pub fn end<B: Basis>(&mut self, worker: u32, task: u32) -> u64
-        requires fits { FitsBasis B.sizes B.owner self.old }
+        requires fits { FitsBasis B.sizes B.owner B.rows self.old }
         requires known { worker < B.sizes.workers }
         requires its_task { open_task (own_in worker self.old) worker ≡ Some task }
-        ensures fits { FitsBasis B.sizes B.owner self.new }
+        ensures fits { FitsBasis B.sizes B.owner B.rows self.new }
         ensures own { Continues worker (journal_of self.old.history) (journal_of self.new.history) }
         ensures freed { result ≡ held (own_in worker self.old) task }
         ensures ok { entries_of worker (journal_of self.new.history)
@@ -158,9 +171,82 @@ impl Locked {
         freed
     }
 
-    // The journal at the end.
-    pub fn close(self) -> Journal
-        ensures journal { result ≡ journal_of self.history }
+    // Keeps a block in memory, if there is room.
+    pub fn admit<B: Basis>(
+        &mut self,
+        worker: u32,
+        block: Arc<Block, Global>,
+    ) -> Result<Admission, AllocError>
+        requires fits { FitsBasis B.sizes B.owner B.rows self.old }
+        requires known { worker < B.sizes.workers }
+        requires rows { AreGiven B.rows (arc_value block).dataset (arc_value block).part (arc_value block).page.rows }
+        ensures fits { FitsBasis B.sizes B.owner B.rows self.new }
+        ensures own { Continues worker (journal_of self.old.history) (journal_of self.new.history) }
+        ensures ok { IfOk result (λ answer. AdmissionGrows answer (arc_value block) (page_cost (arc_value block).page.rows) worker
+            (entries_of worker (journal_of self.old.history)) (entries_of worker (journal_of self.new.history)) self.new.history) }
+        ensures err { OnErr result (journal_of self.new.history ≡ journal_of self.old.history) }
+    {
+        let answer = self.state.admit(worker, block);
+        let _legal = self.state.entries();
+        answer
+    }
+
+    // Pins a block for the worker, if it is in memory, or reads its copy.
+    pub fn pin<B: Basis>(
+        &mut self,
+        worker: u32,
+        dataset: u32,
+        part: u32,
+    ) -> Result<Pinned, AllocError>
+        requires fits { FitsBasis B.sizes B.owner B.rows self.old }
+        requires known { worker < B.sizes.workers }
+        requires free { worker_pin (own_in worker self.old) worker ≡ None }
+        ensures fits { FitsBasis B.sizes B.owner B.rows self.new }
+        ensures own { Continues worker (journal_of self.old.history) (journal_of self.new.history) }
+        ensures ok { IfOk result (λ pinned. PinGrows pinned worker dataset part
+            (entries_of worker (journal_of self.old.history)) (entries_of worker (journal_of self.new.history)) self.new.history) }
+        ensures rows { IfOk result (λ pinned. HandsRows B.rows pinned dataset part) }
+        ensures err { OnErr result (journal_of self.new.history ≡ journal_of self.old.history) }
+    {
+        own_entries_decide();
+        let pinned = self.state.pin(worker, dataset, part);
+        let _legal = self.state.entries();
+        pinned
+    }
+
+    // Gives the worker's pin back.
+    pub fn unpin<B: Basis>(&mut self, worker: u32, dataset: u32, part: u32)
+        requires fits { FitsBasis B.sizes B.owner B.rows self.old }
+        requires known { worker < B.sizes.workers }
+        requires its_pin { worker_pin (own_in worker self.old) worker ≡ Some (record { dataset = dataset; part = part }) }
+        ensures fits { FitsBasis B.sizes B.owner B.rows self.new }
+        ensures own { Continues worker (journal_of self.old.history) (journal_of self.new.history) }
+        ensures adds { entries_of worker (journal_of self.new.history)
+            ≡ entries_of worker (journal_of self.old.history) ++ entry_by worker (Unpin dataset part) ∷ [] }
+    {
+        own_entries_decide();
+        self.state.unpin(worker, dataset, part);
+        let _legal = self.state.entries();
+    }
+
+    // Removes a dataset's blocks but for pinned ones, and forgets its copies.
+    pub fn remove<B: Basis>(&mut self, worker: u32, dataset: u32) -> Result<(), AllocError>
+        requires fits { FitsBasis B.sizes B.owner B.rows self.old }
+        requires known { worker < B.sizes.workers }
+        ensures fits { FitsBasis B.sizes B.owner B.rows self.new }
+        ensures own { Continues worker (journal_of self.old.history) (journal_of self.new.history) }
+        ensures ok { OnOk result (RemovalGrows dataset worker
+            (entries_of worker (journal_of self.old.history)) (entries_of worker (journal_of self.new.history)) self.new.history) }
+        ensures err { OnErr result (journal_of self.new.history ≡ journal_of self.old.history) }
+    {
+        let removed = self.state.remove(worker, dataset);
+        let _legal = self.state.entries();
+        removed
+    }
+
+    // The journal at the end, and the store disk.
+    pub fn close(self) -> (Journal, K)
+        ensures journal { result.0 ≡ journal_of self.history }
     {
         let Locked { state, asked: _ } = self;
         state.close()

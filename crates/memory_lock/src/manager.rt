@@ -5,22 +5,24 @@ use crate::locked::Locked;
 use crate::task::Task;
 use crate::wake_up_count::WakeUpCount;
 use crate::worker::Worker;
-use memory_core::Attempted;
+use block_store::Block;
+use memory_core::{Admission, Attempted, Pinned};
 use pool_ledger::Setup;
-use std::alloc::AllocError;
+use spill_disk::Disk;
+use std::alloc::{AllocError, Global};
 use std::marker::Model;
-use std::sync::Wait;
+use std::sync::{Arc, Wait};
 use turn_lock::TurnLock;
 
 /// The memory pool of several threads, each of which calls it with a worker of its own. A contract sees
 /// which lock it is.
-pub struct Manager<B: Basis> {
-    pub(crate) lock: TurnLock<Locked, B>,
+pub struct Manager<K: Disk, B: Basis> {
+    pub(crate) lock: TurnLock<Locked<K>, B>,
     setup: Setup,
     count: WakeUpCount,
 }
 
-impl<B: Basis> Model for Manager<B> {
+impl<K: Disk, B: Basis> Model for Manager<K, B> {
     ghost use Rattle.std.specs.Prelude.{◌≡◌};
     ghost use Rattle.turn_lock.specs.Passes.{LockId, lock_id_coded};
 
@@ -33,13 +35,16 @@ impl<B: Basis> Model for Manager<B> {
     ghost invariant = { λ manager. manager.setup ≡ B.sizes };
 }
 
-impl<B: Basis> Manager<B> {
-    ghost use Rattle.std.specs.Prelude.{◌≡◌, ◌≤◌, ◌^◌, ◌∷◌, [], Some, false, min, IfOk, IfErr, OnErr};
+impl<K: Disk, B: Basis> Manager<K, B> {
+    ghost use Rattle.std.specs.Prelude.{◌≡◌, ◌≤◌, ◌^◌, ◌∷◌, [], Some, false, min, IfOk, IfErr, OnOk, OnErr};
+    ghost use Rattle.std.specs.Arc.{arc_value};
+    ghost use Rattle.row_page.specs.Spelling.{page_cost};
     ghost use Rattle.pool_ledger.specs.History.{held, was_begun};
-    ghost use Rattle.pool_ledger.specs.declared.entry.Event.TheVariants.{Begin, Release, End};
+    ghost use Rattle.pool_ledger.specs.declared.entry.Event.TheVariants.{Begin, Release, End, Unpin};
     ghost use Rattle.pool_laws.specs.Growing.{entry_by};
     ghost use Rattle.memory_core.specs.Attempts.{granted_in};
-    ghost use Rattle.memory_lock.specs.Workers.{Adds, AddsAttempt, AddsGrant, AddsWaits, IsFree, IsOpen, SeesMore, own_entries, own_of};
+    ghost use Rattle.memory_core.specs.Caches.{AreGiven};
+    ghost use Rattle.memory_lock.specs.Workers.{Adds, AddsAdmission, AddsAttempt, AddsGrant, AddsPin, AddsRemovals, AddsWaits, HandsRows, HasNoPin, HasPin, IsFree, IsOpen, KeepsPin, KeepsTask, SeesMore, own_entries, own_of};
 
     /// The sizes that the pool started with. It takes no turn.
     pub fn setup(&self) -> &Setup
@@ -49,7 +54,7 @@ impl<B: Basis> Manager<B> {
     }
 
     // A manager round this lock.
-    pub(crate) fn around(lock: TurnLock<Locked, B>, setup: Setup) -> Manager<B>
+    pub(crate) fn around(lock: TurnLock<Locked<K>, B>, setup: Setup) -> Manager<K, B>
         requires basis { setup ≡ B.sizes }
         ensures { result ≡ lock }
     {
@@ -60,7 +65,7 @@ impl<B: Basis> Manager<B> {
         }
     }
 
-    pub(crate) fn into_lock(self) -> TurnLock<Locked, B>
+    pub(crate) fn into_lock(self) -> TurnLock<Locked<K>, B>
         ensures { result ≡ self }
     {
         let Manager {
@@ -87,6 +92,7 @@ impl<B: Basis> Manager<B> {
         ensures ok { IfOk result (λ _. Adds worker.old worker.new (entry_by worker.old.number (Begin task) ∷ [])) }
         ensures its_task { IfOk result (λ _. IsOpen worker.new task) }
         ensures err { OnErr result (own_entries worker.new ≡ own_entries worker.old) }
+        ensures pin { KeepsPin worker.old worker.new }
         ensures sees { SeesMore worker.old worker.new }
     {
         let number = worker.pass.number();
@@ -98,7 +104,8 @@ impl<B: Basis> Manager<B> {
     }
 
     /// Asks for bytes, 1 to 2^50, until the answer isn't to wait, and sleeps between two attempts. Each
-    /// attempt has its entry. After an `Err` the entries that it added are attempts that were told to wait.
+    /// attempt has its entry, behind its evictions. After an `Err` the entries that it added are attempts that were
+    /// told to wait, and evictions.
     pub fn acquire<R: Wait + Sync>(
         &self,
         rt: &R,
@@ -113,6 +120,7 @@ impl<B: Basis> Manager<B> {
         ensures ok { IfOk result (λ got. AddsGrant worker.old.number task.now asked got (own_entries worker.old) (own_entries worker.new)) }
         ensures err { OnErr result (AddsWaits worker.old.number task.now asked (own_entries worker.old) (own_entries worker.new)) }
         ensures its_task { IsOpen worker.new task.now }
+        ensures pin { KeepsPin worker.old worker.new }
         ensures sees { SeesMore worker.old worker.new }
     {
         for _ in rt.forever() {
@@ -140,6 +148,7 @@ impl<B: Basis> Manager<B> {
         ensures ok { IfOk result (λ freed. Adds worker.old worker.new (entry_by worker.old.number (Release task.now freed) ∷ [])) }
         ensures err { OnErr result (own_entries worker.new ≡ own_entries worker.old) }
         ensures its_task { IsOpen worker.new task.now }
+        ensures pin { KeepsPin worker.old worker.new }
         ensures sees { SeesMore worker.old worker.new }
     {
         let number = worker.pass.number();
@@ -158,6 +167,7 @@ impl<B: Basis> Manager<B> {
         ensures freed { result ≡ held (own_of worker.old) task }
         ensures adds { Adds worker.old worker.new (entry_by worker.old.number (End task result) ∷ []) }
         ensures free { IsFree worker.new }
+        ensures pin { KeepsPin worker.old worker.new }
         ensures sees { SeesMore worker.old worker.new }
     {
         let number = worker.pass.number();
@@ -166,6 +176,92 @@ impl<B: Basis> Manager<B> {
         self.lock.give(&mut worker.pass, locked);
         self.count.raise(rt);
         freed
+    }
+
+    /// Pins a block for a worker that has no pin, if it is in memory: no call evicts or removes it until the
+    /// worker's unpin. Else reads its copy, which is then no pin, if it has one. After an `Err` none of the
+    /// worker's entries was added.
+    pub fn pin<R: Wait + Sync>(
+        &self,
+        rt: &R,
+        worker: &mut Worker<B>,
+        dataset: u32,
+        part: u32,
+    ) -> Result<Pinned, AllocError>
+        requires manager { worker.old.lock ≡ self.now }
+        requires free { HasNoPin worker.old }
+        ensures ok { IfOk result (λ pinned. AddsPin pinned dataset part worker.old worker.new) }
+        ensures rows { IfOk result (λ pinned. HandsRows B.rows pinned dataset part) }
+        ensures err { OnErr result (own_entries worker.new ≡ own_entries worker.old) }
+        ensures task { KeepsTask worker.old worker.new }
+        ensures sees { SeesMore worker.old worker.new }
+    {
+        let number = worker.pass.number();
+        let mut locked = self.lock.take(rt, &mut worker.pass);
+        let pinned = locked.pin::<B>(number, dataset, part);
+        self.lock.give(&mut worker.pass, locked);
+        pinned
+    }
+
+    /// Gives the worker's pin back. It takes no memory and has no refusal.
+    pub fn unpin<R: Wait + Sync>(&self, rt: &R, worker: &mut Worker<B>, dataset: u32, part: u32)
+        requires manager { worker.old.lock ≡ self.now }
+        requires its_pin { HasPin worker.old dataset part }
+        ensures adds { Adds worker.old worker.new (entry_by worker.old.number (Unpin dataset part) ∷ []) }
+        ensures free { HasNoPin worker.new }
+        ensures task { KeepsTask worker.old worker.new }
+        ensures sees { SeesMore worker.old worker.new }
+    {
+        let number = worker.pass.number();
+        let mut locked = self.lock.take(rt, &mut worker.pass);
+        locked.unpin::<B>(number, dataset, part);
+        self.lock.give(&mut worker.pass, locked);
+    }
+
+    /// Keeps a block in memory that isn't there, if there is room: what storage has free, what it can borrow,
+    /// and what blocks of other datasets give that no pin keeps. After an `Err` none of the worker's entries was
+    /// added.
+    pub fn admit<R: Wait + Sync>(
+        &self,
+        rt: &R,
+        worker: &mut Worker<B>,
+        block: Arc<Block, Global>,
+    ) -> Result<Admission, AllocError>
+        requires manager { worker.old.lock ≡ self.now }
+        requires rows { AreGiven B.rows (arc_value block).dataset (arc_value block).part (arc_value block).page.rows }
+        ensures ok { IfOk result (λ answer. AddsAdmission answer (arc_value block) (page_cost (arc_value block).page.rows) worker.old worker.new) }
+        ensures err { OnErr result (own_entries worker.new ≡ own_entries worker.old) }
+        ensures task { KeepsTask worker.old worker.new }
+        ensures pin { KeepsPin worker.old worker.new }
+        ensures sees { SeesMore worker.old worker.new }
+    {
+        let number = worker.pass.number();
+        let mut locked = self.lock.take(rt, &mut worker.pass);
+        let answer = locked.admit::<B>(number, block);
+        self.lock.give(&mut worker.pass, locked);
+        answer
+    }
+
+    /// Removes the blocks of a dataset that no pin keeps, ascending by part, and forgets all its copies. After
+    /// an `Err` none of the worker's entries was added.
+    pub fn remove<R: Wait + Sync>(
+        &self,
+        rt: &R,
+        worker: &mut Worker<B>,
+        dataset: u32,
+    ) -> Result<(), AllocError>
+        requires manager { worker.old.lock ≡ self.now }
+        ensures ok { OnOk result (AddsRemovals dataset worker.old worker.new) }
+        ensures err { OnErr result (own_entries worker.new ≡ own_entries worker.old) }
+        ensures task { KeepsTask worker.old worker.new }
+        ensures pin { KeepsPin worker.old worker.new }
+        ensures sees { SeesMore worker.old worker.new }
+    {
+        let number = worker.pass.number();
+        let mut locked = self.lock.take(rt, &mut worker.pass);
+        let removed = locked.remove::<B>(number, dataset);
+        self.lock.give(&mut worker.pass, locked);
+        removed
     }
 
     // One attempt. Where it raises the wake-up count, what was seen of it rises with it: a task doesn't wake for
@@ -185,6 +281,7 @@ impl<B: Basis> Manager<B> {
         ensures ok { IfOk result (λ got. AddsAttempt worker.old.number task.now asked (granted_in got) (own_entries worker.old) (own_entries worker.new)) }
         ensures err { OnErr result (own_entries worker.new ≡ own_entries worker.old) }
         ensures its_task { IsOpen worker.new task.now }
+        ensures pin { KeepsPin worker.old worker.new }
         ensures sees { SeesMore worker.old worker.new }
     {
         let number = worker.pass.number();
@@ -200,7 +297,7 @@ impl<B: Basis> Manager<B> {
     }
 }
 
-impl<B: Basis> Drop for Manager<B> {
+impl<K: Disk, B: Basis> Drop for Manager<K, B> {
     fn drop(self) {
         let Self {
             lock: _,

@@ -1,10 +1,13 @@
 // Threads that share one memory state, and one worker alone.
+mod blocks;
 mod threads;
 mod waiting;
 
+use crate::tests::blocks::{Note, keep_blocks, share_blocks};
 use crate::tests::threads::{Step, share_four, share_one, share_two};
 use crate::tests::waiting::wait_for_release;
-use pool_ledger::{Entry, Event, Setup};
+use memory_core::Admission;
+use pool_ledger::{Entry, Event, Fate, Level, Setup};
 use std::alloc::{AllocError, Global};
 use std::marker::Brand;
 use std::test::*;
@@ -153,6 +156,156 @@ fn a_release_lets_a_waiting_acquire_go_on(rt: HostRuntime) -> Result<(), Fail> {
     ];
     assert_eq!(rt; own.as_slice(), wanted.as_slice());
     Ok(())
+}
+
+// Block (1, 0) has 250 bytes and block (2, 0) has 200. The pin makes (1, 0) the one that was used last, so (2, 0) goes.
+#[test]
+fn one_worker_keeps_blocks(rt: HostRuntime) -> Result<(), Fail> {
+    let setup = Setup::of(600, 0, 1000, 500, 1)?;
+    let (journal, files, notes) = keep_blocks::<Brand, _>(&rt, rt.alloc(), setup, true)?;
+    assert_eq!(rt; files, 0);
+    let wanted = [
+        Note::Miss,
+        Note::Kept(Admission::Admitted),
+        Note::Kept(Admission::Admitted),
+        Note::Hit(true),
+        Note::Granted(300),
+        Note::Granted(50),
+        Note::Granted(350),
+        Note::Miss,
+    ];
+    assert_eq!(rt; notes.as_slice(), wanted.as_slice());
+    let wanted = [
+        admit(1, 250, Level::Disk, 0),
+        admit(2, 200, Level::Memory, 150),
+        pin(false),
+        by_first(Event::Unpin {
+            dataset: 1,
+            part: 0,
+        }),
+        by_first(Event::Begin { task: 0 }),
+        evict(2, 200, Fate::Gone),
+        ask(0, 300, 200, 1, 300),
+        ask(0, 100, 0, 0, 50),
+        by_first(Event::End {
+            task: 0,
+            freed: 350,
+        }),
+        by_first(Event::Begin { task: 1 }),
+        ask(1, 600, 0, 0, 350),
+        by_first(Event::End {
+            task: 1,
+            freed: 350,
+        }),
+        by_first(Event::Remove {
+            dataset: 1,
+            part: 0,
+            size: 250,
+        }),
+    ];
+    assert_eq!(rt; journal.entries(), wanted.as_slice());
+    Ok(())
+}
+
+// The same blocks, where (1, 0) isn't used again: it goes, to the store disk, and is read back with its rows.
+#[test]
+fn one_worker_reads_a_copy(rt: HostRuntime) -> Result<(), Fail> {
+    let setup = Setup::of(600, 0, 1000, 500, 1)?;
+    let (journal, files, notes) = keep_blocks::<Brand, _>(&rt, rt.alloc(), setup, false)?;
+    assert_eq!(rt; files, 1);
+    let wanted = [
+        Note::Kept(Admission::Admitted),
+        Note::Kept(Admission::Admitted),
+        Note::Granted(300),
+        Note::OnDisk(true),
+    ];
+    assert_eq!(rt; notes.as_slice(), wanted.as_slice());
+    let wanted = [
+        admit(1, 250, Level::Disk, 0),
+        admit(2, 200, Level::Memory, 150),
+        by_first(Event::Begin { task: 0 }),
+        evict(1, 250, Fate::Disk),
+        ask(0, 300, 250, 1, 300),
+        by_first(Event::End {
+            task: 0,
+            freed: 300,
+        }),
+        pin(true),
+    ];
+    assert_eq!(rt; journal.entries(), wanted.as_slice());
+    Ok(())
+}
+
+// Each keeps blocks of its own dataset and looks for the other's. What each finds isn't fixed, but each pin has
+// its unpin.
+#[test]
+fn two_threads_share_blocks(rt: HostRuntime) -> Result<(), Fail> {
+    let setup = Setup::of(2000, 0, 1000, 500, 2)?;
+    for round in 0..50 {
+        let journal = share_blocks::<Brand, _>(&rt, rt.alloc(), setup)?;
+        let mut tasks = 0usize;
+        let mut blocks = 0usize;
+        let mut pins = 0usize;
+        let mut unpins = 0usize;
+        for entry in journal.entries() {
+            match entry.event {
+                Event::End { .. } => tasks = tasks.saturating_add(1),
+                Event::Admit { .. } => blocks = blocks.saturating_add(1),
+                Event::Pin { copy: false, .. } => pins = pins.saturating_add(1),
+                Event::Unpin { .. } => unpins = unpins.saturating_add(1),
+                _ => {}
+            }
+        }
+        assert_eq!(rt; tasks, 2, "{round}");
+        assert!(rt; blocks > 0, "{round}");
+        assert_eq!(rt; pins, unpins, "{round}");
+        let (_, left) = held_in(journal.entries());
+        assert_eq!(rt; left, 0, "{round}");
+    }
+    Ok(())
+}
+
+// An entry of worker 0.
+fn by_first(event: Event) -> Entry {
+    Entry { worker: 0, event }
+}
+
+fn admit(dataset: u32, size: u64, level: Level, borrowed: u64) -> Entry {
+    by_first(Event::Admit {
+        dataset,
+        part: 0,
+        size,
+        level,
+        borrowed,
+        evictions: 0,
+    })
+}
+
+fn evict(dataset: u32, size: u64, fate: Fate) -> Entry {
+    by_first(Event::Evict {
+        dataset,
+        part: 0,
+        size,
+        fate,
+    })
+}
+
+fn pin(copy: bool) -> Entry {
+    by_first(Event::Pin {
+        dataset: 1,
+        part: 0,
+        copy,
+    })
+}
+
+fn ask(task: u32, asked: u64, moved: u64, evictions: u64, got: u64) -> Entry {
+    by_first(Event::Attempt {
+        task,
+        asked,
+        moved,
+        evictions,
+        got: Some(got),
+    })
 }
 
 // Three asks, each of which is given back whole.

@@ -5,6 +5,7 @@ ghost use Rattle.memory_lock.specs.Workers.{IsOpen, SeesMore};
 
 use crate::{Basis, Manager, Task, Worker};
 use pool_ledger::{Entry, Event, Journal, Setup};
+use spill_disk::MemoryDisk;
 use std::alloc::{AllocError, Global};
 use std::sync::Wait;
 use std::thread::{Threads, join};
@@ -22,7 +23,7 @@ pub enum Step {
 // Takes a step. The event is what its caller knows of it: not what moved from storage.
 fn take_step<B: Basis, R: Wait + Sync>(
     rt: &R,
-    manager: &Manager<B>,
+    manager: &Manager<MemoryDisk, B>,
     worker: &mut Worker<B>,
     task: &Task,
     step: Step,
@@ -57,7 +58,7 @@ fn take_step<B: Basis, R: Wait + Sync>(
 // Takes these steps, and notes an entry for each.
 fn take_steps<B: Basis, R: Wait + Sync>(
     rt: &R,
-    manager: &Manager<B>,
+    manager: &Manager<MemoryDisk, B>,
     worker: &mut Worker<B>,
     task: &Task,
     steps: &[Step],
@@ -83,7 +84,7 @@ fn take_steps<B: Basis, R: Wait + Sync>(
 fn play<B: Basis, R: Wait + Sync>(
     rt: &R,
     alloc: Global,
-    manager: &Manager<B>,
+    manager: &Manager<MemoryDisk, B>,
     mut worker: Worker<B>,
     steps: &[Step],
 ) -> Result<(Worker<B>, Vec<Entry>), AllocError>
@@ -116,7 +117,7 @@ fn play<B: Basis, R: Wait + Sync>(
 fn play_two<B: Basis + Send + Sync, R: Threads + Wait + Sync>(
     rt: &R,
     alloc: Global,
-    manager: &Manager<B>,
+    manager: &Manager<MemoryDisk, B>,
     one: Worker<B>,
     other: Worker<B>,
     first: &[Step],
@@ -148,7 +149,7 @@ fn play_two<B: Basis + Send + Sync, R: Threads + Wait + Sync>(
 fn play_four<B: Basis + Send + Sync, R: Threads + Wait + Sync>(
     rt: &R,
     alloc: Global,
-    manager: &Manager<B>,
+    manager: &Manager<MemoryDisk, B>,
     first: Worker<B>,
     second: Worker<B>,
     third: Worker<B>,
@@ -221,13 +222,15 @@ pub fn share_one<B: Basis, R: Wait + Sync>(
     requires workers { B.sizes.workers ≡ 1 }
     requires owner { (task : ℕ) → B.owner task ≡ Some task }
 {
-    let (manager, mut workers) = Manager::<B>::start(alloc, setup)?;
+    let store = MemoryDisk::new(Vec::new(alloc));
+    let (manager, mut workers) = Manager::<MemoryDisk, B>::start(alloc, setup, store)?;
     let Some(worker) = workers.pop() else {
         unreachable!()
     };
     let (worker, notes) = play(rt, alloc, &manager, worker, steps)?;
     workers.push(worker)?;
-    Ok((manager.close(workers), notes))
+    let (journal, _) = manager.close(workers);
+    Ok((journal, notes))
 }
 
 /// The journal of two workers in threads of their own, and what each of them knows.
@@ -242,11 +245,13 @@ pub fn share_two<B: Basis + Send + Sync, R: Threads + Wait + Sync>(
     requires workers { B.sizes.workers ≡ 2 }
     requires owner { (task : ℕ) → B.owner task ≡ Some task }
 {
-    let (manager, mut workers) = Manager::<B>::start(alloc, setup)?;
+    let store = MemoryDisk::new(Vec::new(alloc));
+    let (manager, mut workers) = Manager::<MemoryDisk, B>::start(alloc, setup, store)?;
     let (one, other) = last_two(&mut workers);
     let (one, other) = play_two(rt, alloc, &manager, one, other, first, second)?;
     put_two(&mut workers, one.0, other.0)?;
-    Ok((manager.close(workers), one.1, other.1))
+    let (journal, _) = manager.close(workers);
+    Ok((journal, one.1, other.1))
 }
 
 /// The same of four workers, each of which takes six steps.
@@ -260,7 +265,8 @@ pub fn share_four<B: Basis + Send + Sync, R: Threads + Wait + Sync>(
     requires workers { B.sizes.workers ≡ 4 }
     requires owner { (task : ℕ) → B.owner task ≡ Some task }
 {
-    let (manager, mut workers) = Manager::<B>::start(alloc, setup)?;
+    let store = MemoryDisk::new(Vec::new(alloc));
+    let (manager, mut workers) = Manager::<MemoryDisk, B>::start(alloc, setup, store)?;
     let (third, fourth) = last_two(&mut workers);
     let (first, second) = last_two(&mut workers);
     let (lower, upper) = play_four(rt, alloc, &manager, first, second, third, fourth, steps)?;
@@ -268,6 +274,6 @@ pub fn share_four<B: Basis + Send + Sync, R: Threads + Wait + Sync>(
     let (third, fourth) = upper;
     put_two(&mut workers, first.0, second.0)?;
     put_two(&mut workers, third.0, fourth.0)?;
-    let journal = manager.close(workers);
+    let (journal, _) = manager.close(workers);
     Ok((journal, [first.1, second.1, third.1, fourth.1]))
 }

@@ -7,6 +7,7 @@ use crate::tests::threads::{last_two, put_two};
 use crate::wake_up_count::WakeUpCount;
 use crate::{Basis, Manager, Task, Worker};
 use pool_ledger::{Journal, Setup};
+use spill_disk::MemoryDisk;
 use std::alloc::{AllocError, Global};
 use std::sync::Wait;
 use std::thread::{Threads, join};
@@ -25,7 +26,7 @@ struct Signs {
 // Asks for a byte more, and gives it back, until another task counts: then none is granted.
 fn ask_until_another_counts<B: Basis, R: Wait + Sync>(
     rt: &R,
-    manager: &Manager<B>,
+    manager: &Manager<MemoryDisk, B>,
     worker: &mut Worker<B>,
     task: &Task,
     signs: &Signs,
@@ -48,7 +49,7 @@ fn ask_until_another_counts<B: Basis, R: Wait + Sync>(
 // Holds 900 bytes until another task counts.
 fn hold<B: Basis, R: Wait + Sync>(
     rt: &R,
-    manager: &Manager<B>,
+    manager: &Manager<MemoryDisk, B>,
     worker: &mut Worker<B>,
     task: &Task,
     signs: &Signs,
@@ -68,7 +69,7 @@ fn hold<B: Basis, R: Wait + Sync>(
 // The thread of worker 0. It ends its task only once worker 1 has got its bytes.
 fn play_holder<B: Basis, R: Wait + Sync>(
     rt: &R,
-    manager: &Manager<B>,
+    manager: &Manager<MemoryDisk, B>,
     mut worker: Worker<B>,
     signs: &Signs,
 ) -> Result<Worker<B>, AllocError>
@@ -98,7 +99,7 @@ fn play_holder<B: Basis, R: Wait + Sync>(
 // Asks for 200 bytes, once worker 0 holds its 900. This isn't the first attempt, which would raise the wake-up count.
 fn ask<B: Basis, R: Wait + Sync>(
     rt: &R,
-    manager: &Manager<B>,
+    manager: &Manager<MemoryDisk, B>,
     worker: &mut Worker<B>,
     task: &Task,
     signs: &Signs,
@@ -121,7 +122,7 @@ fn ask<B: Basis, R: Wait + Sync>(
 // The thread of worker 1.
 fn play_asker<B: Basis, R: Wait + Sync>(
     rt: &R,
-    manager: &Manager<B>,
+    manager: &Manager<MemoryDisk, B>,
     mut worker: Worker<B>,
     signs: &Signs,
 ) -> Result<Worker<B>, AllocError>
@@ -149,7 +150,7 @@ fn play_asker<B: Basis, R: Wait + Sync>(
 // Both threads.
 fn play_both<B: Basis + Send + Sync, R: Threads + Wait + Sync>(
     rt: &R,
-    manager: &Manager<B>,
+    manager: &Manager<MemoryDisk, B>,
     holder: Worker<B>,
     asker: Worker<B>,
     signs: &Signs,
@@ -186,7 +187,8 @@ pub fn wait_for_release<B: Basis + Send + Sync, R: Threads + Wait + Sync>(
     requires workers { B.sizes.workers ≡ 2 }
     requires owner { (task : ℕ) → B.owner task ≡ Some task }
 {
-    let (manager, mut workers) = Manager::<B>::start(alloc, setup)?;
+    let store = MemoryDisk::new(Vec::new(alloc));
+    let (manager, mut workers) = Manager::<MemoryDisk, B>::start(alloc, setup, store)?;
     let (holder, asker) = last_two(&mut workers);
     let signs = Signs {
         ready: WakeUpCount::new(),
@@ -195,5 +197,6 @@ pub fn wait_for_release<B: Basis + Send + Sync, R: Threads + Wait + Sync>(
     };
     let (holder, asker) = play_both(rt, &manager, holder, asker, &signs)?;
     put_two(&mut workers, holder, asker)?;
-    Ok(manager.close(workers))
+    let (journal, _) = manager.close(workers);
+    Ok(journal)
 }

@@ -2,5 +2,4 @@ use Rattle.memory_core.proofs.Going.{go_on}
 use Rattle.memory_core.proofs.state.states_go_on.Goals as goal
 
 pub returns : goal.returns
-returns c =
-    go_on c.legal_histories_grow.ensures c.uncached_histories_store_nothing.ensures.attempts c.permitted_histories_keep_laws.ensures
+returns c = go_on c.legal_histories_grow.ensures c.victims_go_one_by_one.ensures

@@ -1,21 +1,28 @@
-use Rattle.std.proofs.Common.{ap, subst, ◌∙◌}
+use Rattle.std.proofs.Common.{ap, subst, sym, ◌∙◌}
 use Rattle.std.specs.Prelude.{IfOk}
 use Rattle.pool_ledger.specs.History.{open_task}
 use Rattle.pool_ledger.specs.Journal.{journal_of}
 use Rattle.pool_ledger.specs.Workers.{entries_of}
 use Rattle.memory_core.specs.Attempts.{granted_in}
-use Rattle.memory_core.specs.Steady.{Memory}
+use Rattle.memory_core.specs.Caches.{Memory}
+use Rattle.memory_lock.specs.Fitting.{FitsBasis}
 use Rattle.memory_lock.specs.Workers.{AddsAttempt}
-use Rattle.memory_lock.proofs.Adding.{attempted}
+use Rattle.memory_lock.proofs.Answering.{attempt_fits, attempted}
 use Rattle.memory_lock.proofs.locked.Locked.attempt.Goals as goal
 
 pub attempt-answer-requires-clause-its_task : goal.attempt-answer-requires-clause-its_task
 attempt-answer-requires-clause-its_task g c =
     ap (λ (m : Memory). open_task m.history c.args.worker) c.self.view_is
-    ∙ (c.own_entries_decide.ensures.own_task _ _ c.args.self.now c.args.worker c.args.task c.requires.fits c.requires.its_task).open_is
+    ∙ (c.own_entries_decide.ensures.own_task _ _ _ c.args.self.now c.args.worker c.args.task c.requires.fits c.requires.its_task).open_is
+
+pub returns-clause-fits : goal.returns-clause-fits
+returns-clause-fits g c =
+    attempt_fits c.attempt-answer.result _ _ g.B.Basis.rows c.args.worker c.args.task c.args.asked c.self.inside.state c.attempt-answer.new.self
+    (subst (FitsBasis g.B.Basis.sizes g.B.Basis.owner g.B.Basis.rows) (sym c.self.view_is) c.requires.fits)
+    c.attempt-answer.ensures.setup c.entries-legal.ensures.legal c.attempt-answer.ensures.ok c.attempt-answer.ensures.err c.attempt-answer.ensures.rows
 
 pub returns-clause-ok : goal.returns-clause-ok
 returns-clause-ok g c =
     subst (λ (m : Memory). IfOk c.attempt-answer.result (λ got. AddsAttempt c.args.worker c.args.task c.args.asked (granted_in got) (entries_of c.args.worker (journal_of m.history)) (entries_of c.args.worker (journal_of c.attempt-answer.new.self.history))))
     c.self.view_is
-    (attempted c.attempt-answer.result c.self.inside.state.setup c.self.inside.state.history c.attempt-answer.new.self.history c.args.worker c.args.task c.args.asked c.attempt-answer.ensures.ok c.attempt-answer.ensures.answer)
+    (attempted c.attempt-answer.result c.self.inside.state c.attempt-answer.new.self c.args.worker c.args.task c.args.asked c.attempt-answer.ensures.ok c.attempt-answer.ensures.answer)

@@ -1,9 +1,10 @@
+use Rattle.std.proofs.Common.{◌∙◌, refl}
 use Rattle.memory_lock.specs.Workers.{own_entries}
 use Rattle.memory_lock.proofs.Adding.{no_wait, sees_itself, sees_on, waits_on}
 use Rattle.memory_lock.proofs.manager.Manager.acquire.Goals as goal
 
 pub loop-init : goal.loop-init
-loop-init g c = (tt, tt, sees_itself c.args.worker.now, no_wait c.args.worker.now.number c.args.task.now c.args.asked (own_entries c.args.worker.now), c.requires.its_task)
+loop-init g c = (tt, tt, sees_itself c.args.worker.now, no_wait c.args.worker.now.number c.args.task.now c.args.asked (own_entries c.args.worker.now), c.requires.its_task, refl)
 
 pub loop-preserved : goal.loop-preserved
 loop-preserved g c = (
@@ -12,4 +13,5 @@ loop-preserved g c = (
   sees_on c.args.worker.now c.loop.worker c.attempt.new.worker c.loop.invariant.2 c.attempt.ensures.sees,
   waits_on c.args.worker.now c.loop.worker c.attempt.new.worker c.args.task.now c.args.asked c.in_ok-bytes.field-0 c.loop.invariant.2 c.loop.invariant.3 c.in_ok-bytes.ensures.ok c.in-Wait.is,
   c.attempt.ensures.its_task,
+  c.attempt.ensures.pin ∙ c.loop.invariant.5,
 )

@@ -27,5 +27,5 @@ close-locked-requires-clause-all g c =
 
 pub returns-clause-whole : goal.returns-clause-whole
 returns-clause-whole g c =
-    parts_all c.args.self c.args.workers.items c.loop-worker.all c.close.result (last g (goal.at.returns-clause-whole g c).In_default-pop)
+    parts_all c.args.self c.args.workers.items c.loop-worker.all c.close.result.0 (last g (goal.at.returns-clause-whole g c).In_default-pop)
     (ap (λ (p : PassState). p.seen) (sym c.into_pass.ensures) ∙ sym c.close-locked.ensures.history ∙ sym c.close.ensures.journal)

@@ -1,5 +1,7 @@
+use Rattle.std.proofs.Common.{◌∙◌}
 use Rattle.pool_ledger.specs.Journal.{journal_of}
-use Rattle.memory_lock.proofs.Staying.{stays_open, through_release}
+use Rattle.memory_lock.proofs.Staying.{through_release}
+use Rattle.memory_lock.proofs.Turned.{keeps_pin, keeps_task, turned}
 use Rattle.memory_lock.proofs.Adding.{freed_as, held_as}
 use Rattle.memory_lock.proofs.manager.Manager.release.Goals as goal
 
@@ -11,6 +13,18 @@ returns-clause-freed g c =
 
 pub returns-clause-its_task : goal.returns-clause-its_task
 returns-clause-its_task g c =
-    stays_open c.worker.inside.pass c.args.worker.now c.take-locked.new.pass c.give.new.pass c.number-number.result c.args.task.now (journal_of c.take-locked.result.history) (journal_of c.release-freed.new.self.history)
-    c.worker.view_is c.number-number.ensures c.take-locked.ensures.own c.take-locked.ensures.pass c.give.ensures
-    (through_release c.release-freed.result c.number-number.result c.number.result _ _ c.release-freed.ensures.ok c.release-freed.ensures.err) c.requires.its_task
+    let before = journal_of c.take-locked.result.history in
+    let after = journal_of c.release-freed.new.self.history in
+    let turn = turned c.worker.inside.pass c.args.worker.now c.take-locked.new.pass c.give.new.pass c.number-number.result before after
+    c.worker.view_is c.number-number.ensures c.take-locked.ensures.own c.take-locked.ensures.pass c.give.ensures in
+    keeps_task c.args.worker.now c.give.new.pass c.number-number.result before after turn
+    (through_release c.release-freed.result c.number-number.result c.number.result _ _ c.release-freed.ensures.ok c.release-freed.ensures.err).task ∙ c.requires.its_task
+
+pub returns-clause-pin : goal.returns-clause-pin
+returns-clause-pin g c =
+    let before = journal_of c.take-locked.result.history in
+    let after = journal_of c.release-freed.new.self.history in
+    let turn = turned c.worker.inside.pass c.args.worker.now c.take-locked.new.pass c.give.new.pass c.number-number.result before after
+    c.worker.view_is c.number-number.ensures c.take-locked.ensures.own c.take-locked.ensures.pass c.give.ensures in
+    keeps_pin c.args.worker.now c.give.new.pass c.number-number.result before after turn
+    (through_release c.release-freed.result c.number-number.result c.number.result _ _ c.release-freed.ensures.ok c.release-freed.ensures.err).pin

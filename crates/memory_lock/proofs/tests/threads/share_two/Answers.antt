@@ -11,8 +11,8 @@ play_two-requires-clause-other g c κs within =
     new_other c.in_ok-manager.manager g.B.Basis.sizes.workers c.in_ok-manager.workers.items c.last_two-one.new.workers.items c.last_two-one.result.0 c.last_two-one.result.1
     c.in_ok-manager.ensures.workers c.in_ok-manager.ensures.fresh c.last_two-one.ensures
 
-pub close-requires : goal.close-requires
-close-requires g c = record {
+pub close-journal-requires : goal.close-journal-requires
+close-journal-requires g c = record {
   all = two_back c.in_ok-manager.manager g.B.Basis.sizes.workers c.in_ok-manager.workers.items c.last_two-one.new.workers.items c.put_two.new.workers.items
       c.last_two-one.result.0 c.last_two-one.result.1 c.in_ok-one.one.0 c.in_ok-one.other.0
       c.in_ok-manager.ensures.workers c.last_two-one.ensures c.in_ok-one.ensures.one c.in_ok-one.ensures.other c.in_ok-put_two.ensures;

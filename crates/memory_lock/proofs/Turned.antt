@@ -1,0 +1,101 @@
+-- A call that takes the value with one history and gives it back with another, as its worker sees it.
+use Rattle.std.proofs.Common.{◌≡◌, ◌∙◌, ℕ, List, true, false, sym, ap, subst}
+use Rattle.std.specs.Prelude.{IfOk, OnOk, Result, Ok, Err}
+use Rattle.pool_ledger.specs.declared.entry.Entry.{Entry}
+use Rattle.pool_ledger.specs.declared.entry.Event.TheVariants.{Pin}
+use Rattle.pool_ledger.specs.History.{History, open_task}
+use Rattle.pool_ledger.specs.Blocks.{worker_pin}
+use Rattle.pool_ledger.specs.Journal.{history_of, journal_of}
+use Rattle.pool_ledger.specs.Workers.{entries_of}
+use Rattle.block_store.specs.declared.block.Block.{Block}
+use Rattle.memory_core.specs.declared.admission.Admission.{Admission as Answer}
+use Rattle.memory_core.specs.declared.admission.Admission.TheVariants.{Admitted, Refused, Resident as AlreadyResident}
+use Rattle.memory_core.specs.declared.pinned.Pinned.{Pinned}
+use Rattle.memory_core.specs.declared.pinned.Pinned.TheVariants.{Hit, OnDisk as ReadBack, Miss}
+use Rattle.turn_lock.specs.Passes.{PassState, holding, resting}
+use Rattle.memory_lock.specs.Workers.{AddsAdmission, AddsPin, AddsRemovals, AdmissionGrows, HasNoPin, KeepsPin, KeepsTask, PinGrows, RemovalGrows, own_entries}
+use Rattle.memory_lock.proofs.Deciding.{twice_reversed}
+use Rattle.memory_lock.proofs.Staying.{Stays, StaysPinned, pin_now}
+
+-- the worker of this number took the one and gave back the other
+pub record IsTurn (now given : PassState) (number : ℕ) (before after : List Entry) : Type 0 where
+  pub number_is : number ≡ now.number
+  pub same : given.number ≡ now.number
+  pub had : entries_of number before ≡ own_entries now
+  pub gave : own_entries given ≡ entries_of number after
+  pub seen : given.seen ≡ after
+
+pub turned : (pass now taken given : PassState) (number : ℕ) (before after : List Entry) → pass ≡ now → number ≡ pass.number
+    → entries_of pass.number before ≡ entries_of pass.number pass.seen → taken ≡ holding before pass → given ≡ resting after taken → IsTurn now given number before after
+turned pass now taken given number before after is number_is own take give =
+    let whole : given ≡ resting after (holding before pass) = give ∙ ap (resting after) take in record {
+      number_is = number_is ∙ ap (λ (p : PassState). p.number) is;
+      same = ap (λ (p : PassState). p.number) whole ∙ ap (λ (p : PassState). p.number) is;
+      had = ap (λ (n : ℕ). entries_of n before) number_is ∙ own ∙ ap own_entries is;
+      gave = ap own_entries whole ∙ ap (λ (n : ℕ). entries_of n after) (sym number_is);
+      seen = ap (λ (p : PassState). p.seen) whole;
+    }
+
+-- ---- what stays
+
+pub keeps_task : (now given : PassState) (number : ℕ) (before after : List Entry) → IsTurn now given number before after → Stays number before after → KeepsTask now given
+keeps_task now given number before after turn stays =
+    ap (λ (es : List Entry). open_task (history_of es) given.number) turn.gave
+    ∙ ap (open_task (history_of (entries_of number after))) (turn.same ∙ sym turn.number_is) ∙ stays
+    ∙ ap (open_task (history_of (entries_of number before))) turn.number_is
+    ∙ ap (λ (es : List Entry). open_task (history_of es) now.number) turn.had
+
+pub keeps_pin : (now given : PassState) (number : ℕ) (before after : List Entry) → IsTurn now given number before after → StaysPinned number before after → KeepsPin now given
+keeps_pin now given number before after turn stays =
+    ap (λ (es : List Entry). worker_pin (history_of es) given.number) turn.gave
+    ∙ ap (worker_pin (history_of (entries_of number after))) (turn.same ∙ sym turn.number_is) ∙ stays
+    ∙ ap (worker_pin (history_of (entries_of number before))) turn.number_is
+    ∙ ap (λ (es : List Entry). worker_pin (history_of es) now.number) turn.had
+
+-- ---- what is added
+
+-- what is said of the entries in words of the state is so in words of the worker
+said : (P : ℕ → List Entry → List Entry → History → Type 0) (now given : PassState) (number : ℕ) (before : List Entry) (history : History) → IsTurn now given number before (journal_of history)
+    → P number (entries_of number before) (entries_of number (journal_of history)) history → P now.number (own_entries now) (own_entries given) (history_of given.seen)
+said P now given number before history turn is =
+    let seen : history ≡ history_of given.seen = sym (ap history_of turn.seen ∙ twice_reversed history) in
+    subst (P now.number (own_entries now) (own_entries given)) seen
+    (subst (λ (es : List Entry). P now.number (own_entries now) es history) (sym turn.gave)
+    (subst (λ (es : List Entry). P now.number es (entries_of number (journal_of history)) history) turn.had
+    (subst (λ (n : ℕ). P n (entries_of number before) (entries_of number (journal_of history)) history) turn.number_is is)))
+
+as_admission : (answer : Answer) (block : Block) (size : ℕ) (now given : PassState) → AdmissionGrows answer block size now.number (own_entries now) (own_entries given) (history_of given.seen)
+    → AddsAdmission answer block size now given
+as_admission Admitted block size now given is = is
+as_admission Refused block size now given is = is
+as_admission AlreadyResident block size now given is = is
+
+as_pin : (pinned : Pinned) (dataset part : ℕ) (now given : PassState) → given.number ≡ now.number → HasNoPin now
+    → PinGrows pinned now.number dataset part (own_entries now) (own_entries given) (history_of given.seen) → AddsPin pinned dataset part now given
+as_pin (Hit block) dataset part now given same free is =
+    (is, ap (worker_pin (history_of (own_entries given))) same ∙ ap (λ (es : List Entry). worker_pin (history_of es) now.number) is ∙ pin_now now.number (Pin dataset part false) (own_entries now))
+as_pin (ReadBack block) dataset part now given same free is =
+    (is, ap (worker_pin (history_of (own_entries given))) same ∙ ap (λ (es : List Entry). worker_pin (history_of es) now.number) is ∙ pin_now now.number (Pin dataset part true) (own_entries now) ∙ free)
+as_pin Miss dataset part now given same free is =
+    (is.0, ap (worker_pin (history_of (own_entries given))) same ∙ ap (λ (es : List Entry). worker_pin (history_of es) now.number) is.0 ∙ free, is.1)
+
+module _ {E : Type 0} where
+  pub admission_adds : (result : Result Answer E) (block : Block) (size : ℕ) (now given : PassState) (number : ℕ) (before : List Entry) (history : History) → IsTurn now given number before (journal_of history)
+      → IfOk result (λ answer. AdmissionGrows answer block size number (entries_of number before) (entries_of number (journal_of history)) history)
+      → IfOk result (λ answer. AddsAdmission answer block size now given)
+  admission_adds (Ok answer) block size now given number before history turn is =
+      as_admission answer block size now given (said (AdmissionGrows answer block size) now given number before history turn is)
+  admission_adds (Err e) block size now given number before history turn is = tt
+
+  pub pin_adds : (result : Result Pinned E) (dataset part : ℕ) (now given : PassState) (number : ℕ) (before : List Entry) (history : History) → IsTurn now given number before (journal_of history) → HasNoPin now
+      → IfOk result (λ pinned. PinGrows pinned number dataset part (entries_of number before) (entries_of number (journal_of history)) history)
+      → IfOk result (λ pinned. AddsPin pinned dataset part now given)
+  pin_adds (Ok pinned) dataset part now given number before history turn free is =
+      as_pin pinned dataset part now given turn.same free
+      (said (λ (n : ℕ) (had has : List Entry) (h : History). PinGrows pinned n dataset part had has h) now given number before history turn is)
+  pin_adds (Err e) dataset part now given number before history turn free is = tt
+
+  pub removals_add : {T : Type 0} (result : Result T E) (dataset : ℕ) (now given : PassState) (number : ℕ) (before : List Entry) (history : History) → IsTurn now given number before (journal_of history)
+      → OnOk result (RemovalGrows dataset number (entries_of number before) (entries_of number (journal_of history)) history) → OnOk result (AddsRemovals dataset now given)
+  removals_add (Ok done) dataset now given number before history turn is = said (RemovalGrows dataset) now given number before history turn is
+  removals_add (Err e) dataset now given number before history turn is = tt
