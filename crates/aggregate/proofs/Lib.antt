@@ -3,3 +3,4 @@ pub mod KeyOrder
 pub mod Numbers
 pub mod Combining
 pub mod CombinedLaws
+pub mod Totalling

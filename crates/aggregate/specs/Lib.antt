@@ -1,3 +1,4 @@
 pub mod Spelling
 pub mod Partial
 pub mod PartialLaws
+pub mod Totals

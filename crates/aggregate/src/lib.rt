@@ -9,6 +9,7 @@ mod name;
 mod partial;
 #[cfg(test)]
 mod tests;
+mod total;
 
 pub use agg_list::{Agg, AggList};
 pub use field_key::{
@@ -21,3 +22,4 @@ pub use partial::{
     combine, combine_is_associative, finish, numbers_come_back, partials_are_sixteen_bytes,
     put_partial, sums_are_exact,
 };
+pub use total::totals_stay_equal;

@@ -1,0 +1,14 @@
+//! What a list of entries comes to.
+
+ghost use Rattle.aggregate.specs.declared.kind.Kind.{Kind};
+ghost use Rattle.aggregate.specs.Totals.{TotalsStayEqual};
+
+use crate::partial::combine_is_associative;
+
+/// Lists of entries that come to the same still do so behind one front, and with one more entry at their
+/// end. So entries may be spilled and merged in parts. It does nothing when run.
+pub fn totals_stay_equal()
+    ensures { (kind : Kind) → TotalsStayEqual kind }
+{
+    combine_is_associative();
+}
