@@ -4,6 +4,8 @@
 mod answers;
 mod boxed;
 mod consumer;
+mod members;
 
 pub use answers::{Fed, Turn};
 pub use consumer::Consumer;
+pub use members::{begin_at, feed_at, grant_at, is_empty_at, least_at, reset_at, turn_at, used_at};
