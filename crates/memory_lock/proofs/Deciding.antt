@@ -1,5 +1,5 @@
 -- A worker's own entries decide what a state says of it and of its task.
-use Rattle.std.proofs.Common.{◌≡◌, ◌∙◌, ◌∷◌, [], ℕ, List, Option, Some, refl, sym, ap, subst, inl, inr}
+use Rattle.std.proofs.Common.{◌≡◌, ◌≤◌, ◌∙◌, ◌∷◌, [], ℕ, List, Option, Some, arith, refl, sym, ap, subst, inl, inr}
 use Rattle.std.specs.Prelude.{reverse, ◌==◌}
 use Rattle.std.proofs.lemmas.Bool.{cases_Bool, eqb-true}
 use Rattle.std.proofs.lemmas.Grind.{reverse_onto}
@@ -12,9 +12,10 @@ use Rattle.pool_ledger.specs.History.{History, open_task, task_after}
 use Rattle.pool_ledger.specs.Journal.{history_of, journal_of}
 use Rattle.pool_ledger.specs.Legal.{IsPermitted}
 use Rattle.pool_ledger.specs.Workers.{entries_of}
+use Rattle.pool_laws.specs.Laws.{KeepsLaws}
 use Rattle.pool_laws.specs.Owners.{AreOwned, IsByOwner, TellsTask, TellsWorker}
 use Rattle.memory_core.specs.Caches.{Memory, RowsByName}
-use Rattle.memory_lock.specs.Fitting.{FitsBasis, OwnDecides, OwnerDecides, OwnTaskDecides, OwnEntriesDecide, own_in}
+use Rattle.memory_lock.specs.Fitting.{FitsBasis, OwnDecides, OwnerDecides, OwnTaskDecides, OwnEntriesDecide, TasksFitPool, own_in}
 
 pub twice_reversed : (xs : List Entry) → reverse (reverse xs) ≡ xs
 twice_reversed [] = refl
@@ -57,6 +58,15 @@ module _ (tells_worker : (journal : List Entry) (worker : ℕ) → TellsWorker (
       let there : open_task memory.history number ≡ Some task = (of_worker sizes owner given memory number fits).open_is ∙ now in
       let its = open_is_owned owner memory.history number task fits.owned there in
       record { open_is = there; holds = (of_task sizes owner given memory number task fits its).holds }
+
+  -- what a task holds is part of what all hold
+  pub fit_pool : ((sizes : Sizes) (history : History) → sizes.region ≤ sizes.maximum → IsPermitted sizes history → KeepsLaws sizes history) → TasksFitPool
+  fit_pool laws sizes owner given before after number task range was fits now =
+      let its = open_is_owned owner before.history number task was.owned (of_own_task sizes owner given before number task was now).open_is in
+      let holds = (of_task sizes owner given after number task fits its).holds in
+      let law = laws sizes after.history range fits.legal.permitted in
+      let part = law.tasks_fit task in
+      record { holds = holds; most = omega (arith, holds, part, law.never_passes.exec_fits, law.never_passes.pools_add_up) }
 
   pub decide : OwnEntriesDecide
   decide = record { worker = of_worker; task = of_task; own_task = of_own_task }

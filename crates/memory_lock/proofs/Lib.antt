@@ -1,4 +1,5 @@
 pub mod Deciding
+pub mod Holding
 pub mod Pushed
 pub mod Evicted
 pub mod Answering

@@ -1,15 +1,17 @@
 -- A call that takes the value with one history and gives it back with another, as its worker sees it.
-use Rattle.std.proofs.Common.{◌≡◌, ◌∙◌, ℕ, List, true, false, sym, ap, subst}
-use Rattle.std.specs.Prelude.{IfOk, OnOk, Result, Ok, Err}
+use Rattle.std.proofs.Common.{◌≡◌, ◌+◌, ◌∙◌, ℕ, List, true, false, sym, ap, subst}
+use Rattle.std.specs.Prelude.{IfOk, OnOk, Result, Ok, Err, unwrap_or}
 use Rattle.pool_ledger.specs.declared.entry.Entry.{Entry}
 use Rattle.pool_ledger.specs.declared.entry.Event.TheVariants.{Pin}
-use Rattle.pool_ledger.specs.History.{History, open_task}
+use Rattle.pool_ledger.specs.History.{History, held, open_task}
 use Rattle.pool_ledger.specs.Blocks.{worker_pin}
 use Rattle.pool_ledger.specs.Journal.{history_of, journal_of}
 use Rattle.pool_ledger.specs.Workers.{entries_of}
 use Rattle.block_store.specs.declared.block.Block.{Block}
 use Rattle.memory_core.specs.declared.admission.Admission.{Admission as Answer}
 use Rattle.memory_core.specs.declared.admission.Admission.TheVariants.{Admitted, Refused, Resident as AlreadyResident}
+use Rattle.memory_core.specs.declared.attempted.Attempted.{Attempted}
+use Rattle.memory_core.specs.Attempts.{granted_in}
 use Rattle.memory_core.specs.declared.pinned.Pinned.{Pinned}
 use Rattle.memory_core.specs.declared.pinned.Pinned.TheVariants.{Hit, OnDisk as ReadBack, Miss}
 use Rattle.turn_lock.specs.Passes.{PassState, holding, resting}
@@ -99,3 +101,17 @@ module _ {E : Type 0} where
       → OnOk result (RemovalGrows dataset number (entries_of number before) (entries_of number (journal_of history)) history) → OnOk result (AddsRemovals dataset now given)
   removals_add (Ok done) dataset now given number before history turn is = said (RemovalGrows dataset) now given number before history turn is
   removals_add (Err e) dataset now given number before history turn is = tt
+
+-- ---- what is held
+
+-- what the worker's task holds, by the state that was given back and by the worker
+pub held_after : {now given : PassState} {number : ℕ} {before after : List Entry} → IsTurn now given number before after → (task again : ℕ) → again ≡ task
+    → held (history_of (entries_of number after)) again ≡ held (history_of (own_entries given)) task
+held_after {now} {given} {number} {before} {after} turn task again is =
+    ap (held (history_of (entries_of number after))) is ∙ ap (λ (es : List Entry). held (history_of es) task) (sym turn.gave)
+
+module _ {E : Type 0} where
+  pub grows_as : (result : Result Attempted E) (one other one' other' : ℕ) → one ≡ other → one' ≡ other' → IfOk result (λ got. one' ≡ one + unwrap_or (granted_in got) 0)
+      → IfOk result (λ got. other' ≡ other + unwrap_or (granted_in got) 0)
+  grows_as result one other one' other' was now is =
+      subst (λ (n : ℕ). IfOk result (λ got. n ≡ other + unwrap_or (granted_in got) 0)) now (subst (λ (n : ℕ). IfOk result (λ got. one' ≡ n + unwrap_or (granted_in got) 0)) was is)

@@ -1,6 +1,6 @@
 -- What holds of the state whenever no thread has it, and what a worker's own entries tell of it.
 -- This project's own.
-use Rattle.std.specs.Prelude.{ℕ, ◌≡◌, Option, Some, List}
+use Rattle.std.specs.Prelude.{ℕ, ◌≡◌, ◌≤◌, Option, Some, List}
 use Rattle.pool_ledger.specs.declared.entry.Entry.{Entry}
 use Rattle.pool_ledger.specs.Sizes.{Sizes}
 use Rattle.pool_ledger.specs.History.{History, held, open_task, was_begun}
@@ -41,6 +41,18 @@ pub record OwnerDecides (memory : Memory) (worker task : ℕ) : Type 0 where
 pub record OwnTaskDecides (memory : Memory) (worker task : ℕ) : Type 0 where
   pub open_is : open_task memory.history worker ≡ Some task
   pub holds : held memory.history task ≡ held (own_in worker memory) task
+
+-- what a state says that a task holds is what its worker's own entries say, and it is within the pool
+pub record HoldsWithinPool (sizes : Sizes) (memory : Memory) (number task : ℕ) : Type 0 where
+  pub holds : held memory.history task ≡ held (own_in number memory) task
+  pub most : held (own_in number memory) task ≤ sizes.maximum
+
+-- the same of a worker's open task after a call
+abbrev pub TasksFitPool : Type 0
+TasksFitPool =
+    (sizes : Sizes) (owner : ℕ → Option ℕ) (given : RowsByName) (before after : Memory) (number task : ℕ) → sizes.region ≤ sizes.maximum
+    → FitsBasis sizes owner given before → FitsBasis sizes owner given after → open_task (own_in number before) number ≡ Some task
+    → HoldsWithinPool sizes after number task
 
 -- a worker's own entries decide
 pub record OwnEntriesDecide : Type 0 where

@@ -51,6 +51,11 @@ AddsAttempt worker task asked got before after =
 abbrev pub IsWait : ℕ → ℕ → ℕ → Entry → Type 0
 IsWait worker task asked entry = (moved evictions : ℕ) × (entry ≡ entry_by worker (Attempt task asked moved evictions None))
 
+-- a grant is at most what was asked
+abbrev pub IsAtMost : ℕ → Option ℕ → Type 0
+IsAtMost asked (Some granted) = granted ≤ asked
+IsAtMost asked None = Unit {0}
+
 -- these entries are those before, and attempts of the task that were told to wait, with their evictions
 abbrev pub AddsWaits : ℕ → ℕ → ℕ → List Entry → List Entry → Type 0
 AddsWaits worker task asked before after =

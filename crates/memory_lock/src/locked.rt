@@ -1,6 +1,6 @@
 //! The state under the lock: each call's conditions and effects in words of a worker's own entries.
 
-ghost use Rattle.std.specs.Prelude.{◌≡◌, ◌<◌, ◌≤◌, ◌^◌, Option, Some, None, [], ◌∷◌, ◌++◌, false, min, IfOk, OnOk, OnErr};
+ghost use Rattle.std.specs.Prelude.{◌≡◌, ◌<◌, ◌≤◌, ◌+◌, ◌^◌, Option, unwrap_or, Some, None, [], ◌∷◌, ◌++◌, false, min, IfOk, OnOk, OnErr};
 ghost use Rattle.std.specs.Arc.{arc_value};
 ghost use Rattle.row_page.specs.Spelling.{page_cost};
 ghost use Rattle.pool_ledger.specs.Blocks.{worker_pin};
@@ -11,13 +11,13 @@ ghost use Rattle.pool_ledger.specs.declared.entry.Event.TheVariants.{Begin, Rele
 ghost use Rattle.pool_laws.specs.Growing.{entry_by};
 ghost use Rattle.memory_core.specs.Attempts.{granted_in};
 ghost use Rattle.memory_core.specs.Caches.{AreGiven};
-ghost use Rattle.memory_lock.specs.Fitting.{FitsBasis, OwnEntriesDecide, own_in};
-ghost use Rattle.memory_lock.specs.Workers.{AddsAttempt, AdmissionGrows, HandsRows, PinGrows, RemovalGrows};
+ghost use Rattle.memory_lock.specs.Fitting.{FitsBasis, OwnEntriesDecide, TasksFitPool, own_in};
+ghost use Rattle.memory_lock.specs.Workers.{AddsAttempt, AdmissionGrows, HandsRows, IsAtMost, PinGrows, RemovalGrows};
 
 use crate::basis::Basis;
 use block_store::Block;
 use memory_core::{Admission, Attempted, MemoryState, Pinned};
-use pool_laws::own_entries_tell;
+use pool_laws::{own_entries_tell, permitted_histories_keep_laws};
 use pool_ledger::{Journal, Setup};
 use spill_disk::Disk;
 use std::alloc::{AllocError, Global};
@@ -51,6 +51,14 @@ impl<K: Disk, B: Basis> Kept<B> for Locked<K> {
     ghost history = { λ locked. journal_of locked.history };
 
     ghost fact = { λ locked. FitsBasis B.sizes B.owner B.rows locked };
+}
+
+// What a task holds is within the pool, by its owner's entries.
+fn tasks_fit_the_pool()
+    ensures { TasksFitPool }
+{
+    own_entries_tell();
+    permitted_histories_keep_laws();
 }
 
 // A worker's own entries tell what the whole journal would.
@@ -116,13 +124,19 @@ impl<K: Disk> Locked<K> {
         requires its_task { open_task (own_in worker self.old) worker ≡ Some task }
         requires some_asked { 1 ≤ asked }
         requires few_asked { asked ≤ 2 ^ 50 }
+        requires range { B.sizes.region ≤ B.sizes.maximum }
         ensures fits { FitsBasis B.sizes B.owner B.rows self.new }
         ensures own { Continues worker (journal_of self.old.history) (journal_of self.new.history) }
         ensures ok { IfOk result (λ got. AddsAttempt worker task asked (granted_in got)
             (entries_of worker (journal_of self.old.history)) (entries_of worker (journal_of self.new.history))) }
+        ensures few { IfOk result (λ got. IsAtMost asked (granted_in got)) }
+        ensures grows { IfOk result (λ got. held (own_in worker self.new) task
+            ≡ held (own_in worker self.old) task + unwrap_or (granted_in got) 0) }
+        ensures holds { held (own_in worker self.new) task ≤ B.sizes.maximum }
         ensures err { OnErr result (journal_of self.new.history ≡ journal_of self.old.history) }
     {
         own_entries_decide();
+        tasks_fit_the_pool();
         let answer = self.state.attempt(worker, task, asked);
         let _legal = self.state.entries();
         answer

@@ -36,7 +36,7 @@ impl<K: Disk, B: Basis> Model for Manager<K, B> {
 }
 
 impl<K: Disk, B: Basis> Manager<K, B> {
-    ghost use Rattle.std.specs.Prelude.{◌≡◌, ◌≤◌, ◌^◌, ◌∷◌, [], Some, false, min, IfOk, IfErr, OnOk, OnErr};
+    ghost use Rattle.std.specs.Prelude.{◌≡◌, ◌≤◌, ◌+◌, ◌^◌, ◌∷◌, [], Some, unwrap_or, false, min, IfOk, IfErr, OnOk, OnErr};
     ghost use Rattle.std.specs.Arc.{arc_value};
     ghost use Rattle.row_page.specs.Spelling.{page_cost};
     ghost use Rattle.pool_ledger.specs.History.{held, was_begun};
@@ -44,7 +44,7 @@ impl<K: Disk, B: Basis> Manager<K, B> {
     ghost use Rattle.pool_laws.specs.Growing.{entry_by};
     ghost use Rattle.memory_core.specs.Attempts.{granted_in};
     ghost use Rattle.memory_core.specs.Caches.{AreGiven};
-    ghost use Rattle.memory_lock.specs.Workers.{Adds, AddsAdmission, AddsAttempt, AddsGrant, AddsPin, AddsRemovals, AddsWaits, HandsRows, HasNoPin, HasPin, IsFree, IsOpen, KeepsPin, KeepsTask, SeesMore, own_entries, own_of};
+    ghost use Rattle.memory_lock.specs.Workers.{Adds, AddsAdmission, AddsAttempt, AddsGrant, AddsPin, AddsRemovals, AddsWaits, HandsRows, HasNoPin, HasPin, IsAtMost, IsFree, IsOpen, KeepsPin, KeepsTask, SeesMore, own_entries, own_of};
 
     /// The sizes that the pool started with. It takes no turn.
     pub fn setup(&self) -> &Setup
@@ -105,7 +105,7 @@ impl<K: Disk, B: Basis> Manager<K, B> {
 
     /// Asks for bytes, 1 to 2^50, until the answer isn't to wait, and sleeps between two attempts. Each
     /// attempt has its entry, behind its evictions. After an `Err` the entries that it added are attempts that were
-    /// told to wait, and evictions.
+    /// told to wait, and evictions. What the task holds is never more than the pool.
     pub fn acquire<R: Wait + Sync>(
         &self,
         rt: &R,
@@ -118,6 +118,9 @@ impl<K: Disk, B: Basis> Manager<K, B> {
         requires some_asked { 1 ≤ asked }
         requires few_asked { asked ≤ 2 ^ 50 }
         ensures ok { IfOk result (λ got. AddsGrant worker.old.number task.now asked got (own_entries worker.old) (own_entries worker.new)) }
+        ensures few { IfOk result (λ got. got ≤ asked) }
+        ensures grows { IfOk result (λ got. held (own_of worker.new) task.now ≡ held (own_of worker.old) task.now + got) }
+        ensures holds { IfOk result (λ _. held (own_of worker.new) task.now ≤ B.sizes.maximum) }
         ensures err { OnErr result (AddsWaits worker.old.number task.now asked (own_entries worker.old) (own_entries worker.new)) }
         ensures its_task { IsOpen worker.new task.now }
         ensures pin { KeepsPin worker.old worker.new }
@@ -279,11 +282,17 @@ impl<K: Disk, B: Basis> Manager<K, B> {
         requires some_asked { 1 ≤ asked }
         requires few_asked { asked ≤ 2 ^ 50 }
         ensures ok { IfOk result (λ got. AddsAttempt worker.old.number task.now asked (granted_in got) (own_entries worker.old) (own_entries worker.new)) }
+        ensures few { IfOk result (λ got. IsAtMost asked (granted_in got)) }
+        ensures grows { IfOk result (λ got. held (own_of worker.new) task.now
+            ≡ held (own_of worker.old) task.now + unwrap_or (granted_in got) 0) }
+        ensures holds { held (own_of worker.new) task.now ≤ B.sizes.maximum }
         ensures err { OnErr result (own_entries worker.new ≡ own_entries worker.old) }
         ensures its_task { IsOpen worker.new task.now }
         ensures pin { KeepsPin worker.old worker.new }
         ensures sees { SeesMore worker.old worker.new }
     {
+        // Its range is known with it.
+        let _max = self.setup.max();
         let number = worker.pass.number();
         let mut locked = self.lock.take(rt, &mut worker.pass);
         let first = locked.asks_first(number);
