@@ -1,0 +1,12 @@
+//! The entries that a spiller keeps.
+
+ghost use Rattle.std.specs.Prelude.{◌≤◌, length};
+
+/// A key and its value.
+#[derive(Drop)]
+pub struct Row {
+    pub key: Vec<u8>,
+    pub value: Vec<u8>,
+    ghost key_fits: { length key.items ≤ 131152 },
+    ghost value_fits: { length value.items ≤ 65568 },
+}

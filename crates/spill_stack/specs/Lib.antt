@@ -1,0 +1,14 @@
+pub mod Faults
+pub mod Accounts
+pub mod Attempts
+pub mod Going
+pub mod Asks
+pub mod Disks
+pub mod RunLists
+pub mod Writing
+pub mod Pauses
+pub mod Scenes
+pub mod Serving
+pub mod Asking
+pub mod Feeding
+pub mod Ending
