@@ -1,10 +1,11 @@
 -- A run that is put behind those of one consumer.
-use Rattle.std.proofs.Common.{◌≡◌, ◌≢◌, ◌⊎◌, inl, inr, ℕ, zero, suc, ◌<◌, List, [], ◌∷◌, ◌++◌, All, length, get_or, set, Result, Ok, Err, OnErr, refl, sym, ap, subst, ◌∙◌, arith, append-nil}
+use Rattle.std.proofs.Common.{◌≡◌, ◌≢◌, ◌⊎◌, inl, inr, ℕ, zero, suc, ◌<◌, List, [], ◌∷◌, ◌++◌, All, length, get_or, set, Result, Ok, Err, OnErr, refl, sym, ap, subst, ◌∙◌, arith}
 use Rattle.std.specs.Global.{Vec}
 use Rattle.std.proofs.lemmas.List.{map-set, get_or-map, set-get_or, get_or-set_same, get_or-set_other}
 use Rattle.std.proofs.lemmas.List.Elements.{All-append}
-use mathlib.Core.List.{IsPrefix}
 use Rattle.run_file.specs.declared.run.Run.{Run}
+use Rattle.spill_stack.proofs.Places.{at_or_not}
+use Rattle.spill_stack.proofs.Holding.{prefix_self}
 use Rattle.spill_stack.specs.RunLists.{lists_of, runs_at, run_at, no_run, IsBounded, AreBounded, AreApart}
 use Rattle.spill_stack.specs.Serving.{RunsGrow}
 
@@ -24,12 +25,6 @@ lists_same vectors i default vector within is =
 pub on_err_always : {T E P : Type 0} (result : Result T E) → P → OnErr result P
 on_err_always (Ok x) p = tt
 on_err_always (Err e) p = p
-
-pub at_or_not : (i j : ℕ) → (i ≡ j) ⊎ (i ≢ j)
-at_or_not i j = grind arith
-
-pub prefix_self : (runs : List Run) → IsPrefix runs runs
-prefix_self runs = ([], append-nil runs)
 
 -- the runs with one more behind those at a place
 abbrev pub with_run : List (List Run) → ℕ → Run → List (List Run)

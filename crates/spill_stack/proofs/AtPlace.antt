@@ -16,7 +16,9 @@ use Rattle.spill_stack.specs.RunLists.{runs_at, spilled_at, gathered_total, IsRu
 use Rattle.spill_stack.specs.Serving.{KeepsRuns, SpillsAt}
 use Rattle.spill_stack.specs.Writing.{WritesRun}
 use Rattle.spill_stack.proofs.Midways.{total-append}
-use Rattle.spill_stack.proofs.AddingRuns.{at_or_not, prefix_self, with_run, bounded_more, grow_more}
+use Rattle.spill_stack.proofs.Places.{at_or_not}
+use Rattle.spill_stack.proofs.Holding.{prefix_self}
+use Rattle.spill_stack.proofs.AddingRuns.{with_run, bounded_more, grow_more}
 use Rattle.spill_stack.proofs.HeldRuns.{hold_same, hold_more}
 
 -- no entry of one consumer is lost

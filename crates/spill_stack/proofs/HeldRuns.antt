@@ -18,7 +18,8 @@ use Rattle.spill_stack.specs.Disks.{KeepsFiles}
 use Rattle.spill_stack.specs.RunLists.{runs_at, run_at, no_run, spilled_at, IsRunOf, HaveEntries, HoldRuns}
 use Rattle.spill_stack.specs.Writing.{WasNotThere}
 use Rattle.spill_stack.proofs.Written.{none_or_some, telling_after}
-use Rattle.spill_stack.proofs.AddingRuns.{at_or_not, with_run, apart_more}
+use Rattle.spill_stack.proofs.Places.{at_or_not}
+use Rattle.spill_stack.proofs.AddingRuns.{with_run, apart_more}
 
 stands_kept : (before after : Option Files) (run : Run) (rows : List (List (List ℕ))) → KeepsFiles before after → Stands before run rows → Stands after run rows
 stands_kept None after run rows kept h = absurd h

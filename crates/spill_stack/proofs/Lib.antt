@@ -13,7 +13,6 @@ pub mod Midways
 pub mod Underway
 pub mod HeldRuns
 pub mod AtPlace
-pub mod SameAt
 pub mod Emptied
 pub mod Granted
 pub mod Opening
@@ -24,3 +23,5 @@ pub mod Fed
 pub mod Refused
 pub mod Acquired
 pub mod SecondRefusal
+pub mod Scripted
+pub mod Starting

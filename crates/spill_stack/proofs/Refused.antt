@@ -85,6 +85,7 @@ lacks_room old new entry must asked most refused = record {
   out = subst (λ (n : ℕ). IsOutOfRoom new n) (sym refused.same) refused.out;
   few = λ nothing. let used = none_used old new refused.keeps refused.out.dry nothing in let same = refused.same in omega arith;
   balance = let balance = refused.keeps.balance in omega arith;
+  small = refused.keeps.ready.small;
 }
 
 -- a condition on a refusal's number, from another

@@ -65,6 +65,7 @@ lacks_after old mid new who must asked entry raises lacks few = record {
       let here : i < length old.states = let members = raises.members in omega arith in
       (raises.others i here other).empty (nothing i here) none);
   balance = omega (arith, raises.balance, lacks.balance);
+  small = lacks.small;
 }
 
 -- a condition on a refusal's number, from two

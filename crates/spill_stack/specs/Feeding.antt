@@ -87,6 +87,7 @@ pub record LacksRoom (old new : Scene) (entry : Entry) (asked : ℕ) : Type 0 wh
   pub out : IsOutOfRoom new asked
   pub few : EmptyUseNothing old.states → asked + used_by new.states ≤ cost entry
   pub balance : new.account.held + used_by old.states ≡ old.account.held + used_by new.states
+  pub small : new.account.held ≤ 2 ^ 50
 
 -- a condition on the numbers of a refusal for want of room
 abbrev pub IfNoRoom : {T : Type 0} → Result T SpillFault → (ℕ → Type 0) → Type 0

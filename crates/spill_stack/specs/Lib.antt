@@ -12,3 +12,4 @@ pub mod Serving
 pub mod Asking
 pub mod Feeding
 pub mod Ending
+pub mod Scripts

@@ -4,7 +4,7 @@ use Rattle.std.proofs.lemmas.List.{length-map}
 use Rattle.run_file.specs.declared.run.Run.{Run}
 use Rattle.spill_stack.specs.RunLists.{lists_of}
 use Rattle.spill_stack.proofs.AtPlace.{spills_at_is}
-use Rattle.spill_stack.proofs.SameAt.{all_same_at}
+use Rattle.spill_stack.proofs.Sameness.{all_same_at}
 use Rattle.spill_stack.proofs.spill.spill_at.Goals as goal
 
 pub returns-in_err-pause-clause-same : goal.returns-in_err-pause-clause-same

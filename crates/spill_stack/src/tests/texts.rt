@@ -1,0 +1,158 @@
+// Scripts as text, and what they are answered.
+use crate::tests::steps::{Note, Step};
+use crate::{SpillFault, Spills};
+use pool_ledger::{Entry, Event};
+use run_file::Run;
+use spill_disk::{Disk, MemoryDisk};
+use std::alloc::Global;
+use std::string::String;
+use std::test::Fail;
+
+/// The steps of a script: `acquire:C:MUST:WISH`, `feed:C:KEY` and `drain:C`, each up to a `=`.
+pub fn steps_of(alloc: Global, script: &str) -> Result<Vec<Step>, Fail> {
+    let mut steps = Vec::new(alloc);
+    for word in script.split(' ') {
+        let (step, _) = word.split_once('=').unwrap_or((word, ""));
+        steps.push(step_of(step)?)?;
+    }
+    Ok(steps)
+}
+
+fn step_of(step: &str) -> Result<Step, Fail> {
+    let (kind, rest) = step.split_once(':').ok_or("a step without a consumer")?;
+    let (consumer, rest) = rest.split_once(':').unwrap_or((rest, ""));
+    let consumer: usize = consumer.parse()?;
+    if kind == "drain" {
+        return Ok(Step::Drain { consumer });
+    }
+    if kind == "feed" {
+        let key = *rest.as_bytes().first().ok_or("a feed without a key")?;
+        return Ok(Step::Feed { consumer, key });
+    }
+    if kind != "acquire" {
+        return Err("an unknown step".into());
+    }
+    let (must, wish) = rest.split_once(':').ok_or("an acquire without a wish")?;
+    Ok(Step::Acquire {
+        consumer,
+        must: must.parse()?,
+        wish: wish.parse()?,
+    })
+}
+
+/// The script's steps with their answers: `=GOT/USES`, or `=no_room:ASKED`, `=disk_fault` or `=no_memory`.
+pub fn answers_of(alloc: Global, script: &str, notes: &[Note]) -> Result<String, Fail> {
+    let mut answers = String::new(alloc);
+    let mut count = 0usize;
+    for word in script.split(' ') {
+        let Some(note) = notes.get(count) else {
+            break;
+        };
+        let (step, _) = word.split_once('=').unwrap_or((word, ""));
+        if count > 0 {
+            answers.push(' ')?;
+        }
+        answers.push_str(step)?;
+        answers.push_str(answer_of(alloc, note)?.as_str())?;
+        count = count.saturating_add(1);
+    }
+    Ok(answers)
+}
+
+fn answer_of(alloc: Global, note: &Note) -> Result<String, Fail> {
+    let [first, second, third, fourth] = note.uses;
+    Ok(match note.answer {
+        Ok(got) => format!(in alloc; "={got}/{first}.{second}.{third}.{fourth}")?,
+        Err(SpillFault::NoRoom { asked }) => format!(in alloc; "=no_room:{asked}")?,
+        Err(SpillFault::DiskFault) => format!(in alloc; "=disk_fault")?,
+        Err(SpillFault::NoMemory) => format!(in alloc; "=no_memory")?,
+    })
+}
+
+/// The runs of all consumers, which it takes: `C:FILE:KEYS` for each.
+pub fn runs_of(alloc: Global, disk: &mut MemoryDisk, spills: &mut Spills) -> Result<String, Fail> {
+    let mut text = String::new(alloc);
+    for consumer in 0..4usize {
+        if consumer >= spills.runs.len() {
+            break;
+        }
+        let runs = spills.take_runs(consumer);
+        for run in &runs {
+            if !text.is_empty() {
+                text.push(' ')?;
+            }
+            let file = run.file;
+            text.push_str(format!(in alloc; "{consumer}:{file}:")?.as_str())?;
+            push_keys(disk, run, &mut text)?;
+        }
+    }
+    Ok(text)
+}
+
+// The keys of a run, of rows with a key of one byte and an empty value, as they stand on the disk.
+fn push_keys(disk: &mut MemoryDisk, run: &Run, text: &mut String) -> Result<(), Fail> {
+    if run.bytes != run.count.saturating_mul(13) {
+        return Err("a run of other rows".into());
+    }
+    for number in 0..run.count {
+        let mut row = [0u8; 13];
+        let place = number.saturating_mul(13);
+        // One call of the disk may fail, and the next one doesn't.
+        let count = match disk.read_at(run.file, place, &mut row) {
+            Ok(count) => count,
+            Err(_) => disk.read_at(run.file, place, &mut row)?,
+        };
+        let key = row[8];
+        if count != 13 || row != [0, 0, 0, 9, 0, 0, 0, 1, key, 0, 0, 0, 0] {
+            return Err("a row of another form".into());
+        }
+        text.push(char::from(key))?;
+    }
+    Ok(())
+}
+
+/// The script's answers where the step behind the first `answered` ones meets a fault of the disk.
+pub fn with_fault(alloc: Global, script: &str, answered: usize) -> Result<String, Fail> {
+    let mut answers = String::new(alloc);
+    let mut count = 0usize;
+    for word in script.split(' ') {
+        if count > 0 {
+            answers.push(' ')?;
+        }
+        if count >= answered {
+            let (step, _) = word.split_once('=').unwrap_or((word, ""));
+            answers.push_str(step)?;
+            answers.push_str("=disk_fault")?;
+            break;
+        }
+        answers.push_str(word)?;
+        count = count.saturating_add(1);
+    }
+    Ok(answers)
+}
+
+/// What was asked of the pool and granted, as `ASKED=GOT`, and what was given back, as `-BYTES`.
+pub fn pool_of(alloc: Global, entries: &[Entry]) -> Result<String, Fail> {
+    let mut text = String::new(alloc);
+    for entry in entries {
+        let step = match entry.event {
+            Event::Attempt {
+                asked,
+                got: None,
+                ..
+            } => format!(in alloc; "{asked}=wait")?,
+            Event::Attempt {
+                asked,
+                got: Some(got),
+                ..
+            } => format!(in alloc; "{asked}={got}")?,
+            Event::Release { freed, .. } if freed > 0 => format!(in alloc; "-{freed}")?,
+            _ => String::new(alloc),
+        };
+        if !text.is_empty() && !step.is_empty() {
+            text.push(' ')?;
+        }
+        text.push_str(step.as_str())?;
+    }
+    Ok(text)
+}
