@@ -1,0 +1,69 @@
+-- The runs of a consumer that was drained are taken: the others' stand as they did.
+use Rattle.std.proofs.Common.{◌≡◌, inl, inr, ℕ, ◌<◌, List, [], ◌++◌, Option, length, get_or, set, refl, sym, ap, subst, ◌∙◌, arith, append-nil}
+use Rattle.std.proofs.lemmas.List.{length-set, get_or-set_same, get_or-set_other}
+use Rattle.aggregate.specs.declared.kind.Kind.{Kind}
+use Rattle.aggregate.specs.Totals.{Entry}
+use Rattle.spill_disk.specs.Files.{Files}
+use Rattle.run_file.specs.declared.run.Run.{Run}
+use Rattle.consumer_trait.specs.States.{State, total_by}
+use Rattle.consumer_trait.specs.Members.{state_at}
+use Rattle.spill_stack.specs.Pauses.{AllSame}
+use Rattle.spill_stack.specs.RunLists.{runs_at, no_run, spilled_at, AreApart, HaveEntries, HoldRuns, KeepTotals}
+use Rattle.spill_stack.specs.Scenes.{Scene}
+use Rattle.task_memory.proofs.Places.{at_or_not}
+use Rattle.task_memory.specs.Draining.{DrainsTotals}
+
+none_at : (runs : List (List Run)) (who i : ℕ) → who < length runs → i ≡ who → length (runs_at (set runs who []) i) ≡ 0
+none_at runs who i within here = rw here (ap (λ (list : List Run). length list) (get_or-set_same runs who [] [] within))
+
+apart_less : (runs : List (List Run)) (who : ℕ) → who < length runs → AreApart runs → AreApart (set runs who [])
+apart_less runs who within apart i j k l below below' same = elim (at_or_not i who) [
+  | inl here ↦ absurd (let none = none_at runs who i within here in omega arith)
+  | inr other ↦ elim (at_or_not j who) [
+    | inl here ↦ absurd (let none = none_at runs who j within here in omega arith)
+    | inr other' ↦
+        let first : runs_at (set runs who []) i ≡ runs_at runs i = get_or-set_other runs who i [] [] other in
+        let second : runs_at (set runs who []) j ≡ runs_at runs j = get_or-set_other runs who j [] [] other' in
+        apart i j k l (subst (λ (list : List Run). k < length list) first below) (subst (λ (list : List Run). l < length list) second below')
+        (ap (λ (list : List Run). (get_or list k no_run).file) (sym first) ∙ same ∙ ap (λ (list : List Run). (get_or list l no_run).file) second)
+  ]
+]
+
+-- without the runs of one consumer and their entries, the others' stand
+hold_less : (files : Option Files) (states : List State) (runs : List (List Run)) (spilled : List (List Entry)) (who : ℕ) → who < length states → HoldRuns files states runs spilled → HoldRuns files states (set runs who []) (set spilled who [])
+hold_less files states runs spilled who within h =
+    let in_runs : who < length runs = let lists = h.lists in omega arith in
+    let in_spilled : who < length spilled = let lengths = h.lengths in omega arith in
+    record {
+      telling = h.telling;
+      lists = length-set runs who [] ∙ h.lists;
+      lengths = length-set spilled who [] ∙ h.lengths;
+      each = λ j below. elim (at_or_not j who) [
+        | inl here ↦ rw here (rw (get_or-set_same runs who [] [] in_runs, get_or-set_same spilled who [] [] in_spilled) refl)
+        | inr other ↦ rw (get_or-set_other runs who j [] [] other, get_or-set_other spilled who j [] [] other) (h.each j below)
+      ];
+      apart = apart_less runs who in_runs h.apart;
+    }
+
+pub drains_totals : (old new : Scene) (runs : List (List Run)) (who : ℕ) (taken : List Run) → who < length old.states → AllSame old.states new.states → KeepTotals old.files new.files old.states new.states old.runs runs → (state_at new.states who).entries ≡ [] → taken ≡ runs_at runs who → new.runs ≡ set runs who [] → DrainsTotals old new who taken
+drains_totals old new runs who taken within same totals empty is left = λ spilled hold.
+    let kept = totals spilled hold in
+    let spilled' : List (List Entry) = kept.0 in
+    let hold' : HoldRuns new.files new.states runs spilled' = kept.1 in
+    let drained : List Entry = spilled_at spilled' who in
+    let within' : who < length new.states = let members = same.members in omega arith in
+    let in_spilled : who < length spilled' = let lengths = hold'.lengths in omega arith in
+    let kind : (state_at new.states who).kind ≡ (state_at old.states who).kind = (same.each who within).kind in
+    let none : spilled_at (set spilled' who []) who ≡ [] = get_or-set_same spilled' who [] [] in_spilled in (
+      drained,
+      subst (λ (each : Option Kind). HaveEntries new.files each taken drained) kind (subst (λ (list : List Run). HaveEntries new.files (state_at new.states who).kind list drained) (sym is) (hold'.each who within')),
+      ap (λ (each : Option Kind). total_by each drained) (sym kind)
+          ∙ ap (λ (entries : List Entry). total_by (state_at new.states who).kind entries) (sym (append-nil drained) ∙ ap (λ (more : List Entry). drained ++ more) (sym empty))
+          ∙ kept.2 who within,
+      set spilled' who [],
+      subst (λ (lists : List (List Run)). HoldRuns new.files new.states lists (set spilled' who [])) (sym left) (hold_less new.files new.states runs spilled' who within' hold'),
+      ap (λ (entries : List Entry). entries ++ (state_at new.states who).entries) none ∙ empty,
+      λ i below other.
+          ap (λ (entries : List Entry). total_by (state_at new.states i).kind (entries ++ (state_at new.states i).entries)) (get_or-set_other spilled' who i [] [] other)
+          ∙ kept.2 i below,
+    )

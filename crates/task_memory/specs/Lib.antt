@@ -1,0 +1,5 @@
+pub mod Live
+pub mod Draining
+pub mod Starting
+pub mod Alone
+pub mod Scripts
