@@ -12,6 +12,8 @@ bytes that it got (0 but for an acquire) and what the four consumers use then, o
 import re
 import sys
 
+from pool_model import text
+
 NUMBERS = range(4)
 COST = 33  # 32, and a key of one byte with an empty value
 
@@ -300,19 +302,6 @@ FILES = ['scripts', 'choice_scripts', 'nested_scripts', 'part_scripts']
 
 def number(n):
     return f'{n:_}' if n >= 1000 else str(n)
-
-
-def text(words, indent, width=88):
-    """Words as one Rust string literal over lines."""
-    lines, line = [], ''
-    for word in words:
-        if line and len(line) + 1 + len(word) > width:
-            lines.append(line + ' \\')
-            line = word
-        else:
-            line = f'{line} {word}' if line else word
-    lines.append(line)
-    return '"' + ('\n' + ' ' * indent).join(lines) + '"'
 
 
 def table(names):
