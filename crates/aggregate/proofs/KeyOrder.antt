@@ -8,7 +8,7 @@ use Rattle.std.specs.declared.cmp.Ordering.TheVariants.{Less, Equal, Greater}
 use Rattle.aggregate.specs.Spelling.{spelled}
 use Rattle.aggregate.proofs.Spellings.{not-zero}
 
-then-then : (o p q : Ordering) → ordering_then o (ordering_then p q) ≡ ordering_then (ordering_then o p) q
+pub then-then : (o p q : Ordering) → ordering_then o (ordering_then p q) ≡ ordering_then (ordering_then o p) q
 then-then Less p q = refl
 then-then Equal p q = refl
 then-then Greater p q = refl

@@ -4,3 +4,6 @@ pub mod Numbers
 pub mod Combining
 pub mod CombinedLaws
 pub mod Totalling
+pub mod NumberKeys
+pub mod NumberOrder
+pub mod Ascending

@@ -1,8 +1,6 @@
 -- The total of a list with one more entry at its end.
-use Rattle.std.proofs.Common.{◌≡◌, ℕ, List, [], ◌∷◌, ◌++◌, refl, sym, ap, subst, ◌∙◌}
-use Rattle.std.specs.Cmp.{IsTotalOrder}
-use Rattle.std.specs.Ordering.{ordering_reverse, nat_cmp}
-use Rattle.std.specs.Cmp.Lexicographic.{slice_cmp}
+use Rattle.std.proofs.Common.{◌≡◌, ℕ, List, [], ◌∷◌, ◌++◌, refl, sym, ap, ◌∙◌}
+use Rattle.std.specs.Ordering.{ordering_reverse}
 use Rattle.std.specs.declared.cmp.Ordering.{Ordering}
 use Rattle.std.specs.declared.cmp.Ordering.TheVariants.{Less, Equal, Greater}
 use Rattle.std.proofs.lemmas.Cmp.{nat_list_cmp_total}
@@ -12,7 +10,7 @@ use Rattle.aggregate.specs.declared.kind.Kind.{Kind}
 use Rattle.aggregate.specs.declared.kind.Kind.TheVariants.{Group, Order}
 use Rattle.aggregate.specs.Partial.{combined}
 use Rattle.aggregate.specs.PartialLaws.{IsAssociative}
-use Rattle.aggregate.specs.Totals.{Entry, TotalsStayEqual, group_at, insert_entry, insert_group, insert_order, key_cmp, order_at, total}
+use Rattle.aggregate.specs.Totals.{Entry, TotalsStayEqual, insert_entry, insert_group, insert_order, key_cmp, total}
 
 -- a later entry joined to the total of earlier ones
 abbrev pub last_group_at : List Agg → Ordering → Entry → Entry → List Entry → List Entry → List Entry
@@ -27,7 +25,7 @@ last_group aggs e (x ∷ xs) = last_group_at aggs (key_cmp e.key x.key) e x xs (
 same_key : (a b : List ℕ) → key_cmp a b ≡ Equal → a ≡ b
 same_key a b e = slice_cmp-IsAntisymmetric nat_cmp-IsAntisymmetric a b e
 
-turn : (a b : List ℕ) (o : Ordering) → key_cmp a b ≡ o → key_cmp b a ≡ ordering_reverse o
+pub turn : (a b : List ℕ) (o : Ordering) → key_cmp a b ≡ o → key_cmp b a ≡ ordering_reverse o
 turn a b o e = nat_list_cmp_total.antisymm b a ∙ ap ordering_reverse e
 
 -- an earlier and a later entry come in either order

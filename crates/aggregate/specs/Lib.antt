@@ -2,3 +2,4 @@ pub mod Spelling
 pub mod Partial
 pub mod PartialLaws
 pub mod Totals
+pub mod Rows

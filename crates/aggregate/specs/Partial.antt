@@ -1,23 +1,25 @@
 -- Partial values of a group: for each aggregate a whole number of 128 bits in two's complement, 16 bytes, the greatest first.
 -- This project's own.
 use Rattle.std.specs.Prelude.{ℕ, ◌*◌, ◌^◌, List, [], ◌∷◌, ◌++◌, Option, Some, None, take, drop, if◌then◌else◌, ℤ, pos, negsuc, ◌+ℤ◌, Bool, nat_lt}
-use Rattle.std.specs.Int.{cast_signed, cast_unsigned, int_wrap, w128}
+use Rattle.std.specs.Int.{cast_unsigned, int_max, int_min, int_wrap, w128}
 use Rattle.byteorder.specs.Endian.{big_bytes, big_number}
 use Rattle.aggregate.specs.declared.agg_list.Agg.{Agg}
-use Rattle.aggregate.specs.declared.agg_list.Agg.TheVariants.{Count, Sum}
+use Rattle.aggregate.specs.declared.agg_list.Agg.TheVariants.{Count, Sum, Min, Max}
 
--- the number in the first 16 bytes
+-- the number in the first 16 bytes, in two's complement of 128 bits
 unfoldable pub number : List ℕ → ℤ
-number bytes = cast_signed w128 (big_number 16 bytes)
+number bytes = int_wrap w128 (pos (big_number 16 bytes))
 
 -- the 16 bytes of a number
 unfoldable pub partial_of : ℤ → List ℕ
 partial_of n = big_bytes 16 (cast_unsigned w128 n)
 
--- two partial numbers as one: what is added is taken modulo 2^128
+-- two partial numbers as one: what is added is taken modulo 2^128; of two the lesser or the greater
 abbrev pub joined : Agg → ℤ → ℤ → ℤ
 joined Count a b = int_wrap w128 (a +ℤ b)
 joined Sum a b = int_wrap w128 (a +ℤ b)
+joined Min a b = int_min a b
+joined Max a b = int_max a b
 
 abbrev pub joined_bytes : Agg → List ℕ → List ℕ → List ℕ
 joined_bytes agg a b = partial_of (joined agg (number a) (number b))

@@ -1,20 +1,35 @@
 -- What partial values come to, however they are combined.
 -- This project's own.
-use Rattle.std.specs.Prelude.{◌≡◌, ℕ, ◌*◌, ◌<◌, List, ◌++◌, length, ℤ, ◌+ℤ◌}
+use Rattle.std.specs.Prelude.{◌≡◌, ℕ, ◌*◌, ◌<◌, Bool, true, false, List, ◌++◌, length, slice_index_or, ℤ, ◌+ℤ◌}
 use Rattle.std.specs.Int.{w128}
 use Rattle.std.specs.Int.RustNames.{FitsSigned}
 use Rattle.aggregate.specs.declared.agg_list.Agg.{Agg}
-use Rattle.aggregate.specs.Partial.{combined, number_at, partial_of}
+use Rattle.aggregate.specs.declared.agg_list.Agg.TheVariants.{Count, Sum, Min, Max}
+use Rattle.aggregate.specs.Partial.{combined, joined, number_at, partial_of}
+
+-- whether an aggregate adds
+abbrev pub adds : Agg → Bool
+adds Count = true
+adds Sum = true
+adds Min = false
+adds Max = false
 
 -- values may be combined in any grouping
 abbrev pub IsAssociative : Type 0
 IsAssociative =
     (aggs : List Agg) (a b c : List ℕ) → combined aggs (combined aggs a b) c ≡ combined aggs a (combined aggs b c)
 
--- where the exact sum of two numbers has a place in 128 bits, it is what combining gives
+-- each number of the joint value is that of the two at its place
+abbrev pub NumbersAreJoined : Type 0
+NumbersAreJoined =
+    (aggs : List Agg) (place : ℕ) (a b : List ℕ) → place < length aggs
+    → number_at place (combined aggs a b) ≡ joined (slice_index_or aggs place Count) (number_at place a) (number_at place b)
+
+-- where the exact sum of two numbers has a place in 128 bits, it is what combining gives for an aggregate that adds
 abbrev pub SumsAreExact : Type 0
 SumsAreExact =
     (aggs : List Agg) (place : ℕ) (a b : List ℕ) → place < length aggs
+    → adds (slice_index_or aggs place Count) ≡ true
     → FitsSigned w128 (number_at place a +ℤ number_at place b)
     → number_at place (combined aggs a b) ≡ number_at place a +ℤ number_at place b
 

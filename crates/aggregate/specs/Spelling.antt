@@ -1,9 +1,12 @@
--- How a field is spelled in a key, and what follows for the order of keys.
+-- How a field or a number is spelled in a key, and what follows for the order of keys.
 -- This project's own.
-use Rattle.std.specs.Prelude.{◌≡◌, ◌≢◌, ℕ, zero, suc, ◌+◌, ◌-◌, ◌==◌, List, [], ◌∷◌, ◌++◌, Bool, Option, Some, None, length, map, if◌then◌else◌}
+use Rattle.std.specs.Prelude.{◌≡◌, ◌≢◌, ℕ, zero, suc, ◌+◌, ◌-◌, ◌^◌, ◌==◌, List, [], ◌∷◌, ◌++◌, Bool, true, false, Option, Some, None, length, map, if◌then◌else◌, ℤ, pos, ◌+ℤ◌, unsigned_abs}
 use Rattle.std.specs.List.{flat_map}
-use Rattle.std.specs.Ordering.{nat_cmp, ordering_then}
+use Rattle.std.specs.Ordering.{int_cmp, nat_cmp, ordering_then}
 use Rattle.std.specs.Cmp.Lexicographic.{slice_cmp}
+use Rattle.std.specs.Int.{w64}
+use Rattle.std.specs.Int.RustNames.{FitsSigned}
+use Rattle.byteorder.specs.Endian.{big_bytes}
 
 -- a zero byte as 0 1, any other as it is
 abbrev pub spelled_byte : ℕ → List ℕ
@@ -20,6 +23,10 @@ turned_if down bytes = if down then map (λ b. 255 - b) bytes else bytes
 -- a field as a key has it, turned round where `down`
 abbrev pub spelling : List ℕ → Bool → List ℕ
 spelling field down = turned_if down (spelled field)
+
+-- a number of 64 bits as a key has it: 2^63 more, as 8 bytes, the greatest first, turned round where `down`
+unfoldable pub number_spelling : ℤ → Bool → List ℕ
+number_spelling n down = turned_if down (big_bytes 8 (unsigned_abs (n +ℤ pos (2 ^ 63))))
 
 -- a field that begins with these bytes, spelled with so many bytes more
 abbrev pub behind : List ℕ → ℕ → Option (List ℕ × ℕ) → Option (List ℕ × ℕ)
@@ -60,3 +67,10 @@ SpellingsAreReadBack = (field rest : List ℕ) → unspelled (spelled field ++ r
 -- keys are equal only where their fields are, and what stands behind
 abbrev pub SpellingsAreApart : Type 0
 SpellingsAreApart = (a b x y : List ℕ) → spelled a ++ x ≡ spelled b ++ y → (a ≡ b) × (x ≡ y)
+
+-- keys compare as their numbers, or the other way round where these are turned round, and then as what stands behind
+pub record NumbersInOrder : Type 0 where
+  pub upward : (a b : ℤ) (x y : List ℕ) → FitsSigned w64 a → FitsSigned w64 b
+      → slice_cmp nat_cmp (number_spelling a false ++ x) (number_spelling b false ++ y) ≡ ordering_then (int_cmp a b) (slice_cmp nat_cmp x y)
+  pub downward : (a b : ℤ) (x y : List ℕ) → FitsSigned w64 a → FitsSigned w64 b
+      → slice_cmp nat_cmp (number_spelling a true ++ x) (number_spelling b true ++ y) ≡ ordering_then (int_cmp b a) (slice_cmp nat_cmp x y)

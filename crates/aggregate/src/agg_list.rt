@@ -11,6 +11,10 @@ pub enum Agg {
     Count,
     /// The sum of a column's numbers.
     Sum,
+    /// The least of a column's numbers.
+    Min,
+    /// The greatest of a column's numbers.
+    Max,
 }
 
 /// One to eight aggregates, in the order of the query.

@@ -6,6 +6,7 @@ mod field_key;
 mod key;
 mod kind;
 mod name;
+mod number_key;
 mod partial;
 #[cfg(test)]
 mod tests;
@@ -18,8 +19,9 @@ pub use field_key::{
 pub use key::Key;
 pub use kind::Kind;
 pub use name::Name;
+pub use number_key::{numbers_in_order, put_number};
 pub use partial::{
-    combine, combine_is_associative, finish, numbers_come_back, partials_are_sixteen_bytes,
-    put_partial, sums_are_exact,
+    combine, combine_is_associative, finish, numbers_are_joined, numbers_come_back,
+    partials_are_sixteen_bytes, put_partial, sums_are_exact,
 };
-pub use total::totals_stay_equal;
+pub use total::{totals_ascend, totals_stay_equal};

@@ -1,14 +1,14 @@
 // Partial values, combined number by number.
 ghost use Rattle.std.specs.Prelude.{◌≡◌, ◌++◌, ◌+◌, ◌*◌, ◌<◌, length, OnErr, OnOk};
 ghost use Rattle.aggregate.specs.Partial.{combined, joined, joined_bytes, narrowed, number, number_at, partial_of};
-ghost use Rattle.aggregate.specs.PartialLaws.{IsAssociative, NumbersComeBack, PartialsAreSixteenBytes, SumsAreExact};
+ghost use Rattle.aggregate.specs.PartialLaws.{IsAssociative, NumbersAreJoined, NumbersComeBack, PartialsAreSixteenBytes, SumsAreExact};
 
 use crate::agg_list::{Agg, AggList};
 use byteorder::{BigEndian, ByteOrder};
 use std::alloc::AllocError;
 
 /// Appends the 16 bytes of one partial number, in two's complement with the greatest byte first: 1 for
-/// a count, the field's number for a sum. An `Err` changes nothing.
+/// a count, the field's number for a sum, a least or a greatest. An `Err` changes nothing.
 pub fn put_partial(into: &mut Vec<u8>, number: i128) -> Result<(), AllocError>
     ensures ok { OnOk result (into.new.items ≡ into.old.items ++ partial_of number) }
     ensures length { OnOk result (length into.new.items ≡ length into.old.items + 16) }
@@ -47,6 +47,8 @@ fn join(agg: Agg, a: i128, b: i128) -> i128
 {
     match agg {
         Agg::Count | Agg::Sum => a.wrapping_add(b),
+        Agg::Min => a.min(b),
+        Agg::Max => a.max(b),
     }
 }
 
@@ -79,6 +81,11 @@ pub fn finish(aggs: &AggList, value: &[u8], place: usize) -> Option<i64>
 /// of merges.
 pub fn combine_is_associative()
     ensures { IsAssociative }
+{}
+
+/// At each place stands what the aggregate of this place makes of the two numbers there.
+pub fn numbers_are_joined()
+    ensures { NumbersAreJoined }
 {}
 
 /// A count or a sum that stays within 128 bits is exact.

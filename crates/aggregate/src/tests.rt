@@ -1,5 +1,7 @@
 // Spellings and partial values against bytes that were written by hand from the format.
-use crate::{Agg, AggList, Key, Kind, Name, combine, finish, put_field, put_partial, take_field};
+use crate::{
+    Agg, AggList, Key, Kind, Name, combine, finish, put_field, put_number, put_partial, take_field,
+};
 use std::test::Fail;
 
 #[test]
@@ -20,6 +22,42 @@ fn fields_are_spelled_as_the_format_says(rt: HostRuntime) -> Result<(), Fail> {
         put_field(&mut key, field, down)?;
         assert_eq!(rt; key[0], 7, "what stood there is kept");
         assert_eq!(rt; &key[1..], spelling, "{field:?} down {down}");
+    }
+    Ok(())
+}
+
+#[test]
+fn numbers_are_spelled_as_the_format_says(rt: HostRuntime) -> Result<(), Fail> {
+    for (number, upward, downward) in [
+        (
+            75,
+            [128, 0, 0, 0, 0, 0, 0, 0x4b],
+            [127, 255, 255, 255, 255, 255, 255, 0xb4],
+        ),
+        (
+            0,
+            [128, 0, 0, 0, 0, 0, 0, 0],
+            [127, 255, 255, 255, 255, 255, 255, 255],
+        ),
+        (
+            -1,
+            [127, 255, 255, 255, 255, 255, 255, 255],
+            [128, 0, 0, 0, 0, 0, 0, 0],
+        ),
+        (
+            -256,
+            [127, 255, 255, 255, 255, 255, 255, 0],
+            [128, 0, 0, 0, 0, 0, 0, 255],
+        ),
+        (i64::MIN, [0; 8], [255; 8]),
+        (i64::MAX, [255; 8], [0; 8]),
+    ] {
+        for (down, spelling) in [(false, upward), (true, downward)] {
+            let mut key = Vec::from_slice(rt.alloc(), &[7])?;
+            put_number(&mut key, number, down)?;
+            assert_eq!(rt; key[0], 7, "what stood there is kept");
+            assert_eq!(rt; &key[1..], spelling.as_slice(), "{number} down {down}");
+        }
     }
     Ok(())
 }
@@ -71,6 +109,72 @@ fn partial_values_are_twos_complement_with_the_greatest_byte_first(
         assert_eq!(rt; value.as_slice(), bytes.as_slice(), "of {number}");
     }
     Ok(())
+}
+
+#[test]
+fn each_aggregate_joins_two_numbers(rt: HostRuntime) -> Result<(), Fail> {
+    for (agg, first, second, joint) in [
+        (Agg::Count, 1, 1, Some(2)),
+        (Agg::Count, i64::MAX, 1, None),
+        (Agg::Sum, i64::MAX, i64::MIN, Some(-1)),
+        (Agg::Sum, i64::MAX, 1, None),
+        (Agg::Sum, i64::MIN, -1, None),
+        (Agg::Min, -1, 1, Some(-1)),
+        (Agg::Min, 1, -1, Some(-1)),
+        (Agg::Min, 2, 1, Some(1)),
+        (Agg::Min, i64::MIN, i64::MAX, Some(i64::MIN)),
+        (Agg::Min, i64::MAX, i64::MIN, Some(i64::MIN)),
+        (Agg::Min, i64::MAX, i64::MAX, Some(i64::MAX)),
+        (Agg::Max, -1, 1, Some(1)),
+        (Agg::Max, 1, -1, Some(1)),
+        (Agg::Max, -2, -1, Some(-1)),
+        (Agg::Max, i64::MIN, i64::MAX, Some(i64::MAX)),
+        (Agg::Max, i64::MAX, i64::MIN, Some(i64::MAX)),
+        (Agg::Max, i64::MIN, i64::MIN, Some(i64::MIN)),
+    ] {
+        let aggs = AggList::of(rt.alloc(), &[agg])?;
+        let mut value = Vec::new(rt.alloc());
+        put_partial(&mut value, i128::from(first))?;
+        let mut fed = Vec::new(rt.alloc());
+        put_partial(&mut fed, i128::from(second))?;
+        assert_eq!(rt; (value.len(), fed.len(), aggs.items().len()), (16, 16, 1));
+        combine(&aggs, &mut value, &fed);
+        assert_eq!(rt;
+            finish(&aggs, &value, 0),
+            joint,
+            "{agg:?} of {first}, {second}"
+        );
+    }
+    Ok(())
+}
+
+#[test]
+fn aggregates_stand_side_by_side(rt: HostRuntime) -> Result<(), Fail> {
+    let aggs = AggList::of(rt.alloc(), &[Agg::Min, Agg::Sum, Agg::Max, Agg::Count])?;
+    let mut total = row_of(&rt, 3)?;
+    for number in [-5, 9, -2, 9] {
+        let fed = row_of(&rt, number)?;
+        assert_eq!(rt; (total.len(), fed.len(), aggs.items().len()), (64, 64, 4));
+        combine(&aggs, &mut total, &fed);
+    }
+    for (place, number) in [(0, -5), (1, 14), (2, 9), (3, 5)] {
+        assert!(rt; place < aggs.items().len() && total.len() == 64);
+        assert_eq!(rt;
+            finish(&aggs, &total, place),
+            Some(number),
+            "at place {place}"
+        );
+    }
+    Ok(())
+}
+
+// The least, the sum and the greatest of one number, and a count of 1.
+fn row_of(rt: &HostRuntime, number: i64) -> Result<Vec<u8>, Fail> {
+    let mut value = Vec::new(rt.alloc());
+    for partial in [number, number, number, 1] {
+        put_partial(&mut value, i128::from(partial))?;
+    }
+    Ok(value)
 }
 
 #[test]

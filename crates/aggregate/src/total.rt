@@ -1,6 +1,7 @@
 //! What a list of entries comes to.
 
 ghost use Rattle.aggregate.specs.declared.kind.Kind.{Kind};
+ghost use Rattle.aggregate.specs.Rows.{TotalsAscend};
 ghost use Rattle.aggregate.specs.Totals.{TotalsStayEqual};
 
 use crate::partial::combine_is_associative;
@@ -12,3 +13,9 @@ pub fn totals_stay_equal()
 {
     combine_is_associative();
 }
+
+/// What a list of entries comes to ascends, and entries that ascend come to themselves. It does nothing
+/// when run.
+pub fn totals_ascend()
+    ensures { (kind : Kind) → TotalsAscend kind }
+{}
