@@ -1,11 +1,12 @@
 -- What each call does to a consumer.
 -- This project's own.
-use Rattle.std.specs.Prelude.{◌≡◌, ◌≢◌, ℕ, ◌+◌, ◌-◌, ◌≤◌, ◌<◌, ◌^◌, min, max, Bool, true, false, List, [], ◌∷◌, ◌++◌, Option, Some, Result, Ok, Err, length, map, All, AllPairs}
+use Rattle.std.specs.Prelude.{◌≡◌, ◌≢◌, ℕ, ◌+◌, ◌-◌, ◌≤◌, ◌<◌, ◌^◌, min, max, Bool, true, false, List, [], ◌∷◌, ◌++◌, Option, Some, Result, Ok, Err, length, All}
 use Rattle.std.specs.List.{list_any}
-use Rattle.std.specs.Ordering.{is_eq, is_gt}
+use Rattle.std.specs.Ordering.{is_eq}
 use Rattle.aggregate.specs.declared.kind.Kind.{Kind}
 use Rattle.aggregate.specs.declared.kind.Kind.TheVariants.{Group}
 use Rattle.aggregate.specs.Totals.{Entry, cost, costs, key_cmp}
+pub use Rattle.aggregate.specs.Rows.{Ascends, entries_of, entry_of}
 use Rattle.row_page.specs.Pages.{PageView}
 use Rattle.consumer_trait.specs.States.{State, Rest, Spill, room, total_by, IsEntryBy, current}
 use Rattle.consumer_trait.specs.declared.answers.Fed.{Fed}
@@ -52,23 +53,10 @@ Feeds old new entry (Err _) = new ≡ old
 
 -- Turns of a spill
 
--- the entry that a row is
-abbrev pub entry_of : List (List ℕ) → Entry
-entry_of (key ∷ (value ∷ rest)) = record { key = key; value = value }
-entry_of _ = record { key = []; value = [] }
-
--- the entries that a page's rows are
-abbrev pub entries_of : List (List (List ℕ)) → List Entry
-entries_of rows = map entry_of rows
-
 -- a row with a key and a value that the kind takes
 pub record IsEntryRow (kind : Option Kind) (row : List (List ℕ)) : Type 0 where
   pub fields : length row ≡ 2
   pub entry : IsEntryBy kind (entry_of row)
-
--- the keys never fall
-abbrev pub Ascends : List Entry → Type 0
-Ascends entries = AllPairs (λ earlier later. is_gt (key_cmp earlier.key later.key) ≡ false) entries
 
 -- the spill asks for further bytes, once, before it writes
 pub record Asks (old new : State) (bytes : ℕ) : Type 0 where
@@ -85,7 +73,7 @@ pub record Writes (old new : State) (rows : List (List (List ℕ))) (left : List
   pub some : 1 ≤ length rows
   pub moved : length rows + length new.entries ≡ length old.entries
   pub formed : All (IsEntryRow old.kind) rows
-  pub ascends : Ascends (entries_of rows ++ left)
+  pub ascends : Ascends old.kind (entries_of rows ++ left)
   pub follows : (current old).wrote ≡ true → entries_of rows ++ left ≡ (current old).left
   pub covered : costs new.entries ≤ new.used
 

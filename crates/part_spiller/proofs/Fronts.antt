@@ -9,7 +9,8 @@ use Rattle.std.proofs.lemmas.List.Quantifiers.{all_pairs_push}
 use Rattle.std.proofs.lemmas.List.Elements.{All-map}
 use Rattle.aggregate.specs.Totals.{Entry, key_cmp}
 use Rattle.aggregate.specs.declared.kind.Kind.TheVariants.{Order}
-use Rattle.consumer_trait.specs.Calls.{Ascends, IsEntryRow, entries_of}
+use Rattle.aggregate.specs.Rows.{Ascends, entries_of}
+use Rattle.consumer_trait.specs.Calls.{IsEntryRow}
 use Rattle.part_spiller.specs.declared.row.Row.{Row}
 use Rattle.part_spiller.specs.Rows.{entry_of_row, entries_of_rows, fields_of_row, Puts}
 
@@ -17,11 +18,11 @@ abbrev NotAbove : Entry → Entry → Type 0
 NotAbove earlier later = is_gt (key_cmp earlier.key later.key) ≡ false
 
 -- one entry ascends
-pub ascends_one : (es : List Entry) → Ascends (take 1 es)
+pub ascends_one : (es : List Entry) → Ascends (Some Order) (take 1 es)
 ascends_one es = λ i j d a b. absurd (omega (arith, length-take 1 es))
 
 -- one more row, whose key is not below the one before
-pub ascends_more : (rows : List Row) (n : ℕ) (p q : Row) → 1 ≤ n → n < length rows → p ≡ get_or rows (n - 1) p → q ≡ get_or rows n q → is_gt (key_cmp p.key.items q.key.items) ≡ false → Ascends (take n (entries_of_rows rows)) → Ascends (take (n + 1) (entries_of_rows rows))
+pub ascends_more : (rows : List Row) (n : ℕ) (p q : Row) → 1 ≤ n → n < length rows → p ≡ get_or rows (n - 1) p → q ≡ get_or rows n q → is_gt (key_cmp p.key.items q.key.items) ≡ false → Ascends (Some Order) (take n (entries_of_rows rows)) → Ascends (Some Order) (take (n + 1) (entries_of_rows rows))
 ascends_more rows n p q some below is_p is_q last h =
     let es : List Entry = entries_of_rows rows in
     let all : length es ≡ length rows = length-map rows entry_of_row in
@@ -33,7 +34,7 @@ ascends_more rows n p q some below is_p is_q last h =
     upto nat_list_cmp_total (get_or (take n es) k e).key p.key.items q.key.items (subst (λ (x : Entry). NotAbove (get_or (take n es) k e) x) (at_p e) (h k (n - 1) e b (omega (arith, len, some)))) last in
     let before : (k : ℕ) (e : Entry) → k < length (take n es) → NotAbove (get_or (take n es) k e) (entry_of_row q) = λ k e b.
     below_more (λ (k : ℕ). (e : Entry) → NotAbove (get_or (take n es) k e) (entry_of_row q)) (n - 1) earlier here k (omega (arith, len, some, b)) e in
-    subst (λ (xs : List Entry). Ascends xs) (sym (take_more es n (entry_of_row q) (omega (arith, all)) ∙ ap (λ (e : Entry). take n es ++ e ∷ []) at_q))
+    subst (λ (xs : List Entry). Ascends (Some Order) xs) (sym (take_more es n (entry_of_row q) (omega (arith, all)) ∙ ap (λ (e : Entry). take n es ++ e ∷ []) at_q))
     (all_pairs_push NotAbove (take n es) (entry_of_row q) h before)
 
 row_formed : (row : Row) → IsEntryRow (Some Order) (fields_of_row row)
@@ -49,7 +50,7 @@ entries_are [] = refl
 entries_are (row ∷ rows) = ap (λ (es : List Entry). entry_of_row row ∷ es) (entries_are rows)
 
 -- what ends a list that ascends ascends
-pub ascends_suffix : (before es : List Entry) → Ascends (before ++ es) → Ascends es
+pub ascends_suffix : (before es : List Entry) → Ascends (Some Order) (before ++ es) → Ascends (Some Order) es
 ascends_suffix before es h = λ i j d a b.
     let e1 = get_or-append-add before es i d in
     let e2 = get_or-append-add before es j d in
@@ -70,10 +71,10 @@ pub record Moved (rows later : List Row) (front count : ℕ) (page : List (List 
   pub sizes : length page + length (entries_of_rows later) ≡ length (entries_of_rows rows)
   pub within : count + length later ≡ length rows
   pub formed : All (IsEntryRow (Some Order)) page
-  pub ascends : Ascends (take (front - count) (entries_of_rows later))
-  pub written : Ascends (entries_of page ++ take (front - count) (entries_of_rows later))
+  pub ascends : Ascends (Some Order) (take (front - count) (entries_of_rows later))
+  pub written : Ascends (Some Order) (entries_of page ++ take (front - count) (entries_of_rows later))
 
-moved_at : (rows later : List Row) (most count front : ℕ) (page : List (List (List ℕ))) → Puts rows most count page → most ≤ front → front ≤ length rows → later ≡ drop count rows → Ascends (take front (entries_of_rows rows)) → Moved rows later front count page
+moved_at : (rows later : List Row) (most count front : ℕ) (page : List (List (List ℕ))) → Puts rows most count page → most ≤ front → front ≤ length rows → later ≡ drop count rows → Ascends (Some Order) (take front (entries_of_rows rows)) → Moved rows later front count page
 moved_at rows later most count front page puts fits within is h =
     let es : List Entry = entries_of_rows rows in
     let on_page : entries_of page ≡ take count es = ap entries_of puts.are ∙ entries_are (take count rows) ∙ sym (take-map entry_of_row count rows) in
@@ -82,7 +83,7 @@ moved_at rows later most count front page puts fits within is h =
     let count_is : length page ≡ count = ap length puts.are ∙ length-map (take count rows) fields_of_row ∙ length-take-le count rows (omega (arith, puts.most_fits, fits, within)) in
     let later_is : length later ≡ length rows - count = ap length is ∙ length-drop count rows in
     let sum : count + length later ≡ length rows = omega (arith, later_is, puts.most_fits, fits, within) in
-    let written : Ascends (entries_of page ++ take (front - count) (entries_of_rows later)) = subst (λ (xs : List Entry). Ascends xs) (sym parts) h in
+    let written : Ascends (Some Order) (entries_of page ++ take (front - count) (entries_of_rows later)) = subst (λ (xs : List Entry). Ascends (Some Order) xs) (sym parts) h in
     record {
       all = ap (λ (xs : List Entry). xs ++ entries_of_rows later) on_page ∙ ap (λ (xs : List Entry). take count es ++ xs) left ∙ take-append-drop count es;
       chosen = parts;
@@ -95,8 +96,8 @@ moved_at rows later most count front page puts fits within is h =
     }
 
 -- the same where the front was chosen from `seen` and put from `given`, which are these rows
-pub moved : (rows seen given later : List Row) (most count front : ℕ) (page : List (List (List ℕ))) → seen ≡ rows → given ≡ rows → Puts given most count page → most ≤ front → front ≤ length rows → later ≡ drop count rows → Ascends (take front (entries_of_rows seen)) → Moved rows later front count page
+pub moved : (rows seen given later : List Row) (most count front : ℕ) (page : List (List (List ℕ))) → seen ≡ rows → given ≡ rows → Puts given most count page → most ≤ front → front ≤ length rows → later ≡ drop count rows → Ascends (Some Order) (take front (entries_of_rows seen)) → Moved rows later front count page
 moved rows seen given later most count front page is_seen is_given puts fits within is h =
     moved_at rows later most count front page
     (subst (λ (xs : List Row). Puts xs most count page) is_given puts) fits within is
-    (subst (λ (xs : List Row). Ascends (take front (entries_of_rows xs))) is_seen h)
+    (subst (λ (xs : List Row). Ascends (Some Order) (take front (entries_of_rows xs))) is_seen h)

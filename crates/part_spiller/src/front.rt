@@ -1,9 +1,10 @@
 //! Rows at the front of a list: which ascend, and how they go to a page.
 
-ghost use Rattle.std.specs.Prelude.{◌≡◌, ◌+◌, ◌-◌, ◌*◌, ◌<◌, ◌≤◌, ◌++◌, ◌∷◌, [], true, length, take, drop, slice_index_or, IfOk, OnOk, OnErr};
+ghost use Rattle.std.specs.Prelude.{◌≡◌, ◌+◌, ◌-◌, ◌*◌, ◌<◌, ◌≤◌, ◌++◌, ◌∷◌, [], true, length, take, drop, slice_index_or, Some, IfOk, OnOk, OnErr};
 ghost use Rattle.std.specs.Ordering.{is_gt};
+ghost use Rattle.aggregate.specs.declared.kind.Kind.TheVariants.{Order};
+ghost use Rattle.aggregate.specs.Rows.{Ascends};
 ghost use Rattle.aggregate.specs.Totals.{costs as costs_of, key_cmp};
-ghost use Rattle.consumer_trait.specs.Calls.{Ascends};
 ghost use Rattle.part_spiller.specs.declared.row.Row.{Row};
 ghost use Rattle.part_spiller.specs.Rows.{entries_of_rows, fields_of_row, Puts};
 
@@ -17,7 +18,7 @@ pub fn front_of(rows: &[Row], most: usize) -> usize
     requires most { 1 ≤ most }
     ensures some { 1 ≤ result }
     ensures within { result ≤ length rows.now }
-    ensures ascends { Ascends (take result (entries_of_rows rows.now)) }
+    ensures ascends { Ascends (Some Order) (take result (entries_of_rows rows.now)) }
     ensures most { result ≤ most }
     ensures longest { (before behind : Row) → result < length rows.now → result < most →
         before ≡ slice_index_or rows.now (result - 1) before →

@@ -23,5 +23,3 @@ pub mod Fed
 pub mod Refused
 pub mod Acquired
 pub mod SecondRefusal
-pub mod Scripted
-pub mod Starting

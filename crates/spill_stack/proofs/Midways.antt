@@ -20,7 +20,7 @@ pub record Midway (old new : State) (before given : ℕ) (w : List Entry) : Type
   pub nothing : (current new).wrote ≡ false → w ≡ []
   pub something : (current new).wrote ≡ true → 1 ≤ length w
   pub none_left : (current new).wrote ≡ false → (current new).left ≡ []
-  pub ascends : Ascends (w ++ (current new).left)
+  pub ascends : Ascends old.kind (w ++ (current new).left)
   pub unasked : (current new).wrote ≡ false → (current new).asked ≡ false → (current old).asked ≡ false
   pub mark : (current new).mark ≡ (current old).mark
   pub unwritten : (current new).wrote ≡ false → new ≡ record old { used = new.used; stage = new.stage }
@@ -54,9 +54,9 @@ midway-start old before start = record {
 }
 
 -- what was written stays in order with what is left, after a page of entries es
-ascends_after : (b : Bool) (w es left left' : List Entry) → (b ≡ false → w ≡ []) → (b ≡ true → es ++ left ≡ left') → Ascends (es ++ left) → Ascends (w ++ left') → Ascends ((w ++ es) ++ left)
-ascends_after true w es left left' nothing follows first all = rw append_assoc (subst (λ (xs : List Entry). Ascends (w ++ xs)) (sym (follows refl)) all)
-ascends_after false w es left left' nothing follows first all = subst (λ (xs : List Entry). Ascends ((xs ++ es) ++ left)) (sym (nothing refl)) first
+ascends_after : (kind : Option Kind) (b : Bool) (w es left left' : List Entry) → (b ≡ false → w ≡ []) → (b ≡ true → es ++ left ≡ left') → Ascends kind (es ++ left) → Ascends kind (w ++ left') → Ascends kind ((w ++ es) ++ left)
+ascends_after kind true w es left left' nothing follows first all = rw append_assoc (subst (λ (xs : List Entry). Ascends kind (w ++ xs)) (sym (follows refl)) all)
+ascends_after kind false w es left left' nothing follows first all = subst (λ (xs : List Entry). Ascends kind ((xs ++ es) ++ left)) (sym (nothing refl)) first
 
 -- a page was written
 pub midway-write : (old s s' : State) (before given : ℕ) (w : List Entry) (rows : List (List (List ℕ))) → Midway old s before given w → Writes s s' rows (current s').left → Midway old s' before given (w ++ entries_of rows)
@@ -83,7 +83,7 @@ midway-write old s s' before given w rows m h =
       nothing = λ f. absurd (cc);
       something = λ _. omega (arith, length-append w (entries_of rows), h.some, some);
       none_left = λ f. absurd (cc);
-      ascends = ascends_after (current s).wrote w (entries_of rows) (current s').left (current s).left m.nothing h.follows h.ascends m.ascends;
+      ascends = ascends_after old.kind (current s).wrote w (entries_of rows) (current s').left (current s).left m.nothing h.follows (subst (λ (k : Option Kind). Ascends k (entries_of rows ++ (current s').left)) m.spilled.same.kind h.ascends) m.ascends;
       unasked = λ f. absurd (cc);
       mark = ap (λ (p : Progress). p.mark) cur ∙ m.mark;
       unwritten = λ f. absurd (cc);
@@ -152,7 +152,7 @@ wrote_some true w es es' nothing none some count has = (refl, some refl)
 wrote_some false w es es' nothing none some count has = let n1 : length w ≡ 0 = ap length (nothing refl) in let n2 : length es ≡ 0 = ap length (none refl) in absurd (has (nil_from_length es' (omega arith)))
 
 -- the spill ends
-pub midway-end : (old s s' : State) (before given : ℕ) (w : List Entry) → Midway old s before given w → Ends s s' → (start files : Option Files) (run : Option Run) → (Ascends w → WritesRun start files old.kind run w) → EndsWith old s' start files run before given
+pub midway-end : (old s s' : State) (before given : ℕ) (w : List Entry) → Midway old s before given w → Ends s s' → (start files : Option Files) (run : Option Run) → (Ascends old.kind w → WritesRun start files old.kind run w) → EndsWith old s' start files run before given
 midway-end old s s' before given w m h start files run wrote =
     let entries : s'.entries ≡ s.entries = ap (λ (x : State). x.entries) h.same in
     let used : s'.used ≡ s.used = ap (λ (x : State). x.used) h.same in
@@ -169,7 +169,7 @@ midway-end old s s' before given w m h start files run wrote =
         total = rw entries m.spilled.total;
         count = rw entries m.spilled.count;
       };
-      wrote = wrote (subst (λ (xs : List Entry). Ascends xs) (append-nil w) (subst (λ (xs : List Entry). Ascends (w ++ xs)) none m.ascends));
+      wrote = wrote (subst (λ (xs : List Entry). Ascends old.kind xs) (append-nil w) (subst (λ (xs : List Entry). Ascends old.kind (w ++ xs)) none m.ascends));
       rest = ap (λ (x : State). x.stage) h.same;
       freed = omega (arith, m.freed, used);
       grown = m.grown;

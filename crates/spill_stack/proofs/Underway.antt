@@ -89,7 +89,7 @@ stands_written law None run rows telling there file counts = absurd (false≢tru
 stands_written law (Some files) run rows telling there file counts = law files run rows there file counts
 
 -- what was written is one run, or none
-pub writes_run : WrittenStand → (start files : Option Files) (kind : Option Kind) (writer : Option Run) (rows : List (List (List ℕ))) → IsSome kind → IsWritten start files writer rows → All (IsEntryRow kind) rows → Ascends (entries_of rows) → WritesRun start files kind writer (entries_of rows)
+pub writes_run : WrittenStand → (start files : Option Files) (kind : Option Kind) (writer : Option Run) (rows : List (List (List ℕ))) → IsSome kind → IsWritten start files writer rows → All (IsEntryRow kind) rows → Ascends kind (entries_of rows) → WritesRun start files kind writer (entries_of rows)
 writes_run law start files kind None rows some h formed ascends = (ap entries_of h.0, h.1)
 writes_run law start files kind (Some run) rows some h formed ascends = (
   (h.0.disk, subst (λ (greatest : ℕ). greatest ≤ 196752) (sym h.0.counts.greatest) (bounded kind rows some formed)),

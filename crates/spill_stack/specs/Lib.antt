@@ -8,8 +8,8 @@ pub mod RunLists
 pub mod Writing
 pub mod Pauses
 pub mod Scenes
+pub mod Chosen
 pub mod Serving
 pub mod Asking
 pub mod Feeding
 pub mod Ending
-pub mod Scripts

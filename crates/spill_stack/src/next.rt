@@ -4,6 +4,7 @@ ghost use Rattle.std.specs.Prelude.{◌≡◌, ◌-◌, ◌<◌, ◌≤◌, ◌^
 ghost use Rattle.spill_stack.specs.Attempts.{held_by};
 ghost use Rattle.spill_stack.specs.Going.{Goes, IsAtWork};
 ghost use Rattle.spill_stack.specs.Asks.{Settles, Tries, top_of};
+ghost use Rattle.spill_stack.specs.Chosen.{IsChoice, candidate_by, use_by};
 ghost use Rattle.spill_stack.specs.Scenes.{ArePicks, IsNext};
 
 use crate::ask::Ask;
@@ -14,6 +15,29 @@ use spill_choice::choose;
 use spill_disk::Disk;
 use std::alloc::Global;
 use std::sync::Wait;
+
+// What the consumer at a place counts with: whoever asks comes last.
+fn use_of<C: Consumer>(members: &[C], asker: usize, i: usize) -> u64
+    requires within { i < length members.now }
+    ensures { result ≡ use_by (map C.state members.now) asker i }
+{
+    if i == asker {
+        return 0;
+    }
+    used_at(members, i)
+}
+
+// Whether the consumer at a place rests and has an entry in memory.
+fn is_candidate<C: Consumer>(members: &[C], resting: &[bool], i: usize) -> bool
+    requires within { i < length members.now }
+    requires flags { length resting.now ≡ length members.now }
+    ensures { result ≡ candidate_by (map C.state members.now) resting.now i }
+{
+    if !resting[i] {
+        return false;
+    }
+    !is_empty_at(members, i)
+}
 
 // The consumer to spill for what the asker lacks, by its place. Consumers are numbered as in `picks`: of equal uses
 // the one with the higher number is chosen.
@@ -27,15 +51,14 @@ pub(crate) fn choose_next<C: Consumer>(
 ) -> Result<Option<usize>, Fault>
     requires picked { ArePicks picks.now (map C.state members.now) }
     requires flags { length resting.now ≡ length members.now }
-    ensures { IfOk result (IsNext (map C.state members.now) resting.now) }
+    ensures next { IfOk result (IsNext (map C.state members.now) resting.now) }
+    ensures chosen { IfOk result (IsChoice (map C.state members.now) resting.now picks.now asker remainder) }
 {
     let mut uses = Vec::new(alloc);
     let mut candidates = Vec::new(alloc);
     for j in 0..picks.len() {
-        let i = picks[j];
-        // Who asks comes last.
-        let used = if i == asker { 0 } else { used_at(members, i) };
-        let candidate = resting[i] && !is_empty_at(members, i);
+        let used = use_of(members, asker, picks[j]);
+        let candidate = is_candidate(members, resting, picks[j]);
         if uses.push(used).is_err() || candidates.push(candidate).is_err() {
             return Err(Fault::NoMemory);
         }

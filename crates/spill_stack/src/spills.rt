@@ -53,14 +53,17 @@ impl Spills {
         &self.picks
     }
 
-    /// Takes the runs of the consumer at a place, in the order in which they were written. It takes no memory.
+    /// Takes the runs of the consumer at a place, in the order in which they were written; none where there is no such
+    /// place. It takes no memory.
     pub fn take_runs(&mut self, i: usize) -> Vec<Run>
-        requires within { i < length self.old.runs.items }
         ensures taken { result.items ≡ runs_at (lists_of self.old.runs.items) i }
         ensures runs { lists_of self.new.runs.items ≡ slice_set (lists_of self.old.runs.items) i [] }
         ensures picks { self.new.picks ≡ self.old.picks }
         ensures page { self.new.page ≡ self.old.page }
     {
+        if i >= self.runs.len() {
+            return Vec::new(self.alloc);
+        }
         mem::replace(&mut self.runs[i], Vec::new(self.alloc))
     }
 

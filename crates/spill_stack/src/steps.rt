@@ -3,6 +3,7 @@
 ghost use Rattle.std.specs.Prelude.{◌≡◌, ◌≤◌, ◌<◌, [], length, map, IfOk, OnOk};
 ghost use Rattle.fault_count.specs.Faults.{HasCauseAt};
 ghost use Rattle.spill_stack.specs.Attempts.{held_by};
+ghost use Rattle.spill_stack.specs.Chosen.{IsChoiceForTop};
 ghost use Rattle.spill_stack.specs.Going.{Goes, IsAtWork};
 ghost use Rattle.spill_stack.specs.Disks.{LeavesDisk};
 ghost use Rattle.spill_stack.specs.Pauses.{AllSame};
@@ -124,7 +125,8 @@ fn next_for_top<C: Consumer>(members: &[C], spills: &Spills) -> Result<Option<us
     requires some { 1 ≤ length spills.now.asks.items }
     requires flags { length spills.now.resting.items ≡ length members.now }
     requires picked { ArePicks spills.now.picks.items (map C.state members.now) }
-    ensures { IfOk result (IsNextForTop (map C.state members.now) spills.now.resting.items spills.now.asks.items) }
+    ensures next { IfOk result (IsNextForTop (map C.state members.now) spills.now.resting.items spills.now.asks.items) }
+    ensures chosen { IfOk result (IsChoiceForTop (map C.state members.now) spills.now.resting.items spills.now.picks.items spills.now.asks.items) }
 {
     let top = spills.asks[spills.asks.len() - 1];
     if top.got >= top.need {

@@ -8,7 +8,7 @@ use Rattle.run_file.specs.declared.run.Run.{Run}
 use Rattle.consumer_trait.specs.States.{State, total_by}
 use Rattle.consumer_trait.specs.Members.{state_at}
 use Rattle.spill_stack.specs.Pauses.{AllSame}
-use Rattle.spill_stack.specs.RunLists.{runs_at, no_run, spilled_at, AreApart, HaveEntries, HoldRuns, KeepTotals}
+use Rattle.spill_stack.specs.RunLists.{run_at, runs_at, no_run, spilled_at, AreApart, HaveEntries, HoldRuns, KeepTotals}
 use Rattle.spill_stack.specs.Scenes.{Scene}
 use Rattle.task_memory.proofs.Places.{at_or_not}
 use Rattle.task_memory.specs.Draining.{DrainsTotals}
@@ -45,6 +45,15 @@ hold_less files states runs spilled who within h =
       apart = apart_less runs who in_runs h.apart;
     }
 
+-- none of the runs that are left is in a file of those that were taken
+taken_apart : (runs : List (List Run)) (who i k l : ℕ) → who < length runs → AreApart runs → k < length (runs_at runs who) → l < length (runs_at (set runs who []) i) → (run_at runs who k).file ≡ (run_at (set runs who []) i l).file → ⊥
+taken_apart runs who i k l within apart below below' one = elim (at_or_not i who) [
+  | inl here ↦ (let none = none_at runs who i within here in absurd (omega arith))
+  | inr other ↦
+      let same : runs_at (set runs who []) i ≡ runs_at runs i = get_or-set_other runs who i [] [] other in
+      other (sym (apart who i k l below (subst (λ (list : List Run). l < length list) same below') (one ∙ ap (λ (list : List Run). (get_or list l no_run).file) same)).0)
+]
+
 pub drains_totals : (old new : Scene) (runs : List (List Run)) (who : ℕ) (taken : List Run) → who < length old.states → AllSame old.states new.states → KeepTotals old.files new.files old.states new.states old.runs runs → (state_at new.states who).entries ≡ [] → taken ≡ runs_at runs who → new.runs ≡ set runs who [] → DrainsTotals old new who taken
 drains_totals old new runs who taken within same totals empty is left = λ spilled hold.
     let kept = totals spilled hold in
@@ -53,17 +62,21 @@ drains_totals old new runs who taken within same totals empty is left = λ spill
     let drained : List Entry = spilled_at spilled' who in
     let within' : who < length new.states = let members = same.members in omega arith in
     let in_spilled : who < length spilled' = let lengths = hold'.lengths in omega arith in
+    let within'' : who < length runs = let lists = hold'.lists in omega arith in
     let kind : (state_at new.states who).kind ≡ (state_at old.states who).kind = (same.each who within).kind in
-    let none : spilled_at (set spilled' who []) who ≡ [] = get_or-set_same spilled' who [] [] in_spilled in (
-      drained,
-      subst (λ (each : Option Kind). HaveEntries new.files each taken drained) kind (subst (λ (list : List Run). HaveEntries new.files (state_at new.states who).kind list drained) (sym is) (hold'.each who within')),
-      ap (λ (each : Option Kind). total_by each drained) (sym kind)
+    let none : spilled_at (set spilled' who []) who ≡ [] = get_or-set_same spilled' who [] [] in_spilled in
+    record {
+      drained = drained;
+      stand = subst (λ (each : Option Kind). HaveEntries new.files each taken drained) kind (subst (λ (list : List Run). HaveEntries new.files (state_at new.states who).kind list drained) (sym is) (hold'.each who within'));
+      total = ap (λ (each : Option Kind). total_by each drained) (sym kind)
           ∙ ap (λ (entries : List Entry). total_by (state_at new.states who).kind entries) (sym (append-nil drained) ∙ ap (λ (more : List Entry). drained ++ more) (sym empty))
-          ∙ kept.2 who within,
-      set spilled' who [],
-      subst (λ (lists : List (List Run)). HoldRuns new.files new.states lists (set spilled' who [])) (sym left) (hold_less new.files new.states runs spilled' who within' hold'),
-      ap (λ (entries : List Entry). entries ++ (state_at new.states who).entries) none ∙ empty,
-      λ i below other.
+          ∙ kept.2 who within;
+      apart = λ k l below below' one. (hold'.apart who who k l (rw is at below) (rw is at below') (rw is at one)).1;
+      others_apart = λ k i l below below' one. taken_apart runs who i k l within'' hold'.apart (rw is at below) (rw left at below') (rw (is, left) at one);
+      left = set spilled' who [];
+      hold = subst (λ (lists : List (List Run)). HoldRuns new.files new.states lists (set spilled' who [])) (sym left) (hold_less new.files new.states runs spilled' who within' hold');
+      none = ap (λ (entries : List Entry). entries ++ (state_at new.states who).entries) none ∙ empty;
+      others = λ i below other.
           ap (λ (entries : List Entry). total_by (state_at new.states i).kind (entries ++ (state_at new.states i).entries)) (get_or-set_other spilled' who i [] [] other)
-          ∙ kept.2 i below,
-    )
+          ∙ kept.2 i below;
+    }

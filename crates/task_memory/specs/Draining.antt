@@ -1,23 +1,34 @@
 -- What a consumer that was drained leaves.
 -- This project's own.
-use Rattle.std.specs.Prelude.{◌≡◌, ◌≢◌, ℕ, ◌<◌, List, [], length}
+use Rattle.std.specs.Prelude.{◌≡◌, ◌≢◌, ℕ, ◌<◌, List, [], length, slice_index_or}
 use Rattle.aggregate.specs.Totals.{Entry}
 use Rattle.run_file.specs.declared.run.Run.{Run}
 use Rattle.consumer_trait.specs.States.{State, total_by}
 use Rattle.consumer_trait.specs.Members.{state_at}
-use Rattle.spill_stack.specs.RunLists.{HaveEntries, HoldRuns, gathered, gathered_total}
+use Rattle.spill_stack.specs.RunLists.{HaveEntries, HoldRuns, gathered, gathered_total, no_run, run_at, runs_at}
 use Rattle.spill_stack.specs.Scenes.{Scene}
 use Rattle.spill_stack.specs.Serving.{KeepsOne}
 
--- where the runs stood before, those that were taken stand with entries of the total that the consumer was fed, nothing is left
--- of it, and the others' totals are what they were
+-- a run at a place of those that were taken
+abbrev pub taken_at : List Run → ℕ → Run
+taken_at taken k = slice_index_or taken k no_run
+
+-- where the runs stood before with the entries `spilled`: those that were taken stand in different files, with entries of the
+-- total that the consumer was fed; nothing is left of it; and the others' runs stand in further files, their totals as before
+pub record DrainsOf (old new : Scene) (who : ℕ) (taken : List Run) (spilled : List (List Entry)) : Type 0 where
+  pub drained : List Entry
+  pub stand : HaveEntries new.files (state_at old.states who).kind taken drained
+  pub total : total_by (state_at old.states who).kind drained ≡ gathered_total old.states spilled who
+  pub apart : (k l : ℕ) → k < length taken → l < length taken → (taken_at taken k).file ≡ (taken_at taken l).file → k ≡ l
+  pub others_apart : (k i l : ℕ) → k < length taken → l < length (runs_at new.runs i) → (taken_at taken k).file ≢ (run_at new.runs i l).file
+  pub left : List (List Entry)
+  pub hold : HoldRuns new.files new.states new.runs left
+  pub none : gathered new.states left who ≡ []
+  pub others : (i : ℕ) → i < length old.states → i ≢ who → gathered_total new.states left i ≡ gathered_total old.states spilled i
+
 abbrev pub DrainsTotals : Scene → Scene → ℕ → List Run → Type 0
 DrainsTotals old new who taken =
-    (spilled : List (List Entry)) → HoldRuns old.files old.states old.runs spilled
-    → (drained : List Entry) × HaveEntries new.files (state_at old.states who).kind taken drained
-    × (total_by (state_at old.states who).kind drained ≡ gathered_total old.states spilled who)
-    × (spilled' : List (List Entry)) × HoldRuns new.files new.states new.runs spilled' × (gathered new.states spilled' who ≡ [])
-    × ((i : ℕ) → i < length old.states → i ≢ who → gathered_total new.states spilled' i ≡ gathered_total old.states spilled i)
+    (spilled : List (List Entry)) → HoldRuns old.files old.states old.runs spilled → DrainsOf old new who taken spilled
 
 -- what each consumer keeps through the spills of one of them: a consumer without an entry uses nothing, if it did before
 abbrev pub KeepEach : List State → List State → Type 0

@@ -18,13 +18,14 @@ ghost use Rattle.task_memory.specs.Live.{IfNoRoom, IsBetween, NeverNoRoom, Tells
 use crate::TaskFault;
 use crate::asks::{acquire_for, drain_from, feed_to};
 use crate::memory::TaskMemory;
+use consumer_trait::Consumer;
 use memory_lock::{Basis, Worker};
 use run_file::Run;
 use spill_disk::Disk;
 use spill_stack::Spills;
 use std::sync::Wait;
 
-impl<'a, K: Disk, D: Disk, B: Basis> TaskMemory<'a, K, D, B, Spills> {
+impl<'a, C: Consumer, K: Disk, D: Disk, B: Basis> TaskMemory<'a, C, K, D, B, Spills> {
     /// Gets at least `must` bytes for a consumer, with a first attempt for `wish`, and tells it of them; answers how
     /// many. While the grants fall short, consumers are spilled one by one; a spill may ask for bytes itself.
     pub fn acquire<R: Wait + Sync>(
@@ -37,21 +38,21 @@ impl<'a, K: Disk, D: Disk, B: Basis> TaskMemory<'a, K, D, B, Spills> {
     ) -> Result<u64, TaskFault>
         requires live { self.old.live ≡ true }
         requires at_work { IsAtWork self.old.account.now.manager.now self.old.account.now.task worker.old }
-        requires its { IsBetween (scene_of (map (λ b. state b) self.old.boxes.now) (D.files self.old.disk.now) (held_by self.old.account.now.task worker.old) self.old.spills) self.old.leasts self.old.roomed }
+        requires its { IsBetween (scene_of (map C.state self.old.boxes.now) (D.files self.old.disk.now) (held_by self.old.account.now.task worker.old) self.old.spills) self.old.leasts self.old.roomed }
         requires page { self.old.spills.page ≡ record { rows = []; room = 262144 } }
         requires within { consumer < length self.old.spills.picks.items }
         requires some { 1 ≤ must }
         requires wish { must ≤ wish }
         requires most { wish ≤ 2 ^ 50 }
         ensures enough { IfOk result (λ got. must ≤ got) }
-        ensures told { IfOk result (Tells (scene_of (map (λ b. state b) self.old.boxes.now) (D.files self.old.disk.now) (held_by self.old.account.now.task worker.old) self.old.spills)
-            (scene_of (map (λ b. state b) self.new.boxes.now) (D.files self.new.disk.now) (held_by self.new.account.now.task worker.new) self.new.spills) (slice_index self.old.spills.picks.items consumer)) }
+        ensures told { IfOk result (Tells (scene_of (map C.state self.old.boxes.now) (D.files self.old.disk.now) (held_by self.old.account.now.task worker.old) self.old.spills)
+            (scene_of (map C.state self.new.boxes.now) (D.files self.new.disk.now) (held_by self.new.account.now.task worker.new) self.new.spills) (slice_index self.old.spills.picks.items consumer)) }
         ensures asked { IfNoRoom result (λ asked held floor. asked ≡ must) }
         ensures tells { IfNoRoom result (λ asked held floor. TellsHeld B.sizes (held_by self.new.account.now.task worker.new) held floor) }
-        ensures no_room { IfNoRoom result (λ asked held floor. IsOutOfRoom (scene_of (map (λ b. state b) self.new.boxes.now) (D.files self.new.disk.now) (held_by self.new.account.now.task worker.new) self.new.spills) must) }
-        ensures when { IfOk result (λ _. SpillsWhenShort (scene_of (map (λ b. state b) self.old.boxes.now) (D.files self.old.disk.now) (held_by self.old.account.now.task worker.old) self.old.spills)
-            (scene_of (map (λ b. state b) self.new.boxes.now) (D.files self.new.disk.now) (held_by self.new.account.now.task worker.new) self.new.spills)) }
-        ensures its { IfOk result (λ _. IsBetween (scene_of (map (λ b. state b) self.new.boxes.now) (D.files self.new.disk.now) (held_by self.new.account.now.task worker.new) self.new.spills) self.new.leasts self.new.roomed) }
+        ensures no_room { IfNoRoom result (λ asked held floor. IsOutOfRoom (scene_of (map C.state self.new.boxes.now) (D.files self.new.disk.now) (held_by self.new.account.now.task worker.new) self.new.spills) must) }
+        ensures when { IfOk result (λ _. SpillsWhenShort (scene_of (map C.state self.old.boxes.now) (D.files self.old.disk.now) (held_by self.old.account.now.task worker.old) self.old.spills)
+            (scene_of (map C.state self.new.boxes.now) (D.files self.new.disk.now) (held_by self.new.account.now.task worker.new) self.new.spills)) }
+        ensures its { IfOk result (λ _. IsBetween (scene_of (map C.state self.new.boxes.now) (D.files self.new.disk.now) (held_by self.new.account.now.task worker.new) self.new.spills) self.new.leasts self.new.roomed) }
         ensures page { IfOk result (λ _. self.new.spills.page ≡ record { rows = []; room = 262144 }) }
         ensures live { IfOk result (λ _. self.new.live ≡ true) }
         ensures ended { OnErr result (self.new.live ≡ false) }
@@ -62,7 +63,7 @@ impl<'a, K: Disk, D: Disk, B: Basis> TaskMemory<'a, K, D, B, Spills> {
         ensures lent { self.new.disk.ghost_name ≡ self.old.disk.ghost_name }
         ensures leasts { self.new.leasts ≡ self.old.leasts }
         ensures roomed { self.new.roomed ≡ self.old.roomed }
-        ensures same { AllSame (map (λ b. state b) self.old.boxes.now) (map (λ b. state b) self.new.boxes.now) }
+        ensures same { AllSame (map C.state self.old.boxes.now) (map C.state self.new.boxes.now) }
         ensures disk { LeavesDisk (D.files self.old.disk.now) (D.files self.new.disk.now) (D.faults self.old.disk.now) (D.faults self.new.disk.now) }
         ensures cause { HasCauseAt TaskFault.DiskFault (D.faults self.old.disk.now) (D.faults self.new.disk.now) result }
     {
@@ -94,20 +95,20 @@ impl<'a, K: Disk, D: Disk, B: Basis> TaskMemory<'a, K, D, B, Spills> {
     ) -> Result<(), TaskFault>
         requires live { self.old.live ≡ true }
         requires at_work { IsAtWork self.old.account.now.manager.now self.old.account.now.task worker.old }
-        requires its { IsBetween (scene_of (map (λ b. state b) self.old.boxes.now) (D.files self.old.disk.now) (held_by self.old.account.now.task worker.old) self.old.spills) self.old.leasts self.old.roomed }
+        requires its { IsBetween (scene_of (map C.state self.old.boxes.now) (D.files self.old.disk.now) (held_by self.old.account.now.task worker.old) self.old.spills) self.old.leasts self.old.roomed }
         requires page { self.old.spills.page ≡ record { rows = []; room = 262144 } }
         requires within { consumer < length self.old.spills.picks.items }
-        requires entry { IsEntryBy (state_at (map (λ b. state b) self.old.boxes.now) (slice_index self.old.spills.picks.items consumer)).kind (record { key = key.now; value = value.now }) }
-        ensures fed { OnOk result (FedTo (scene_of (map (λ b. state b) self.old.boxes.now) (D.files self.old.disk.now) (held_by self.old.account.now.task worker.old) self.old.spills)
-            (scene_of (map (λ b. state b) self.new.boxes.now) (D.files self.new.disk.now) (held_by self.new.account.now.task worker.new) self.new.spills) (slice_index self.old.spills.picks.items consumer) (record { key = key.now; value = value.now })) }
+        requires entry { IsEntryBy (state_at (map C.state self.old.boxes.now) (slice_index self.old.spills.picks.items consumer)).kind (record { key = key.now; value = value.now }) }
+        ensures fed { OnOk result (FedTo (scene_of (map C.state self.old.boxes.now) (D.files self.old.disk.now) (held_by self.old.account.now.task worker.old) self.old.spills)
+            (scene_of (map C.state self.new.boxes.now) (D.files self.new.disk.now) (held_by self.new.account.now.task worker.new) self.new.spills) (slice_index self.old.spills.picks.items consumer) (record { key = key.now; value = value.now })) }
         ensures tells { IfNoRoom result (λ asked held floor. TellsHeld B.sizes (held_by self.new.account.now.task worker.new) held floor) }
-        ensures no_room { IfNoRoom result (λ asked held floor. LacksRoom (scene_of (map (λ b. state b) self.old.boxes.now) (D.files self.old.disk.now) (held_by self.old.account.now.task worker.old) self.old.spills)
-            (scene_of (map (λ b. state b) self.new.boxes.now) (D.files self.new.disk.now) (held_by self.new.account.now.task worker.new) self.new.spills) (record { key = key.now; value = value.now }) asked) }
-        ensures when { OnOk result (SpillsWhenShort (scene_of (map (λ b. state b) self.old.boxes.now) (D.files self.old.disk.now) (held_by self.old.account.now.task worker.old) self.old.spills)
-            (scene_of (map (λ b. state b) self.new.boxes.now) (D.files self.new.disk.now) (held_by self.new.account.now.task worker.new) self.new.spills)) }
-        ensures unfed { OnErr result (AllSame (map (λ b. state b) self.old.boxes.now) (map (λ b. state b) self.new.boxes.now)) }
-        ensures others { OthersSame (map (λ b. state b) self.old.boxes.now) (map (λ b. state b) self.new.boxes.now) (slice_index self.old.spills.picks.items consumer) }
-        ensures its { OnOk result (IsBetween (scene_of (map (λ b. state b) self.new.boxes.now) (D.files self.new.disk.now) (held_by self.new.account.now.task worker.new) self.new.spills) self.new.leasts self.new.roomed) }
+        ensures no_room { IfNoRoom result (λ asked held floor. LacksRoom (scene_of (map C.state self.old.boxes.now) (D.files self.old.disk.now) (held_by self.old.account.now.task worker.old) self.old.spills)
+            (scene_of (map C.state self.new.boxes.now) (D.files self.new.disk.now) (held_by self.new.account.now.task worker.new) self.new.spills) (record { key = key.now; value = value.now }) asked) }
+        ensures when { OnOk result (SpillsWhenShort (scene_of (map C.state self.old.boxes.now) (D.files self.old.disk.now) (held_by self.old.account.now.task worker.old) self.old.spills)
+            (scene_of (map C.state self.new.boxes.now) (D.files self.new.disk.now) (held_by self.new.account.now.task worker.new) self.new.spills)) }
+        ensures unfed { OnErr result (AllSame (map C.state self.old.boxes.now) (map C.state self.new.boxes.now)) }
+        ensures others { OthersSame (map C.state self.old.boxes.now) (map C.state self.new.boxes.now) (slice_index self.old.spills.picks.items consumer) }
+        ensures its { OnOk result (IsBetween (scene_of (map C.state self.new.boxes.now) (D.files self.new.disk.now) (held_by self.new.account.now.task worker.new) self.new.spills) self.new.leasts self.new.roomed) }
         ensures page { OnOk result (self.new.spills.page ≡ record { rows = []; room = 262144 }) }
         ensures live { OnOk result (self.new.live ≡ true) }
         ensures ended { OnErr result (self.new.live ≡ false) }
@@ -148,17 +149,17 @@ impl<'a, K: Disk, D: Disk, B: Basis> TaskMemory<'a, K, D, B, Spills> {
     ) -> Result<Vec<Run>, TaskFault>
         requires live { self.old.live ≡ true }
         requires at_work { IsAtWork self.old.account.now.manager.now self.old.account.now.task worker.old }
-        requires its { IsBetween (scene_of (map (λ b. state b) self.old.boxes.now) (D.files self.old.disk.now) (held_by self.old.account.now.task worker.old) self.old.spills) self.old.leasts self.old.roomed }
+        requires its { IsBetween (scene_of (map C.state self.old.boxes.now) (D.files self.old.disk.now) (held_by self.old.account.now.task worker.old) self.old.spills) self.old.leasts self.old.roomed }
         requires page { self.old.spills.page ≡ record { rows = []; room = 262144 } }
         requires within { consumer < length self.old.spills.picks.items }
-        ensures empty { IfOk result (λ _. (state_at (map (λ b. state b) self.new.boxes.now) (slice_index self.old.spills.picks.items consumer)).entries ≡ []) }
-        ensures kept { IfOk result (λ _. KeepEach (map (λ b. state b) self.old.boxes.now) (map (λ b. state b) self.new.boxes.now)) }
+        ensures empty { IfOk result (λ _. (state_at (map C.state self.new.boxes.now) (slice_index self.old.spills.picks.items consumer)).entries ≡ []) }
+        ensures kept { IfOk result (λ _. KeepEach (map C.state self.old.boxes.now) (map C.state self.new.boxes.now)) }
         ensures picks { IfOk result (λ _. self.new.spills.picks.items ≡ self.old.spills.picks.items) }
         ensures bounded { IfOk result (λ runs. All IsBounded runs.items) }
-        ensures totals { IfOk result (λ runs. DrainsTotals (scene_of (map (λ b. state b) self.old.boxes.now) (D.files self.old.disk.now) (held_by self.old.account.now.task worker.old) self.old.spills)
-            (scene_of (map (λ b. state b) self.new.boxes.now) (D.files self.new.disk.now) (held_by self.new.account.now.task worker.new) self.new.spills) (slice_index self.old.spills.picks.items consumer) runs.items) }
+        ensures totals { IfOk result (λ runs. DrainsTotals (scene_of (map C.state self.old.boxes.now) (D.files self.old.disk.now) (held_by self.old.account.now.task worker.old) self.old.spills)
+            (scene_of (map C.state self.new.boxes.now) (D.files self.new.disk.now) (held_by self.new.account.now.task worker.new) self.new.spills) (slice_index self.old.spills.picks.items consumer) runs.items) }
         ensures never { NeverNoRoom result }
-        ensures its { IfOk result (λ _. IsBetween (scene_of (map (λ b. state b) self.new.boxes.now) (D.files self.new.disk.now) (held_by self.new.account.now.task worker.new) self.new.spills) self.new.leasts self.new.roomed) }
+        ensures its { IfOk result (λ _. IsBetween (scene_of (map C.state self.new.boxes.now) (D.files self.new.disk.now) (held_by self.new.account.now.task worker.new) self.new.spills) self.new.leasts self.new.roomed) }
         ensures page { IfOk result (λ _. self.new.spills.page ≡ record { rows = []; room = 262144 }) }
         ensures live { IfOk result (λ _. self.new.live ≡ true) }
         ensures ended { OnErr result (self.new.live ≡ false) }
@@ -169,7 +170,7 @@ impl<'a, K: Disk, D: Disk, B: Basis> TaskMemory<'a, K, D, B, Spills> {
         ensures lent { self.new.disk.ghost_name ≡ self.old.disk.ghost_name }
         ensures leasts { self.new.leasts ≡ self.old.leasts }
         ensures roomed { self.new.roomed ≡ self.old.roomed }
-        ensures same { AllSame (map (λ b. state b) self.old.boxes.now) (map (λ b. state b) self.new.boxes.now) }
+        ensures same { AllSame (map C.state self.old.boxes.now) (map C.state self.new.boxes.now) }
         ensures disk { LeavesDisk (D.files self.old.disk.now) (D.files self.new.disk.now) (D.faults self.old.disk.now) (D.faults self.new.disk.now) }
         ensures cause { HasCauseAt TaskFault.DiskFault (D.faults self.old.disk.now) (D.faults self.new.disk.now) result }
     {

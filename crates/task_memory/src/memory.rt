@@ -1,11 +1,15 @@
 //! A task's memory: its consumers, what they spilled, and what the task holds.
 
 ghost use Rattle.std.specs.Prelude.{◌≡◌, ◌∷◌, []};
+ghost use Rattle.std.specs.Borrow.{Lends, sem};
+ghost use mir.Syntax.{named};
 ghost use Rattle.pool_ledger.specs.declared.entry.Event.TheVariants.{End};
 ghost use Rattle.pool_ledger.specs.History.{held};
 ghost use Rattle.pool_laws.specs.Growing.{entry_by};
 ghost use Rattle.memory_lock.specs.Workers.{Adds, IsFree, KeepsPin, SeesMore, own_of};
 ghost use Rattle.spill_stack.specs.Going.{IsAtWork};
+ghost use Rattle.spill_stack.specs.contracts.spills.Spills.{the_row as spills_row};
+ghost use Rattle.task_memory.specs.contracts.memory.TaskMemory.{the_row};
 
 use consumer_trait::Consumer;
 use memory_lock::{Basis, Worker};
@@ -13,13 +17,14 @@ use spill_disk::Disk;
 use spill_stack::{Account, Spills};
 use std::sync::Wait;
 
-/// The memory of a task that has begun and not ended: its account, its consumers in boxes and the disk that they spill
-/// to, all lent to it, their runs, and what the task holds. It has to be ended: it can't be dropped.
+/// The memory of a task that has begun and not ended: its account, its consumers and the disk that they spill to, all
+/// lent to it, their runs, and what the task holds. It has to be ended: it can't be dropped.
 ///
-/// `S` is always `Spills`. Beside a field that declares a vector, callers would not learn what is left in the boxes.
-pub struct TaskMemory<'a, K: Disk, D: Disk, B: Basis, S = Spills> {
+/// `C` is a box of a consumer. `S` is always `Spills`: beside a field that declares a vector, callers would not learn
+/// what is left in the boxes.
+pub struct TaskMemory<'a, C: Consumer, K: Disk, D: Disk, B: Basis, S = Spills> {
     pub(crate) account: &'a Account<'a, K, B>,
-    pub(crate) boxes: &'a mut [Box<dyn Consumer + Send>],
+    pub(crate) boxes: &'a mut [C],
     pub(crate) disk: &'a mut D,
     pub(crate) spills: S,
     pub(crate) leasts: u64,
@@ -27,12 +32,21 @@ pub struct TaskMemory<'a, K: Disk, D: Disk, B: Basis, S = Spills> {
     pub(crate) live: bool,
 }
 
-impl<'a, K: Disk, D: Disk, B: Basis> TaskMemory<'a, K, D, B, Spills> {
+impl<'a, C: Consumer, K: Disk, D: Disk, B: Basis> TaskMemory<'a, C, K, D, B, Spills> {
     /// Whether no call has given up.
     pub fn live(&self) -> bool
         ensures { result ≡ self.now.live }
     {
         self.live
+    }
+
+    /// The disk that the consumers spill to. Their runs stand as long as their files are left as they are.
+    pub fn disk(&mut self) -> &mut D
+        ensures* lent { sem 𝓛 (Lends (the_row (record { mir = named 1; lft = [] }) C.row K.row D.row B.row spills_row K.Disk B.Basis) D.row self.entry result
+            (λ d. record self.old { disk = record self.old.disk { now = d } })) }
+        ensures value { result.now ≡ self.old.disk.now }
+    {
+        self.disk
     }
 
     /// Gives back what was lent. The task goes on until `end_task`.

@@ -11,12 +11,13 @@ use crate::TaskFault;
 use crate::alone::acquire_alone;
 use crate::begin::used_in;
 use crate::memory::TaskMemory;
+use consumer_trait::Consumer;
 use memory_lock::{Basis, Worker};
 use spill_disk::Disk;
 use spill_stack::Spills;
 use std::sync::Wait;
 
-impl<'a, K: Disk, D: Disk, B: Basis> TaskMemory<'a, K, D, B, Spills> {
+impl<'a, C: Consumer, K: Disk, D: Disk, B: Basis> TaskMemory<'a, C, K, D, B, Spills> {
     /// Gives the leasts back, once all consumers are drained.
     pub fn free_leasts<R: Wait + Sync>(
         &mut self,
@@ -25,10 +26,10 @@ impl<'a, K: Disk, D: Disk, B: Basis> TaskMemory<'a, K, D, B, Spills> {
     ) -> Result<(), TaskFault>
         requires live { self.old.live ≡ true }
         requires at_work { IsAtWork self.old.account.now.manager.now self.old.account.now.task worker.old }
-        requires its { IsBetween (scene_of (map (λ b. state b) self.old.boxes.now) (D.files self.old.disk.now) (held_by self.old.account.now.task worker.old) self.old.spills) self.old.leasts self.old.roomed }
-        requires drained { IsDry (map (λ b. state b) self.old.boxes.now) }
+        requires its { IsBetween (scene_of (map C.state self.old.boxes.now) (D.files self.old.disk.now) (held_by self.old.account.now.task worker.old) self.old.spills) self.old.leasts self.old.roomed }
+        requires drained { IsDry (map C.state self.old.boxes.now) }
         ensures never { NeverNoRoom result }
-        ensures its { OnOk result (IsBetween (scene_of (map (λ b. state b) self.new.boxes.now) (D.files self.new.disk.now) (held_by self.new.account.now.task worker.new) self.new.spills) self.new.leasts self.new.roomed) }
+        ensures its { OnOk result (IsBetween (scene_of (map C.state self.new.boxes.now) (D.files self.new.disk.now) (held_by self.new.account.now.task worker.new) self.new.spills) self.new.leasts self.new.roomed) }
         ensures live { OnOk result (self.new.live ≡ true) }
         ensures ended { OnErr result (self.new.live ≡ false) }
         ensures at_work { IsAtWork self.new.account.now.manager.now self.new.account.now.task worker.new }
@@ -62,14 +63,14 @@ impl<'a, K: Disk, D: Disk, B: Basis> TaskMemory<'a, K, D, B, Spills> {
     ) -> Result<u64, TaskFault>
         requires live { self.old.live ≡ true }
         requires at_work { IsAtWork self.old.account.now.manager.now self.old.account.now.task worker.old }
-        requires its { IsBetween (scene_of (map (λ b. state b) self.old.boxes.now) (D.files self.old.disk.now) (held_by self.old.account.now.task worker.old) self.old.spills) self.old.leasts self.old.roomed }
+        requires its { IsBetween (scene_of (map C.state self.old.boxes.now) (D.files self.old.disk.now) (held_by self.old.account.now.task worker.old) self.old.spills) self.old.leasts self.old.roomed }
         requires freed { self.old.leasts ≡ 0 }
         requires some { 1 ≤ must }
         requires wish { must ≤ wish }
         requires most { wish ≤ 2 ^ 50 }
         ensures enough { IfOk result (λ got. must ≤ got) }
         ensures refused { IfErr result (LacksAlone B.sizes (held_by self.old.account.now.task worker.old) (held_by self.new.account.now.task worker.new) must) }
-        ensures its { IfOk result (λ _. IsBetween (scene_of (map (λ b. state b) self.new.boxes.now) (D.files self.new.disk.now) (held_by self.new.account.now.task worker.new) self.new.spills) self.new.leasts self.new.roomed) }
+        ensures its { IfOk result (λ _. IsBetween (scene_of (map C.state self.new.boxes.now) (D.files self.new.disk.now) (held_by self.new.account.now.task worker.new) self.new.spills) self.new.leasts self.new.roomed) }
         ensures live { IfOk result (λ _. self.new.live ≡ true) }
         ensures ended { OnErr result (self.new.live ≡ false) }
         ensures at_work { IsAtWork self.new.account.now.manager.now self.new.account.now.task worker.new }
@@ -103,11 +104,11 @@ impl<'a, K: Disk, D: Disk, B: Basis> TaskMemory<'a, K, D, B, Spills> {
     ) -> Result<(), TaskFault>
         requires live { self.old.live ≡ true }
         requires at_work { IsAtWork self.old.account.now.manager.now self.old.account.now.task worker.old }
-        requires its { IsBetween (scene_of (map (λ b. state b) self.old.boxes.now) (D.files self.old.disk.now) (held_by self.old.account.now.task worker.old) self.old.spills) self.old.leasts self.old.roomed }
+        requires its { IsBetween (scene_of (map C.state self.old.boxes.now) (D.files self.old.disk.now) (held_by self.old.account.now.task worker.old) self.old.spills) self.old.leasts self.old.roomed }
         requires freed { self.old.leasts ≡ 0 }
         requires got { bytes ≤ self.old.roomed }
         ensures never { NeverNoRoom result }
-        ensures its { OnOk result (IsBetween (scene_of (map (λ b. state b) self.new.boxes.now) (D.files self.new.disk.now) (held_by self.new.account.now.task worker.new) self.new.spills) self.new.leasts self.new.roomed) }
+        ensures its { OnOk result (IsBetween (scene_of (map C.state self.new.boxes.now) (D.files self.new.disk.now) (held_by self.new.account.now.task worker.new) self.new.spills) self.new.leasts self.new.roomed) }
         ensures live { OnOk result (self.new.live ≡ true) }
         ensures ended { OnErr result (self.new.live ≡ false) }
         ensures at_work { IsAtWork self.new.account.now.manager.now self.new.account.now.task worker.new }

@@ -67,14 +67,14 @@ pub fn start<C: Consumer, K: Disk, B: Basis, R: Wait + Sync>(
     }
 }
 
-impl<'a, K: Disk, D: Disk, B: Basis> TaskMemory<'a, K, D, B, Spills> {
+impl<'a, C: Consumer, K: Disk, D: Disk, B: Basis> TaskMemory<'a, C, K, D, B, Spills> {
     /// The memory of a task that was started with these boxes, which are lent to it until its end, as the disk is.
     pub fn over(
         started: Started,
         account: &'a Account<'a, K, B>,
-        boxes: &'a mut [Box<dyn Consumer + Send>],
+        boxes: &'a mut [C],
         disk: &'a mut D,
-    ) -> TaskMemory<'a, K, D, B, Spills>
+    ) -> TaskMemory<'a, C, K, D, B, Spills>
         ensures account { result.account.now ≡ account.now }
         ensures boxes { result.boxes.ghost_name ≡ boxes.entry.ghost_name }
         ensures lent { result.disk.ghost_name ≡ disk.entry.ghost_name }

@@ -7,7 +7,7 @@ ghost use Rattle.task_memory.specs.Live.{IsBetween};
 ghost use Rattle.task_memory.specs.Scripts.{IsSet};
 
 use crate::{TaskFault, TaskMemory};
-use consumer_trait::{Consumer, is_empty_at};
+use consumer_trait::{Consumer, is_empty_at, used_at};
 use memory_lock::{Basis, Worker};
 use run_file::Run;
 use spill_disk::Disk;
@@ -61,9 +61,9 @@ fn are_empty<C: Consumer>(members: &mut [C]) -> bool
 }
 
 // The bytes that were got, or a refusal where there is no such consumer.
-fn ask<K: Disk, D: Disk, B: Basis, R: Wait + Sync>(
+fn ask<C: Consumer, K: Disk, D: Disk, B: Basis, R: Wait + Sync>(
     rt: &R,
-    memory: &mut TaskMemory<'_, K, D, B, Spills>,
+    memory: &mut TaskMemory<'_, C, K, D, B, Spills>,
     worker: &mut Worker<B>,
     consumer: usize,
     must: u64,
@@ -71,10 +71,10 @@ fn ask<K: Disk, D: Disk, B: Basis, R: Wait + Sync>(
 ) -> Result<u64, TaskFault>
     requires live { memory.old.live ≡ true }
     requires at_work { IsAtWork memory.old.account.now.manager.now memory.old.account.now.task worker.old }
-    requires set { IsSet (scene_of (map (λ b. state b) memory.old.boxes.now) (D.files memory.old.disk.now) (held_by memory.old.account.now.task worker.old) memory.old.spills) memory.old.leasts memory.old.roomed }
+    requires set { IsSet (scene_of (map C.state memory.old.boxes.now) (D.files memory.old.disk.now) (held_by memory.old.account.now.task worker.old) memory.old.spills) memory.old.leasts memory.old.roomed }
     requires page { memory.old.spills.page ≡ record { rows = []; room = 262144 } }
     ensures live { IfOk result (λ _. memory.new.live ≡ true) }
-    ensures set { IfOk result (λ _. IsSet (scene_of (map (λ b. state b) memory.new.boxes.now) (D.files memory.new.disk.now) (held_by memory.new.account.now.task worker.new) memory.new.spills) memory.new.leasts memory.new.roomed) }
+    ensures set { IfOk result (λ _. IsSet (scene_of (map C.state memory.new.boxes.now) (D.files memory.new.disk.now) (held_by memory.new.account.now.task worker.new) memory.new.spills) memory.new.leasts memory.new.roomed) }
     ensures page { IfOk result (λ _. memory.new.spills.page ≡ record { rows = []; room = 262144 }) }
     ensures at_work { IsAtWork memory.new.account.now.manager.now memory.new.account.now.task worker.new }
     ensures goes { Goes memory.old.account.now.task worker.old worker.new }
@@ -91,19 +91,19 @@ fn ask<K: Disk, D: Disk, B: Basis, R: Wait + Sync>(
 }
 
 // The same of an entry that is fed.
-fn put<K: Disk, D: Disk, B: Basis, R: Wait + Sync>(
+fn put<C: Consumer, K: Disk, D: Disk, B: Basis, R: Wait + Sync>(
     rt: &R,
-    memory: &mut TaskMemory<'_, K, D, B, Spills>,
+    memory: &mut TaskMemory<'_, C, K, D, B, Spills>,
     worker: &mut Worker<B>,
     consumer: usize,
     key: u8,
 ) -> Result<u64, TaskFault>
     requires live { memory.old.live ≡ true }
     requires at_work { IsAtWork memory.old.account.now.manager.now memory.old.account.now.task worker.old }
-    requires set { IsSet (scene_of (map (λ b. state b) memory.old.boxes.now) (D.files memory.old.disk.now) (held_by memory.old.account.now.task worker.old) memory.old.spills) memory.old.leasts memory.old.roomed }
+    requires set { IsSet (scene_of (map C.state memory.old.boxes.now) (D.files memory.old.disk.now) (held_by memory.old.account.now.task worker.old) memory.old.spills) memory.old.leasts memory.old.roomed }
     requires page { memory.old.spills.page ≡ record { rows = []; room = 262144 } }
     ensures live { IfOk result (λ _. memory.new.live ≡ true) }
-    ensures set { IfOk result (λ _. IsSet (scene_of (map (λ b. state b) memory.new.boxes.now) (D.files memory.new.disk.now) (held_by memory.new.account.now.task worker.new) memory.new.spills) memory.new.leasts memory.new.roomed) }
+    ensures set { IfOk result (λ _. IsSet (scene_of (map C.state memory.new.boxes.now) (D.files memory.new.disk.now) (held_by memory.new.account.now.task worker.new) memory.new.spills) memory.new.leasts memory.new.roomed) }
     ensures page { IfOk result (λ _. memory.new.spills.page ≡ record { rows = []; room = 262144 }) }
     ensures at_work { IsAtWork memory.new.account.now.manager.now memory.new.account.now.task worker.new }
     ensures goes { Goes memory.old.account.now.task worker.old worker.new }
@@ -117,20 +117,32 @@ fn put<K: Disk, D: Disk, B: Basis, R: Wait + Sync>(
     Ok(0)
 }
 
-// The same of a drain: how many runs the consumer left, which are put behind these.
-fn empty<K: Disk, D: Disk, B: Basis, R: Wait + Sync>(
+// Puts a consumer's runs behind these.
+fn note_runs(
+    runs: &mut Vec<(usize, Run)>,
+    consumer: usize,
+    drained: &[Run],
+) -> Result<(), AllocError> {
+    for run in drained {
+        runs.push((consumer, *run))?;
+    }
+    Ok(())
+}
+
+// The same of a drain. The runs are put behind these.
+fn empty<C: Consumer, K: Disk, D: Disk, B: Basis, R: Wait + Sync>(
     rt: &R,
-    memory: &mut TaskMemory<'_, K, D, B, Spills>,
+    memory: &mut TaskMemory<'_, C, K, D, B, Spills>,
     worker: &mut Worker<B>,
     consumer: usize,
-    runs: &mut Vec<Run>,
+    runs: &mut Vec<(usize, Run)>,
 ) -> Result<u64, TaskFault>
     requires live { memory.old.live ≡ true }
     requires at_work { IsAtWork memory.old.account.now.manager.now memory.old.account.now.task worker.old }
-    requires set { IsSet (scene_of (map (λ b. state b) memory.old.boxes.now) (D.files memory.old.disk.now) (held_by memory.old.account.now.task worker.old) memory.old.spills) memory.old.leasts memory.old.roomed }
+    requires set { IsSet (scene_of (map C.state memory.old.boxes.now) (D.files memory.old.disk.now) (held_by memory.old.account.now.task worker.old) memory.old.spills) memory.old.leasts memory.old.roomed }
     requires page { memory.old.spills.page ≡ record { rows = []; room = 262144 } }
     ensures live { IfOk result (λ _. memory.new.live ≡ true) }
-    ensures set { IfOk result (λ _. IsSet (scene_of (map (λ b. state b) memory.new.boxes.now) (D.files memory.new.disk.now) (held_by memory.new.account.now.task worker.new) memory.new.spills) memory.new.leasts memory.new.roomed) }
+    ensures set { IfOk result (λ _. IsSet (scene_of (map C.state memory.new.boxes.now) (D.files memory.new.disk.now) (held_by memory.new.account.now.task worker.new) memory.new.spills) memory.new.leasts memory.new.roomed) }
     ensures page { IfOk result (λ _. memory.new.spills.page ≡ record { rows = []; room = 262144 }) }
     ensures at_work { IsAtWork memory.new.account.now.manager.now memory.new.account.now.task worker.new }
     ensures goes { Goes memory.old.account.now.task worker.old worker.new }
@@ -141,25 +153,24 @@ fn empty<K: Disk, D: Disk, B: Basis, R: Wait + Sync>(
         return Err(TaskFault::NoMemory);
     }
     let drained = memory.drain(rt, worker, consumer)?;
-    let count = drained.len() as u64;
-    if runs.extend_from_slice(&drained).is_err() {
+    if note_runs(runs, consumer, &drained).is_err() {
         return Err(TaskFault::NoMemory);
     }
-    Ok(count)
+    Ok(0)
 }
 
 // The same of the leasts, which are freed where all consumers are drained.
-fn free<K: Disk, D: Disk, B: Basis, R: Wait + Sync>(
+fn free<C: Consumer, K: Disk, D: Disk, B: Basis, R: Wait + Sync>(
     rt: &R,
-    memory: &mut TaskMemory<'_, K, D, B, Spills>,
+    memory: &mut TaskMemory<'_, C, K, D, B, Spills>,
     worker: &mut Worker<B>,
 ) -> Result<u64, TaskFault>
     requires live { memory.old.live ≡ true }
     requires at_work { IsAtWork memory.old.account.now.manager.now memory.old.account.now.task worker.old }
-    requires set { IsSet (scene_of (map (λ b. state b) memory.old.boxes.now) (D.files memory.old.disk.now) (held_by memory.old.account.now.task worker.old) memory.old.spills) memory.old.leasts memory.old.roomed }
+    requires set { IsSet (scene_of (map C.state memory.old.boxes.now) (D.files memory.old.disk.now) (held_by memory.old.account.now.task worker.old) memory.old.spills) memory.old.leasts memory.old.roomed }
     requires page { memory.old.spills.page ≡ record { rows = []; room = 262144 } }
     ensures live { IfOk result (λ _. memory.new.live ≡ true) }
-    ensures set { IfOk result (λ _. IsSet (scene_of (map (λ b. state b) memory.new.boxes.now) (D.files memory.new.disk.now) (held_by memory.new.account.now.task worker.new) memory.new.spills) memory.new.leasts memory.new.roomed) }
+    ensures set { IfOk result (λ _. IsSet (scene_of (map C.state memory.new.boxes.now) (D.files memory.new.disk.now) (held_by memory.new.account.now.task worker.new) memory.new.spills) memory.new.leasts memory.new.roomed) }
     ensures page { IfOk result (λ _. memory.new.spills.page ≡ record { rows = []; room = 262144 }) }
     ensures at_work { IsAtWork memory.new.account.now.manager.now memory.new.account.now.task worker.new }
     ensures goes { Goes memory.old.account.now.task worker.old worker.new }
@@ -174,19 +185,19 @@ fn free<K: Disk, D: Disk, B: Basis, R: Wait + Sync>(
 }
 
 // The same of room, where the leasts are freed.
-fn make_room<K: Disk, D: Disk, B: Basis, R: Wait + Sync>(
+fn make_room<C: Consumer, K: Disk, D: Disk, B: Basis, R: Wait + Sync>(
     rt: &R,
-    memory: &mut TaskMemory<'_, K, D, B, Spills>,
+    memory: &mut TaskMemory<'_, C, K, D, B, Spills>,
     worker: &mut Worker<B>,
     must: u64,
     wish: u64,
 ) -> Result<u64, TaskFault>
     requires live { memory.old.live ≡ true }
     requires at_work { IsAtWork memory.old.account.now.manager.now memory.old.account.now.task worker.old }
-    requires set { IsSet (scene_of (map (λ b. state b) memory.old.boxes.now) (D.files memory.old.disk.now) (held_by memory.old.account.now.task worker.old) memory.old.spills) memory.old.leasts memory.old.roomed }
+    requires set { IsSet (scene_of (map C.state memory.old.boxes.now) (D.files memory.old.disk.now) (held_by memory.old.account.now.task worker.old) memory.old.spills) memory.old.leasts memory.old.roomed }
     requires page { memory.old.spills.page ≡ record { rows = []; room = 262144 } }
     ensures live { IfOk result (λ _. memory.new.live ≡ true) }
-    ensures set { IfOk result (λ _. IsSet (scene_of (map (λ b. state b) memory.new.boxes.now) (D.files memory.new.disk.now) (held_by memory.new.account.now.task worker.new) memory.new.spills) memory.new.leasts memory.new.roomed) }
+    ensures set { IfOk result (λ _. IsSet (scene_of (map C.state memory.new.boxes.now) (D.files memory.new.disk.now) (held_by memory.new.account.now.task worker.new) memory.new.spills) memory.new.leasts memory.new.roomed) }
     ensures page { IfOk result (λ _. memory.new.spills.page ≡ record { rows = []; room = 262144 }) }
     ensures at_work { IsAtWork memory.new.account.now.manager.now memory.new.account.now.task worker.new }
     ensures goes { Goes memory.old.account.now.task worker.old worker.new }
@@ -203,18 +214,18 @@ fn make_room<K: Disk, D: Disk, B: Basis, R: Wait + Sync>(
 }
 
 // The same of room that is given back, at most what there is.
-fn hand_back<K: Disk, D: Disk, B: Basis, R: Wait + Sync>(
+fn hand_back<C: Consumer, K: Disk, D: Disk, B: Basis, R: Wait + Sync>(
     rt: &R,
-    memory: &mut TaskMemory<'_, K, D, B, Spills>,
+    memory: &mut TaskMemory<'_, C, K, D, B, Spills>,
     worker: &mut Worker<B>,
     bytes: u64,
 ) -> Result<u64, TaskFault>
     requires live { memory.old.live ≡ true }
     requires at_work { IsAtWork memory.old.account.now.manager.now memory.old.account.now.task worker.old }
-    requires set { IsSet (scene_of (map (λ b. state b) memory.old.boxes.now) (D.files memory.old.disk.now) (held_by memory.old.account.now.task worker.old) memory.old.spills) memory.old.leasts memory.old.roomed }
+    requires set { IsSet (scene_of (map C.state memory.old.boxes.now) (D.files memory.old.disk.now) (held_by memory.old.account.now.task worker.old) memory.old.spills) memory.old.leasts memory.old.roomed }
     requires page { memory.old.spills.page ≡ record { rows = []; room = 262144 } }
     ensures live { IfOk result (λ _. memory.new.live ≡ true) }
-    ensures set { IfOk result (λ _. IsSet (scene_of (map (λ b. state b) memory.new.boxes.now) (D.files memory.new.disk.now) (held_by memory.new.account.now.task worker.new) memory.new.spills) memory.new.leasts memory.new.roomed) }
+    ensures set { IfOk result (λ _. IsSet (scene_of (map C.state memory.new.boxes.now) (D.files memory.new.disk.now) (held_by memory.new.account.now.task worker.new) memory.new.spills) memory.new.leasts memory.new.roomed) }
     ensures page { IfOk result (λ _. memory.new.spills.page ≡ record { rows = []; room = 262144 }) }
     ensures at_work { IsAtWork memory.new.account.now.manager.now memory.new.account.now.task worker.new }
     ensures goes { Goes memory.old.account.now.task worker.old worker.new }
@@ -225,23 +236,23 @@ fn hand_back<K: Disk, D: Disk, B: Basis, R: Wait + Sync>(
         return Err(TaskFault::NoMemory);
     }
     memory.give_back(rt, worker, bytes)?;
-    Ok(bytes)
+    Ok(0)
 }
 
-// Takes a step: how many bytes it got or gave back, or how many runs it handed out, which are put behind these.
-fn take_step<K: Disk, D: Disk, B: Basis, R: Wait + Sync>(
+// Takes a step: how many bytes it got. Runs that it hands out are put behind these.
+fn take_step<C: Consumer, K: Disk, D: Disk, B: Basis, R: Wait + Sync>(
     rt: &R,
-    memory: &mut TaskMemory<'_, K, D, B, Spills>,
+    memory: &mut TaskMemory<'_, C, K, D, B, Spills>,
     worker: &mut Worker<B>,
     step: Step,
-    runs: &mut Vec<Run>,
+    runs: &mut Vec<(usize, Run)>,
 ) -> Result<u64, TaskFault>
     requires live { memory.old.live ≡ true }
     requires at_work { IsAtWork memory.old.account.now.manager.now memory.old.account.now.task worker.old }
-    requires set { IsSet (scene_of (map (λ b. state b) memory.old.boxes.now) (D.files memory.old.disk.now) (held_by memory.old.account.now.task worker.old) memory.old.spills) memory.old.leasts memory.old.roomed }
+    requires set { IsSet (scene_of (map C.state memory.old.boxes.now) (D.files memory.old.disk.now) (held_by memory.old.account.now.task worker.old) memory.old.spills) memory.old.leasts memory.old.roomed }
     requires page { memory.old.spills.page ≡ record { rows = []; room = 262144 } }
     ensures live { IfOk result (λ _. memory.new.live ≡ true) }
-    ensures set { IfOk result (λ _. IsSet (scene_of (map (λ b. state b) memory.new.boxes.now) (D.files memory.new.disk.now) (held_by memory.new.account.now.task worker.new) memory.new.spills) memory.new.leasts memory.new.roomed) }
+    ensures set { IfOk result (λ _. IsSet (scene_of (map C.state memory.new.boxes.now) (D.files memory.new.disk.now) (held_by memory.new.account.now.task worker.new) memory.new.spills) memory.new.leasts memory.new.roomed) }
     ensures page { IfOk result (λ _. memory.new.spills.page ≡ record { rows = []; room = 262144 }) }
     ensures at_work { IsAtWork memory.new.account.now.manager.now memory.new.account.now.task worker.new }
     ensures goes { Goes memory.old.account.now.task worker.old worker.new }
@@ -261,18 +272,74 @@ fn take_step<K: Disk, D: Disk, B: Basis, R: Wait + Sync>(
     }
 }
 
+/// What a step was answered, and what each box uses then.
+#[derive(Clone, Copy)]
+pub struct Note {
+    pub answer: Result<u64, TaskFault>,
+    pub uses: [u64; 4],
+}
+
+// What each of the first four members uses.
+fn uses_in<C: Consumer>(members: &[C]) -> [u64; 4] {
+    let mut uses = [0; 4];
+    for i in 0..members.len().min(4) {
+        uses[i] = used_at(members, i);
+    }
+    uses
+}
+
+// The same where they are lent as they can change. None does.
+fn uses_of<C: Consumer>(members: &mut [C]) -> [u64; 4]
+    ensures { members.new ≡ members.old }
+{
+    uses_in(members)
+}
+
+/// Whether each run's last byte can be read through the memory. One call of the disk may fail, and the next one doesn't.
+pub fn are_readable<C: Consumer, K: Disk, D: Disk, B: Basis>(
+    memory: &mut TaskMemory<'_, C, K, D, B, Spills>,
+    runs: &[(usize, Run)],
+) -> bool {
+    for (_, run) in runs {
+        let mut last = [0];
+        let place = run.bytes.saturating_sub(1);
+        let read = match memory.disk().read_at(run.file, place, &mut last) {
+            Ok(count) => Ok(count),
+            Err(_) => memory.disk().read_at(run.file, place, &mut last),
+        };
+        if read != Ok(1) {
+            return false;
+        }
+    }
+    true
+}
+
+/// Takes what the consumers have of runs, and puts it behind these.
+pub fn take_left<C: Consumer, K: Disk, D: Disk, B: Basis>(
+    memory: &mut TaskMemory<'_, C, K, D, B, Spills>,
+    runs: &mut Vec<(usize, Run)>,
+) -> Result<(), AllocError>
+    ensures account { memory.new.account.now ≡ memory.old.account.now }
+{
+    for consumer in 0..memory.spills.picks().len() {
+        let place = memory.spills.picks()[consumer];
+        note_runs(runs, consumer, &memory.spills.take_runs(place))?;
+    }
+    Ok(())
+}
+
 /// Takes these steps up to the first refusal, and notes the answers.
-pub fn take_steps<K: Disk, D: Disk, B: Basis, R: Wait + Sync>(
+pub fn take_steps<C: Consumer, K: Disk, D: Disk, B: Basis, R: Wait + Sync>(
     rt: &R,
-    memory: &mut TaskMemory<'_, K, D, B, Spills>,
+    memory: &mut TaskMemory<'_, C, K, D, B, Spills>,
     worker: &mut Worker<B>,
     steps: &[Step],
-    notes: &mut Vec<Result<u64, TaskFault>>,
-    runs: &mut Vec<Run>,
+    notes: &mut Vec<Note>,
+    runs: &mut Vec<(usize, Run)>,
 ) -> Result<(), AllocError>
     requires live { memory.old.live ≡ true }
     requires at_work { IsAtWork memory.old.account.now.manager.now memory.old.account.now.task worker.old }
-    requires set { IsSet (scene_of (map (λ b. state b) memory.old.boxes.now) (D.files memory.old.disk.now) (held_by memory.old.account.now.task worker.old) memory.old.spills) memory.old.leasts memory.old.roomed }
+    requires set { IsSet (scene_of (map C.state memory.old.boxes.now) (D.files memory.old.disk.now) (held_by memory.old.account.now.task worker.old) memory.old.spills) memory.old.leasts memory.old.roomed }
     requires page { memory.old.spills.page ≡ record { rows = []; room = 262144 } }
     ensures at_work { IsAtWork memory.new.account.now.manager.now memory.new.account.now.task worker.new }
     ensures goes { Goes memory.old.account.now.task worker.old worker.new }
@@ -281,9 +348,15 @@ pub fn take_steps<K: Disk, D: Disk, B: Basis, R: Wait + Sync>(
     memory.account.goes_on();
     for step in steps {
         match take_step(rt, memory, worker, *step, runs) {
-            Ok(got) => notes.push(Ok(got))?,
+            Ok(got) => notes.push(Note {
+                answer: Ok(got),
+                uses: uses_of(memory.boxes),
+            })?,
             Err(fault) => {
-                notes.push(Err(fault))?;
+                notes.push(Note {
+                    answer: Err(fault),
+                    uses: [0; 4],
+                })?;
                 return Ok(());
             }
         }

@@ -1,13 +1,15 @@
-use Rattle.std.proofs.Common.{◌≡◌, length, map, ◌∙◌, arith}
+use Rattle.std.proofs.Common.{◌≡◌, ℕ, Bool, List, map, take, subst, ◌∙◌, ap, arith}
+use Rattle.std.proofs.lemmas.List.{take_all}
 use Rattle.spill_choice.specs.Choices.{HasNoCandidate}
-use Rattle.spill_stack.proofs.Choosing.{AreCandidates, none_is}
+use Rattle.spill_stack.specs.Chosen.{candidate_by}
+use Rattle.spill_stack.proofs.Choosing.{none_is}
 use Rattle.spill_stack.proofs.next.choose_next.Goals as goal
 
-pub returns : goal.returns
-returns g c =
-    let states = map g.C.Consumer.state c.args.members.now in
-    let candidates = c.loop-j.candidates.items in
-    let end : c.loop-j.j ≡ length c.args.picks.now = omega arith in
-    let are : AreCandidates c.args.picks.now states c.args.resting.now candidates (length c.args.picks.now) = rw end at c.loop-j.invariant.are in
-    let none : HasNoCandidate candidates = rw (← c.deref-2.ensures.value) c.in-None.ensures.none in
-    none_is c.args.picks.now states c.args.resting.now candidates c.requires.picked (c.loop-j.invariant.candidates ∙ end) are none
+pub returns-clause-next : goal.returns-clause-next
+returns-clause-next g c =
+    let picks : List ℕ = c.args.picks.now in
+    let candidate : ℕ → Bool = candidate_by (map g.C.Consumer.state c.args.members.now) c.args.resting.now in
+    let whole : take c.loop-j.j picks ≡ picks = take_all c.loop-j.j picks (omega arith) in
+    let all : c.deref-2.result.now ≡ map candidate picks = c.deref-2.ensures.value ∙ c.loop-j.invariant.candidates ∙ ap (λ (places : List ℕ). map candidate places) whole in
+    none_is picks (map g.C.Consumer.state c.args.members.now) c.args.resting.now c.requires.picked
+    (subst (λ (candidates : List Bool). HasNoCandidate candidates) all c.in-None.ensures.none)

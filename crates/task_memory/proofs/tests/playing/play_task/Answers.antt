@@ -1,4 +1,4 @@
-use Rattle.spill_stack.proofs.Starting.{begun_holds}
+use Rattle.task_memory.proofs.Scripted.{begun_holds}
 use Rattle.task_memory.proofs.tests.playing.play_task.Goals as goal
 
 pub live_through-live-requires-clause-nothing : goal.live_through-live-requires-clause-nothing

@@ -10,7 +10,7 @@ abbrev pub invariant-loop-step : goal.invariant-loop-step
 invariant-loop-step g l = record {
   live : l.memory.live ≡ true;
   at_work : IsAtWork l.memory.account.now.manager.now l.memory.account.now.task l.worker;
-  set : IsSet (scene_of (map (λ b. (g.dyn-1.0.entry b.vtable).1.state b.value) l.memory.boxes.now) (g.D.Disk.files l.memory.disk.now) (held_by l.memory.account.now.task l.worker) l.memory.spills) l.memory.leasts l.memory.roomed;
+  set : IsSet (scene_of (map g.C.Consumer.state l.memory.boxes.now) (g.D.Disk.files l.memory.disk.now) (held_by l.memory.account.now.task l.worker) l.memory.spills) l.memory.leasts l.memory.roomed;
   page : l.memory.spills.page ≡ record { rows = []; room = 262144 };
   goes : Goes l.fn.memory.account.now.task l.fn.worker l.worker;
   account : l.memory.account.now ≡ l.fn.memory.account.now;

@@ -1,5 +1,5 @@
 use Rattle.std.proofs.Common.{Some, None}
-use Rattle.spill_stack.proofs.tests.play_script.Given as goal
+use Rattle.task_memory.proofs.tests.play_script.Given as goal
 
 -- the sizes are the setup's, each worker owns the task of its number, and no rows are given
 abbrev pub ghosts-play_alone : goal.ghosts-play_alone

@@ -2,8 +2,8 @@
 // refusals.
 //
 // `acquire:C:MUST:WISH` is an acquire for consumer C, `feed:C:KEY` an entry and `drain:C` a drain. Behind `=` stand the
-// bytes that were got, 0 but for an acquire, and what the four consumers use then; or the refusal, which ends the
-// script.
+// bytes that were got, 0 but for an acquire, and what the four boxes use then; or the refusal, which ends the script.
+// The boxes are the consumers, in their order, and have no least.
 
 /// How a part spiller spills: the bytes that it asks for first, the most entries of a run and of a page, and the bytes
 /// that it gives back before it writes.
@@ -25,7 +25,7 @@ pub struct Script {
     pub created: u64,
 }
 
-/// The rows that were worked out by hand.
+/// The rows that were worked out by hand, and the first of them with drains.
 pub const WORKED: [Script; 5] = [
     Script {
         name: "the asker spills for a spill",

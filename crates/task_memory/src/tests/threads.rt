@@ -2,10 +2,7 @@
 ghost use Rattle.std.specs.Prelude.{◌≡◌, ◌≤◌, ◌++◌, ◌∷◌, [], ℕ, length, Some, IfOk, OnOk};
 ghost use Rattle.memory_lock.specs.Crew.{IsWorker};
 
-use crate::tests::alone::boxes_of;
-use crate::tests::playing::{Left, play};
-use crate::tests::scripts::Parts;
-use crate::tests::steps::Step;
+use crate::tests::playing::{Left, Setting, play};
 use memory_lock::{Basis, Manager, Worker};
 use pool_ledger::{Journal, Setup};
 use spill_disk::MemoryDisk;
@@ -16,24 +13,6 @@ use std::thread::{Threads, join};
 /// Two workers with what their tasks left.
 type Two<B> = ((Worker<B>, Left), (Worker<B>, Left));
 
-// A new worker's thread: its task takes these steps with four part spillers.
-fn play_boxed<B: Basis, R: Wait + Sync>(
-    rt: &R,
-    alloc: Global,
-    manager: &Manager<MemoryDisk, B>,
-    worker: Worker<B>,
-    parts: &[Parts; 4],
-    steps: &[Step],
-) -> Result<(Worker<B>, Left), AllocError>
-    requires worker { IsWorker manager.now B.sizes.workers worker.number worker }
-    requires new { worker.seen ≡ [] }
-    requires owner { B.owner worker.number ≡ Some worker.number }
-    ensures { IfOk result (λ after. IsWorker manager.now B.sizes.workers worker.number after.0) }
-{
-    let mut boxes = boxes_of(alloc, parts)?;
-    play(rt, alloc, manager, worker, &mut boxes, &[], steps)
-}
-
 // Two new workers, each in a thread of its own.
 fn play_two<B: Basis + Send + Sync, R: Threads + Wait + Sync>(
     rt: &R,
@@ -41,9 +20,8 @@ fn play_two<B: Basis + Send + Sync, R: Threads + Wait + Sync>(
     manager: &Manager<MemoryDisk, B>,
     one: Worker<B>,
     other: Worker<B>,
-    parts: &[Parts; 4],
-    first: &[Step],
-    second: &[Step],
+    first: Setting<'_>,
+    second: Setting<'_>,
 ) -> Result<Two<B>, AllocError>
     requires one { IsWorker manager.now B.sizes.workers one.number one × (one.seen ≡ []) }
     requires other { IsWorker manager.now B.sizes.workers other.number other × (other.seen ≡ []) }
@@ -56,11 +34,11 @@ fn play_two<B: Basis + Send + Sync, R: Threads + Wait + Sync>(
         move ||
             requires { IsWorker manager.now B.sizes.workers one.number one × (one.seen ≡ [])
                 × (B.owner one.number ≡ Some one.number) }
-        { play_boxed(rt, alloc, manager, one, parts, first) },
+        { play(rt, alloc, manager, one, false, first) },
         move ||
             requires { IsWorker manager.now B.sizes.workers other.number other × (other.seen ≡ [])
                 × (B.owner other.number ≡ Some other.number) }
-        { play_boxed(rt, alloc, manager, other, parts, second) },
+        { play(rt, alloc, manager, other, false, second) },
     );
     let one = one?;
     let other = other?;
@@ -76,8 +54,7 @@ fn play_four<B: Basis + Send + Sync, R: Threads + Wait + Sync>(
     second: Worker<B>,
     third: Worker<B>,
     fourth: Worker<B>,
-    parts: &[Parts; 4],
-    steps: &[Vec<Step>; 4],
+    plays: &[Setting<'_>; 4],
 ) -> Result<(Two<B>, Two<B>), AllocError>
     requires first { IsWorker manager.now B.sizes.workers first.number first × (first.seen ≡ []) }
     requires second { IsWorker manager.now B.sizes.workers second.number second × (second.seen ≡ []) }
@@ -95,20 +72,12 @@ fn play_four<B: Basis + Send + Sync, R: Threads + Wait + Sync>(
             requires { IsWorker manager.now B.sizes.workers first.number first
                 × IsWorker manager.now B.sizes.workers second.number second
                 × (first.seen ≡ []) × (second.seen ≡ []) × ((task : ℕ) → B.owner task ≡ Some task) }
-        {
-            play_two(
-                rt, alloc, manager, first, second, parts, &steps[0], &steps[1],
-            )
-        },
+        { play_two(rt, alloc, manager, first, second, plays[0], plays[1]) },
         move ||
             requires { IsWorker manager.now B.sizes.workers third.number third
                 × IsWorker manager.now B.sizes.workers fourth.number fourth
                 × (third.seen ≡ []) × (fourth.seen ≡ []) × ((task : ℕ) → B.owner task ≡ Some task) }
-        {
-            play_two(
-                rt, alloc, manager, third, fourth, parts, &steps[2], &steps[3],
-            )
-        },
+        { play_two(rt, alloc, manager, third, fourth, plays[2], plays[3]) },
     );
     let lower = lower?;
     let upper = upper?;
@@ -147,8 +116,7 @@ pub fn share_four<B: Basis + Send + Sync, R: Threads + Wait + Sync>(
     rt: &R,
     alloc: Global,
     setup: Setup,
-    parts: &[Parts; 4],
-    steps: &[Vec<Step>; 4],
+    plays: &[Setting<'_>; 4],
 ) -> Result<(Journal, (Left, Left), (Left, Left)), AllocError>
     requires basis { setup ≡ B.sizes }
     requires workers { B.sizes.workers ≡ 4 }
@@ -158,9 +126,7 @@ pub fn share_four<B: Basis + Send + Sync, R: Threads + Wait + Sync>(
     let (manager, mut workers) = Manager::<MemoryDisk, B>::start(alloc, setup, store)?;
     let (third, fourth) = last_two(&mut workers);
     let (first, second) = last_two(&mut workers);
-    let (lower, upper) = play_four(
-        rt, alloc, &manager, first, second, third, fourth, parts, steps,
-    )?;
+    let (lower, upper) = play_four(rt, alloc, &manager, first, second, third, fourth, plays)?;
     let (first, second) = lower;
     let (third, fourth) = upper;
     put_two(&mut workers, first.0, second.0)?;

@@ -1,6 +1,6 @@
 // Scripts as text, and what they are answered.
+use crate::TaskFault;
 use crate::tests::steps::{Note, Step};
-use crate::{SpillFault, Spills};
 use pool_ledger::{Entry, Event};
 use run_file::Run;
 use spill_disk::{Disk, MemoryDisk};
@@ -8,7 +8,8 @@ use std::alloc::Global;
 use std::string::String;
 use std::test::Fail;
 
-/// The steps of a script: `acquire:C:MUST:WISH`, `feed:C:KEY` and `drain:C`, each up to a `=`.
+/// The steps of a script: `acquire:C:MUST:WISH`, `feed:C:KEY`, `drain:C`, `free`, `room:MUST:WISH` and `give:BYTES`, each
+/// up to a `=`.
 pub fn steps_of(alloc: Global, script: &str) -> Result<Vec<Step>, Fail> {
     let mut steps = Vec::new(alloc);
     for word in script.split(' ') {
@@ -19,9 +20,23 @@ pub fn steps_of(alloc: Global, script: &str) -> Result<Vec<Step>, Fail> {
 }
 
 fn step_of(step: &str) -> Result<Step, Fail> {
+    if step == "free" {
+        return Ok(Step::FreeLeasts);
+    }
     let (kind, rest) = step.split_once(':').ok_or("a step without a consumer")?;
-    let (consumer, rest) = rest.split_once(':').unwrap_or((rest, ""));
-    let consumer: usize = consumer.parse()?;
+    let (first, rest) = rest.split_once(':').unwrap_or((rest, ""));
+    if kind == "give" {
+        return Ok(Step::GiveBack {
+            bytes: first.parse()?,
+        });
+    }
+    if kind == "room" {
+        return Ok(Step::Room {
+            must: first.parse()?,
+            wish: rest.parse()?,
+        });
+    }
+    let consumer: usize = first.parse()?;
     if kind == "drain" {
         return Ok(Step::Drain { consumer });
     }
@@ -63,27 +78,29 @@ fn answer_of(alloc: Global, note: &Note) -> Result<String, Fail> {
     let [first, second, third, fourth] = note.uses;
     Ok(match note.answer {
         Ok(got) => format!(in alloc; "={got}/{first}.{second}.{third}.{fourth}")?,
-        Err(SpillFault::NoRoom { asked }) => format!(in alloc; "=no_room:{asked}")?,
-        Err(SpillFault::DiskFault) => format!(in alloc; "=disk_fault")?,
-        Err(SpillFault::NoMemory) => format!(in alloc; "=no_memory")?,
+        Err(TaskFault::NoRoom { asked, .. }) => format!(in alloc; "=no_room:{asked}")?,
+        Err(TaskFault::DiskFault) => format!(in alloc; "=disk_fault")?,
+        Err(TaskFault::NoMemory) => format!(in alloc; "=no_memory")?,
     })
 }
 
-/// The runs of all consumers, which it takes: `C:FILE:KEYS` for each.
-pub fn runs_of(alloc: Global, disk: &mut MemoryDisk, spills: &mut Spills) -> Result<String, Fail> {
+/// The runs of all consumers, one after another: `C:FILE:KEYS` for each.
+pub fn runs_of(
+    alloc: Global,
+    disk: &mut MemoryDisk,
+    runs: &[(usize, Run)],
+) -> Result<String, Fail> {
     let mut text = String::new(alloc);
     for consumer in 0..4usize {
-        if consumer >= spills.runs.len() {
-            break;
-        }
-        let runs = spills.take_runs(consumer);
-        for run in &runs {
-            if !text.is_empty() {
-                text.push(' ')?;
+        for (who, run) in runs {
+            if *who == consumer {
+                if !text.is_empty() {
+                    text.push(' ')?;
+                }
+                let file = run.file;
+                text.push_str(format!(in alloc; "{consumer}:{file}:")?.as_str())?;
+                push_keys(disk, run, &mut text)?;
             }
-            let file = run.file;
-            text.push_str(format!(in alloc; "{consumer}:{file}:")?.as_str())?;
-            push_keys(disk, run, &mut text)?;
         }
     }
     Ok(text)
@@ -91,7 +108,7 @@ pub fn runs_of(alloc: Global, disk: &mut MemoryDisk, spills: &mut Spills) -> Res
 
 // The keys of a run, of rows with a key of one byte and an empty value, as they stand on the disk.
 fn push_keys(disk: &mut MemoryDisk, run: &Run, text: &mut String) -> Result<(), Fail> {
-    if run.bytes != run.count.saturating_mul(13) {
+    if run.bytes != run.count.saturating_mul(13) || run.greatest != 33 {
         return Err("a run of other rows".into());
     }
     for number in 0..run.count {

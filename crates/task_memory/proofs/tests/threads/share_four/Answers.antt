@@ -1,5 +1,5 @@
 use Rattle.memory_lock.proofs.Pairs.{four_back, new_one, new_one_before, new_other, new_other_before}
-use Rattle.spill_stack.proofs.tests.threads.share_four.Goals as goal
+use Rattle.task_memory.proofs.tests.threads.share_four.Goals as goal
 
 pub play_four-requires-clause-first : goal.play_four-requires-clause-first
 play_four-requires-clause-first g c κs within =

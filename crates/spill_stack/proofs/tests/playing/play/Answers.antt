@@ -1,5 +1,0 @@
-use Rattle.spill_stack.proofs.Starting.{worker_on}
-use Rattle.spill_stack.proofs.tests.playing.play.Goals as goal
-
-pub returns : goal.returns
-returns g c = worker_on _ _ _ _ _ c.requires.worker c.play_task.ensures.sees c.number-number.ensures.rests
