@@ -1,0 +1,71 @@
+-- The total of a list with one more entry at its end, where values of one key are combined.
+use Rattle.std.proofs.Common.{◌≡◌, ℕ, List, [], ◌∷◌, ◌++◌, refl, sym, ap, ◌∙◌}
+use Rattle.std.specs.Ordering.{ordering_reverse}
+use Rattle.std.specs.declared.cmp.Ordering.{Ordering}
+use Rattle.std.specs.declared.cmp.Ordering.TheVariants.{Less, Equal, Greater}
+use Rattle.std.proofs.lemmas.Cmp.{nat_list_cmp_total}
+use Rattle.std.specs.FinMap.{slice_cmp-IsAntisymmetric, nat_cmp-IsAntisymmetric}
+use Rattle.aggregate.specs.declared.agg_list.Agg.{Agg}
+use Rattle.aggregate.specs.declared.kind.Kind.TheVariants.{Group}
+use Rattle.aggregate.specs.Partial.{combined}
+use Rattle.aggregate.specs.PartialLaws.{IsAssociative}
+use Rattle.aggregate.specs.Totals.{Entry, insert_group, key_cmp, total}
+
+-- a later entry joined to the total of earlier ones
+abbrev pub last_group_at : List Agg → Ordering → Entry → Entry → List Entry → List Entry → List Entry
+last_group_at aggs Less e x rest later = e ∷ (x ∷ rest)
+last_group_at aggs Equal e x rest later = record { key = x.key; value = combined aggs x.value e.value } ∷ rest
+last_group_at aggs Greater e x rest later = x ∷ later
+
+abbrev pub last_group : List Agg → Entry → List Entry → List Entry
+last_group aggs e [] = e ∷ []
+last_group aggs e (x ∷ xs) = last_group_at aggs (key_cmp e.key x.key) e x xs (last_group aggs e xs)
+
+pub same_key : (a b : List ℕ) → key_cmp a b ≡ Equal → a ≡ b
+same_key a b e = slice_cmp-IsAntisymmetric nat_cmp-IsAntisymmetric a b e
+
+turn : (a b : List ℕ) (o : Ordering) → key_cmp a b ≡ o → key_cmp b a ≡ ordering_reverse o
+turn a b o e = nat_list_cmp_total.antisymm b a ∙ ap ordering_reverse e
+
+-- an earlier and a later entry come in either order
+swap_nil : (aggs : List Agg) (x e : Entry) (r : Ordering) → key_cmp x.key e.key ≡ r → insert_group aggs x (e ∷ []) ≡ last_group aggs e (x ∷ [])
+swap_nil aggs x e Less h = let t : key_cmp e.key x.key ≡ Greater = turn x.key e.key Less h in simp (h, t) refl
+swap_nil aggs x e Equal h = let t : key_cmp e.key x.key ≡ Equal = turn x.key e.key Equal h in simp (h, t) (ap (λ k. record { key = k; value = combined aggs x.value e.value } ∷ []) (sym (same_key x.key e.key h)))
+swap_nil aggs x e Greater h = let t : key_cmp e.key x.key ≡ Less = turn x.key e.key Greater h in simp (h, t) refl
+
+swap_first : (aggs : List Agg) (x e y : Entry) (ys : List Entry) (r : Ordering) → key_cmp x.key e.key ≡ r → key_cmp x.key y.key ≡ Less → key_cmp e.key y.key ≡ Less → insert_group aggs x (e ∷ (y ∷ ys)) ≡ last_group aggs e (x ∷ (y ∷ ys))
+swap_first aggs x e y ys Less h p q = let t : key_cmp e.key x.key ≡ Greater = turn x.key e.key Less h in simp (h, t, p, q) refl
+swap_first aggs x e y ys Equal h p q = let t : key_cmp e.key x.key ≡ Equal = turn x.key e.key Equal h in simp (h, t, p, q) (ap (λ k. record { key = k; value = combined aggs x.value e.value } ∷ (y ∷ ys)) (sym (same_key x.key e.key h)))
+swap_first aggs x e y ys Greater h p q = let t : key_cmp e.key x.key ≡ Less = turn x.key e.key Greater h in simp (h, t, p, q) refl
+
+swap_at : (aggs : List Agg) → IsAssociative → (x e y : Entry) (ys : List Entry) (p q : Ordering) → key_cmp x.key y.key ≡ p → key_cmp e.key y.key ≡ q → insert_group aggs x (last_group aggs e ys) ≡ last_group aggs e (insert_group aggs x ys) → insert_group aggs x (last_group aggs e (y ∷ ys)) ≡ last_group aggs e (insert_group aggs x (y ∷ ys))
+swap_at aggs assoc x e y ys Less Less p q rec = let f = swap_first aggs x e y ys (key_cmp x.key e.key) refl p q in simp (p, q) (simp (p, q) at f)
+swap_at aggs assoc x e y ys Less Equal p q rec =
+    let r : key_cmp x.key e.key ≡ Less = ap (λ z. key_cmp x.key z) (same_key e.key y.key q) ∙ p in
+    let s : key_cmp e.key x.key ≡ Greater = turn x.key e.key Less r in
+    simp (p, q, s) refl
+swap_at aggs assoc x e y ys Less Greater p q rec =
+    let r : key_cmp x.key e.key ≡ Less = nat_list_cmp_total.trans x.key y.key e.key p (turn e.key y.key Greater q) in
+    let s : key_cmp e.key x.key ≡ Greater = turn x.key e.key Less r in
+    simp (p, q, s) refl
+swap_at aggs assoc x e y ys Equal Less p q rec =
+    let r : key_cmp x.key e.key ≡ Greater = ap (λ z. key_cmp z e.key) (same_key x.key y.key p) ∙ turn e.key y.key Less q in
+    simp (p, q, r) refl
+swap_at aggs assoc x e y ys Equal Equal p q rec = simp (p, q) (ap (λ v. record { key = y.key; value = v } ∷ ys) (sym (assoc aggs x.value y.value e.value)))
+swap_at aggs assoc x e y ys Equal Greater p q rec = simp (p, q) refl
+swap_at aggs assoc x e y ys Greater Less p q rec =
+    let s : key_cmp e.key x.key ≡ Less = nat_list_cmp_total.trans e.key y.key x.key q (turn x.key y.key Greater p) in
+    let r : key_cmp x.key e.key ≡ Greater = turn e.key x.key Less s in
+    simp (p, q, r) refl
+swap_at aggs assoc x e y ys Greater Equal p q rec = simp (p, q) refl
+swap_at aggs assoc x e y ys Greater Greater p q rec = simp (p, q) (ap (λ es. y ∷ es) rec)
+
+pub swap_group : (aggs : List Agg) → IsAssociative → (x e : Entry) (m : List Entry) → insert_group aggs x (last_group aggs e m) ≡ last_group aggs e (insert_group aggs x m)
+swap_group aggs assoc x e [] = swap_nil aggs x e (key_cmp x.key e.key) refl
+swap_group aggs assoc x e (y ∷ ys) = swap_at aggs assoc x e y ys (key_cmp x.key y.key) (key_cmp e.key y.key) refl refl (swap_group aggs assoc x e ys)
+
+-- the total of a list with one more entry at its end
+pub total-snoc_group : (aggs : List Agg) → IsAssociative → (xs : List Entry) (e : Entry) → total (Group aggs) (xs ++ (e ∷ [])) ≡ last_group aggs e (total (Group aggs) xs)
+unfolding total
+total-snoc_group aggs assoc [] e = refl
+total-snoc_group aggs assoc (x ∷ xs) e = ap (λ es. insert_group aggs x es) (total-snoc_group aggs assoc xs e) ∙ swap_group aggs assoc x e (total (Group aggs) xs)
