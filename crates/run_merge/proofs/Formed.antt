@@ -1,0 +1,46 @@
+-- Rows of a key and a value are well formed where their parts are as long as those of one that is.
+use Rattle.std.proofs.Common.{◌≡◌, ℕ, ◌+◌, ◌*◌, ◌≤◌, List, [], ◌∷◌, length, refl, sym, ap, subst, ◌∙◌, arith}
+use Rattle.std.specs.Coded.{Coded-set, coded_ℕ, le_prop}
+use Rattle.std.proofs.Math.Logic.{∥∥₁_elim}
+use Rattle.std.proofs.lemmas.List.Sums.{sum_by-cons}
+use Rattle.aggregate.specs.declared.agg_list.Agg.{Agg}
+use Rattle.aggregate.specs.declared.kind.Kind.{Kind}
+use Rattle.aggregate.specs.declared.kind.Kind.TheVariants.{Group, Order}
+use Rattle.aggregate.specs.Rows.{entry_of}
+use Rattle.row_page.specs.Spelling.{row_length}
+use Rattle.run_file.specs.declared.form.Form.TheVariants.{Entries}
+use Rattle.run_file.specs.declared.run_reader.RunReader.{RunReader}
+use Rattle.run_file.specs.Forms.{IsValueOf, IsWellFormed}
+use Rattle.run_file.specs.Reading.{run_of}
+use Rattle.run_merge.specs.Heads.{entry_at, row_at, IsAtEntry}
+use Rattle.run_merge.proofs.Standing.{two_fields, value_is}
+
+-- the value of a group's entry has its bytes
+pub value_size : (aggs : List Agg) (reader : RunReader) → ∥ IsAtEntry (Group aggs) reader ∥₁ → length (entry_at reader).value ≡ 16 * length aggs
+value_size aggs reader t =
+    ∥∥₁_elim t (Coded-set coded_ℕ _ _) (λ h. ap length (sym (value_is (row_at reader) h.formed.has_form.0)) ∙ h.formed.has_form.1)
+
+-- a value that is as long is one of the kind too
+value_alike : (kind : Kind) (reader : RunReader) (value : List ℕ) → ∥ IsAtEntry kind reader ∥₁ → length value ≡ length (entry_at reader).value → IsValueOf kind value
+value_alike (Group aggs) reader value t same = same ∙ value_size aggs reader t
+value_alike Order reader value t same = tt
+
+length_of_two : (key value : List ℕ) → row_length (key ∷ (value ∷ [])) ≡ 8 + length key + length value
+length_of_two key value =
+    omega (arith, sum_by-cons (λ (field : List ℕ). 4 + length field) key (value ∷ []), sum_by-cons (λ (field : List ℕ). 4 + length field) value [])
+
+length_of_row : (row : List (List ℕ)) → length row ≡ 2 → row_length row ≡ 8 + length (entry_of row).key + length (entry_of row).value
+length_of_row [] e = absurd cc
+length_of_row (key ∷ []) e = absurd (omega (arith, e))
+length_of_row (key ∷ value ∷ []) e = length_of_two key value
+length_of_row (key ∷ value ∷ field ∷ rest) e = absurd (omega (arith, e))
+
+pub formed_alike : (kind : Kind) (reader : RunReader) (row : List (List ℕ)) (value : List ℕ) → ∥ IsAtEntry kind reader ∥₁ → length value ≡ length (entry_at reader).value → row ≡ (entry_at reader).key ∷ (value ∷ []) → IsWellFormed (Entries kind) (run_of reader).greatest row
+formed_alike kind reader row value t same row-is =
+    let cost : 24 + row_length (row_at reader) ≤ (run_of reader).greatest = ∥∥₁_elim t le_prop (λ h. h.formed.cost) in
+    let whole : IsWellFormed (Entries kind) (run_of reader).greatest ((entry_at reader).key ∷ (value ∷ [])) =
+    record {
+      has_form = (refl, value_alike kind reader value t same);
+      cost = omega (arith, cost, same, length_of_two (entry_at reader).key value, length_of_row (row_at reader) (two_fields kind reader t));
+    } in
+    subst (IsWellFormed (Entries kind) (run_of reader).greatest) (sym row-is) whole

@@ -1,0 +1,68 @@
+-- Calls on a shelf one after another: what they keep, and why they gave up.
+use Rattle.std.proofs.Common.{◌≡◌, ℕ, ◌≤◌, Option, Ok, Err, refl, sym, ap, ◌∙◌, arith}
+use Rattle.std.specs.Prelude.{Bool, Result, OnOk, is_some}
+use Rattle.fault_count.specs.Faults.{Rose}
+use Rattle.spill_disk.specs.Files.{Files}
+use Rattle.run_file.specs.declared.run.RunFault.{RunFault}
+use Rattle.run_file.specs.declared.run.RunFault.TheVariants.{DiskFault, Damaged, NoMemory}
+use Rattle.run_file.specs.Causes.{NotDamaged}
+use Rattle.run_file.specs.Shelved.{LeavesFiles}
+use Rattle.run_merge.specs.declared.merge.Merge.{Merge}
+use Rattle.run_merge.specs.Causes.{FindsFewer, HasCauseAmong}
+use Rattle.run_merge.specs.Merged.{KeepsShelf}
+use Rattle.run_merge.specs.Merging.{TellsDamage}
+use Rattle.run_merge.specs.Touching.{file_in, SameBut}
+
+pub keeps_self : {H D : Type 0} (count_of : H → ℕ) (named : H → ℕ → ℕ) (disk_of : H → ℕ → Option D) (files : D → Option Files) (faults : D → ℕ) (shelf : H) → KeepsShelf count_of named disk_of files faults shelf shelf
+keeps_self count_of named disk_of files faults shelf = record { count = refl; names = λ j. refl; tells = λ j. refl; later = λ j. omega arith }
+
+pub keeps_trans : {H D : Type 0} (count_of : H → ℕ) (named : H → ℕ → ℕ) (disk_of : H → ℕ → Option D) (files : D → Option Files) (faults : D → ℕ) (old middle new : H) → KeepsShelf count_of named disk_of files faults old middle → KeepsShelf count_of named disk_of files faults middle new → KeepsShelf count_of named disk_of files faults old new
+keeps_trans count_of named disk_of files faults old middle new first next = record {
+  count = next.count ∙ first.count;
+  names = λ j. next.names j ∙ first.names j;
+  tells = λ j. next.tells j ∙ first.tells j;
+  later = λ j. omega (arith, first.later j, next.later j);
+}
+
+pub keeps_left : {H D : Type 0} (count_of : H → ℕ) (named : H → ℕ → ℕ) (disk_of : H → ℕ → Option D) (files : D → Option Files) (faults : D → ℕ) (old new : H) → LeavesFiles count_of named disk_of files faults old new → KeepsShelf count_of named disk_of files faults old new
+keeps_left count_of named disk_of files faults old new left = record {
+  count = left.count;
+  names = left.names;
+  tells = λ j. ap is_some (left.same j);
+  later = left.later;
+}
+
+rose_later : (before middle now : ℕ) → before ≤ middle → Rose middle now → Rose before now
+rose_later before middle now later rose = omega arith
+
+-- a cause after some calls is one after those before
+pub cause_later : {T : Type 0} (before middle now : ℕ → ℕ) (r : Result T RunFault) → ((j : ℕ) → before j ≤ middle j) → HasCauseAmong middle now r → HasCauseAmong before now r
+cause_later before middle now (Ok x) later cause = tt
+cause_later before middle now (Err (DiskFault disk)) later cause = rose_later (before disk) (middle disk) (now disk) (later disk) cause
+cause_later before middle now (Err (Damaged disk file kept found)) later cause = tt
+cause_later before middle now (Err NoMemory) later cause = tt
+
+pub fewer_found : (merge : Merge) (r : Result Bool RunFault) → TellsDamage merge r → FindsFewer r
+fewer_found merge (Ok more) told = tt
+fewer_found merge (Err (DiskFault disk)) told = tt
+fewer_found merge (Err (Damaged disk file kept found)) told = told.count.1
+fewer_found merge (Err NoMemory) told = tt
+
+pub fewer_undamaged : {T : Type 0} (r : Result T RunFault) → NotDamaged r → FindsFewer r
+fewer_undamaged (Ok x) sound = tt
+fewer_undamaged (Err (DiskFault disk)) sound = tt
+fewer_undamaged (Err (Damaged disk file kept found)) sound = absurd sound
+fewer_undamaged (Err NoMemory) sound = tt
+
+-- a call that leaves all files, and one that may change one file
+pub same_left : (named : ℕ → ℕ) (before middle after : ℕ → Option Files) (disk file : ℕ) → SameBut named before middle disk file → ((j : ℕ) → after j ≡ middle j) → SameBut named before after disk file
+same_left named before middle after disk file first left j g apart = ap (λ (files : Option Files). file_in files g) (left j) ∙ first j g apart
+
+pub same_more : (named named' : ℕ → ℕ) (before middle after : ℕ → Option Files) (disk file : ℕ) → ((j : ℕ) → named' j ≡ named j) → SameBut named before middle disk file → SameBut named' middle after disk file → SameBut named before after disk file
+same_more named named' before middle after disk file each first next j g apart =
+    next j g (λ here. apart (sym (each j) ∙ here.0 ∙ each disk, here.1)) ∙ first j g apart
+
+-- two facts of a call's success
+pub both_ok : {T E P Q R : Type 0} (r : Result T E) → OnOk r P → OnOk r Q → (P → Q → R) → OnOk r R
+both_ok (Ok x) first next both = both first next
+both_ok (Err e) first next both = tt

@@ -1,0 +1,144 @@
+//! The least entry of readers that are read side by side, as a row.
+
+ghost use Rattle.std.specs.Prelude.{◌≡◌, ◌<◌, ◌+◌, ◌*◌, ◌∷◌, [], List, ℕ, Option, true, length, slice_index_or, sum_by, OnOk};
+ghost use Rattle.aggregate.specs.declared.kind.Kind.TheVariants.{Group, Order};
+ghost use Rattle.aggregate.specs.Totals.{Entry};
+ghost use Rattle.spill_disk.specs.Files.{Files};
+ghost use Rattle.run_file.specs.declared.form.Form.TheVariants.{Entries};
+ghost use Rattle.run_file.specs.declared.run_reader.RunReader.{RunReader};
+ghost use Rattle.run_file.specs.Forms.{IsWellFormed};
+ghost use Rattle.run_file.specs.Reading.{run_of};
+ghost use Rattle.run_merge.specs.Giving.{AreComing, IsTaken, Gives};
+ghost use Rattle.run_merge.specs.Heads.{AreAtEntries, IsFirst, OnlyFalls, one_if};
+
+use crate::heads::{key_of, value_of};
+use aggregate::{AggList, combine, combine_is_associative};
+use row_page::RowBuf;
+use run_file::RunReader;
+use std::alloc::AllocError;
+
+/// A row's encoding has fewer bytes than this.
+const MOST_BYTES: usize = 1 << 31;
+
+/// Makes the row of a key and a value. One that would be too long is want of memory too.
+fn put_row(row: &mut RowBuf, key: &[u8], value: &[u8]) -> Result<(), AllocError>
+    ensures { OnOk result (row.new ≡ key.now ∷ (value.now ∷ [])) }
+{
+    row.clear();
+    if key.len() >= MOST_BYTES - 8 || value.len() >= MOST_BYTES - 8 - key.len() {
+        return Err(AllocError);
+    }
+    row.add(key)?;
+    row.add(value)
+}
+
+/// Gives the entry of one reader as it is.
+pub(crate) fn give_alone(
+    readers: &[RunReader],
+    heads: &mut Vec<bool>,
+    first: usize,
+    row: &mut RowBuf,
+) -> Result<(), AllocError>
+    requires heads { length heads.old.items ≡ length readers.now }
+    requires stand { AreAtEntries Order readers.now heads.old.items }
+    requires first { IsFirst readers.now heads.old.items (length readers.now) first }
+    ensures gives { OnOk result ((files : ℕ → Option Files) (entries : List Entry) →
+        AreComing files true Order readers.now heads.old.items entries →
+        Gives files Order readers.now heads.new.items row.new entries) }
+    ensures formed { OnOk result ((reader : RunReader) →
+        reader ≡ slice_index_or readers.now first reader →
+        IsWellFormed (Entries Order) (run_of reader).greatest row.new) }
+    ensures heads { OnlyFalls heads.old.items heads.new.items }
+    ensures fewer { OnOk result (sum_by one_if heads.new.items < sum_by one_if heads.old.items) }
+{
+    let reader = &readers[first];
+    put_row(row, key_of(reader), value_of(reader))?;
+    heads[first] = false;
+    Ok(())
+}
+
+/// Gives the entry of one reader, with those of its key of later readers joined to it.
+pub(crate) fn give_joined(
+    aggs: &AggList,
+    readers: &[RunReader],
+    heads: &mut Vec<bool>,
+    first: usize,
+    value: &mut Vec<u8>,
+    row: &mut RowBuf,
+) -> Result<(), AllocError>
+    requires heads { length heads.old.items ≡ length readers.now }
+    requires stand { AreAtEntries (Group aggs.now) readers.now heads.old.items }
+    requires first { IsFirst readers.now heads.old.items (length readers.now) first }
+    ensures gives { OnOk result ((files : ℕ → Option Files) (entries : List Entry) →
+        AreComing files true (Group aggs.now) readers.now heads.old.items entries →
+        Gives files (Group aggs.now) readers.now heads.new.items row.new entries) }
+    ensures formed { OnOk result ((reader : RunReader) →
+        reader ≡ slice_index_or readers.now first reader →
+        IsWellFormed (Entries (Group aggs.now)) (run_of reader).greatest row.new) }
+    ensures heads { OnlyFalls heads.old.items heads.new.items }
+    ensures fewer { OnOk result (sum_by one_if heads.new.items < sum_by one_if heads.old.items) }
+{
+    let reader = &readers[first];
+    value.clear();
+    value.extend_from_slice(value_of(reader))?;
+    heads[first] = false;
+    join_others(aggs, readers, heads, first, key_of(reader), value);
+    put_row(row, key_of(reader), value)
+}
+
+/// Joins the values of later readers that stand at the same key, and takes their rows as given.
+fn join_others(
+    aggs: &AggList,
+    readers: &[RunReader],
+    heads: &mut Vec<bool>,
+    first: usize,
+    key: &[u8],
+    value: &mut [u8],
+)
+    requires heads { length heads.old.items ≡ length readers.now }
+    requires first { first < length readers.now }
+    requires stand { AreAtEntries (Group aggs.now) readers.now heads.old.items }
+    requires value { length value.old ≡ 16 * length aggs.now }
+    ensures joins { (files : ℕ → Option Files) (entries : List Entry) →
+        IsTaken files (Group aggs.now) readers.now heads.old.items (first + 1)
+        (record { key = key.now; value = value.old }) entries →
+        IsTaken files (Group aggs.now) readers.now heads.new.items (length readers.now)
+        (record { key = key.now; value = value.new }) entries }
+    ensures heads { OnlyFalls heads.old.items heads.new.items }
+{
+    for i in first + 1..readers.len() {
+        join_one(aggs, readers, heads, i, key, value);
+    }
+}
+
+/// Joins the value of one reader, if it stands at this key.
+fn join_one(
+    aggs: &AggList,
+    readers: &[RunReader],
+    heads: &mut Vec<bool>,
+    i: usize,
+    key: &[u8],
+    value: &mut [u8],
+)
+    requires heads { length heads.old.items ≡ length readers.now }
+    requires within { i < length readers.now }
+    requires stand { AreAtEntries (Group aggs.now) readers.now heads.old.items }
+    requires value { length value.old ≡ 16 * length aggs.now }
+    ensures joins { (files : ℕ → Option Files) (entries : List Entry) →
+        IsTaken files (Group aggs.now) readers.now heads.old.items i
+        (record { key = key.now; value = value.old }) entries →
+        IsTaken files (Group aggs.now) readers.now heads.new.items (i + 1)
+        (record { key = key.now; value = value.new }) entries }
+    ensures heads { OnlyFalls heads.old.items heads.new.items }
+{
+    combine_is_associative();
+    if !heads[i] {
+        return;
+    }
+    let reader = &readers[i];
+    if key_of(reader) != key {
+        return;
+    }
+    combine(aggs, value, value_of(reader));
+    heads[i] = false;
+}

@@ -1,0 +1,19 @@
+//! Several runs of one kind as one list of entries, or as one run.
+#![tactic(auto)]
+
+mod giving;
+mod heads;
+mod merge;
+mod one_group;
+mod one_run;
+mod rounds;
+mod run_pages;
+mod shelf_calls;
+
+pub use merge::Merge;
+pub use one_run::merge_all;
+
+#[cfg(test)]
+mod tests;
+#[cfg(test)]
+mod tests_of_one_run;

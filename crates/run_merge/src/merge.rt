@@ -1,0 +1,164 @@
+//! Runs that are read side by side.
+
+ghost use Rattle.std.specs.Prelude.{◌≡◌, length};
+ghost use Rattle.run_merge.specs.Heads.{AreAhead, AreAtEntries, AreOfKind};
+
+use crate::giving::{give_alone, give_joined};
+use crate::heads::{least_of, let_all_on};
+use aggregate::Kind;
+use row_page::{RowBuf, RowView};
+use run_file::{Form, Run, RunFault, RunReader};
+use spill_disk::{Disk, Shelf};
+use std::alloc::{AllocError, Global};
+
+/// Runs of one kind that are read side by side: it gives what their entries come to, the runs in
+/// order, one entry at a time.
+///
+/// Each run's keys ascend; of equal keys the earlier run's entry comes first, and in a group they are
+/// combined.
+#[derive(Debug, Drop)]
+pub struct Merge {
+    readers: Vec<RunReader>,
+    // which readers stand at a row that was not given yet
+    heads: Vec<bool>,
+    // how many rows of its run each has still ahead of it
+    aheads: Vec<u64>,
+    kind: Kind,
+    value: Vec<u8>,
+    row: RowBuf,
+    ghost flags: { length heads.items ≡ length readers.items },
+    ghost counts: { length aheads.items ≡ length readers.items },
+    ghost ahead: { AreAhead readers.items aheads.items },
+    ghost of_kind: { AreOfKind kind readers.items },
+    ghost stand: { AreAtEntries kind readers.items heads.items },
+}
+
+impl Merge {
+    ghost use Rattle.std.specs.Prelude.{◌<◌, ◌↔◌, List, ℕ, Option, None, Ok, true, false, sum_by, IfOk, OnOk};
+    ghost use Rattle.std.specs.Borrow.{sem};
+    ghost use Rattle.std.specs.Io.BufRead.{Rests};
+    ghost use Rattle.aggregate.specs.Totals.{Entry};
+    ghost use Rattle.row_page.specs.Views.{fields_in};
+    ghost use Rattle.spill_disk.specs.Files.{Files};
+    ghost use Rattle.run_file.specs.Shelved.{files_on, faults_on, LeavesFiles};
+    ghost use Rattle.run_merge.specs.Causes.{HasCauseAmong, FindsFewer};
+    ghost use Rattle.run_merge.specs.Giving.{AreComing};
+    ghost use Rattle.run_merge.specs.Heads.{IsFirst};
+    ghost use Rattle.run_merge.specs.Lending.{LendsFirst, LendsFormed, StandsAfter};
+    ghost use Rattle.run_merge.specs.Merging.{runs_of, kind_of, row_of, left_of, Begins, IsToCome, GoesOn, GivesFormed, Falls, TellsDamage};
+    ghost use Rattle.run_merge.specs.Runs.{AreOn, greatest_of};
+    ghost use Rattle.run_merge.specs.contracts.merge.Merge.{the_row};
+
+    /// A merge of these runs, whose entries are of this kind. It reads nothing yet.
+    pub fn new(alloc: Global, runs: &[Run], kind: &Kind) -> Result<Merge, AllocError>
+        ensures runs { IfOk result (λ merge. runs_of merge ≡ runs.now) }
+        ensures kind { IfOk result (λ merge. kind_of merge ≡ kind.now) }
+        ensures begins { IfOk result Begins }
+        ensures left { IfOk result (λ merge. left_of merge ≡ sum_by (λ run. run.count) runs.now) }
+    {
+        let mut readers = Vec::new(alloc);
+        let mut heads = Vec::new(alloc);
+        let mut aheads = Vec::new(alloc);
+        for run in runs {
+            readers.push(RunReader::new(alloc, run, Form::Entries(kind.copy()?)))?;
+            heads.push(false)?;
+            aheads.push(run.count)?;
+        }
+        Ok(Merge {
+            readers,
+            heads,
+            aheads,
+            kind: kind.copy()?,
+            value: Vec::new(alloc),
+            row: RowBuf::new(alloc),
+        })
+    }
+
+    /// The row that it stands at, a key and a value, lent from its buffer.
+    pub fn row(&self) -> RowView<'_>
+        ensures { fields_in result ≡ row_of self.now }
+    {
+        self.row.view()
+    }
+
+    /// Goes on to the next entry, at which it then stands; `false` comes exactly at the end of all runs.
+    /// All files of the shelf stay. A row that isn't well formed is damage, and one that would have 2^31
+    /// bytes is want of memory. After an `Err` the merge is only dropped.
+    pub fn advance<D: Disk, H: Shelf<D>>(&mut self, shelf: &mut H) -> Result<bool, RunFault>
+        requires there { AreOn (H.count_of shelf.old) (runs_of self.old) }
+        ensures gives { (entries : List Entry) →
+            IsToCome (files_on H.disk_of D.files shelf.old) self.old entries →
+            GoesOn (files_on H.disk_of D.files shelf.new) self.new entries result }
+        ensures end { (result ≡ Ok false) ↔ (left_of self.old ≡ 0) }
+        ensures falls { Falls self.old self.new result }
+        ensures formed { GivesFormed (greatest_of (runs_of self.new)) self.new result }
+        ensures damaged { TellsDamage self.new result }
+        ensures runs { runs_of self.new ≡ runs_of self.old }
+        ensures kind { kind_of self.new ≡ kind_of self.old }
+        ensures cause { HasCauseAmong
+            (faults_on H.disk_of D.faults shelf.old) (faults_on H.disk_of D.faults shelf.new) result }
+        ensures shelf { LeavesFiles H.count_of H.named H.disk_of D.files D.faults shelf.old shelf.new }
+    {
+        let_all_on(&mut self.readers, &mut self.heads, &mut self.aheads, shelf)?;
+        let Some(first) = least_of(&self.readers, &self.heads) else {
+            return Ok(false);
+        };
+        match self.give(first) {
+            Ok(()) => Ok(true),
+            Err(_) => Err(RunFault::NoMemory),
+        }
+    }
+
+    /// The next entry as a row, lent from the merge's buffer; `None` comes exactly at the end of all
+    /// runs. All files of the shelf stay. Once the row is let go, the merge stands where `advance` leaves
+    /// it.
+    pub fn next<D: Disk, H: Shelf<D>>(
+        &mut self,
+        shelf: &mut H,
+    ) -> Result<Option<RowView<'_>>, RunFault>
+        requires there { AreOn (H.count_of shelf.old) (runs_of self.old) }
+        ensures gives { (entries : List Entry) →
+            IsToCome (files_on H.disk_of D.files shelf.old) self.old entries →
+            LendsFirst entries result }
+        ensures end { (result ≡ Ok None) ↔ (left_of self.old ≡ 0) }
+        ensures formed { LendsFormed (kind_of self.old) (greatest_of (runs_of self.old)) result }
+        ensures fewer { FindsFewer result }
+        ensures* stands { sem 𝓛 (Rests the_row self.entry (StandsAfter
+            (files_on H.disk_of D.files shelf.old) (files_on H.disk_of D.files shelf.new)
+            self.old result)) }
+        ensures cause { HasCauseAmong
+            (faults_on H.disk_of D.faults shelf.old) (faults_on H.disk_of D.faults shelf.new) result }
+        ensures shelf { LeavesFiles H.count_of H.named H.disk_of D.files D.faults shelf.old shelf.new }
+    {
+        match self.advance(shelf) {
+            Ok(true) => Ok(Some(self.row())),
+            Ok(false) => Ok(None),
+            Err(fault) => Err(fault),
+        }
+    }
+
+    /// Gives the entry of the reader that has the least key.
+    fn give(&mut self, first: usize) -> Result<(), AllocError>
+        requires first { IsFirst self.old.readers.items self.old.heads.items
+            (length self.old.readers.items) first }
+        ensures gives { OnOk result ((files : ℕ → Option Files) (entries : List Entry) →
+            AreComing files true self.old.kind self.old.readers.items self.old.heads.items entries →
+            GoesOn files self.new entries (Ok true)) }
+        ensures formed { OnOk result (GivesFormed (greatest_of (runs_of self.new)) self.new (Ok true)) }
+        ensures falls { OnOk result (left_of self.new < left_of self.old) }
+        ensures readers { self.new.readers ≡ self.old.readers }
+        ensures kind { self.new.kind ≡ self.old.kind }
+    {
+        match &self.kind {
+            Kind::Order => give_alone(&self.readers, &mut self.heads, first, &mut self.row),
+            Kind::Group(aggs) => give_joined(
+                aggs,
+                &self.readers,
+                &mut self.heads,
+                first,
+                &mut self.value,
+                &mut self.row,
+            ),
+        }
+    }
+}
