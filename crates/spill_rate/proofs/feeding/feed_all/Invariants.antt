@@ -1,0 +1,11 @@
+use Rattle.std.proofs.Common.{◌≡◌, [], Some, ◌≤◌, ◌^◌}
+use Rattle.consumer_trait.specs.States.{Rest}
+use Rattle.spill_rate.proofs.feeding.feed_all.Given as goal
+
+-- the consumer rests, of its kind, and the page is empty
+abbrev pub invariant-loop-entry : goal.invariant-loop-entry
+invariant-loop-entry g l = record {
+  kind : (g.C.Consumer.state l.consumer).kind ≡ Some l.kind;
+  rest : (g.C.Consumer.state l.consumer).stage ≡ Rest;
+  page : l.page ≡ record { rows = []; room = 262144 };
+}

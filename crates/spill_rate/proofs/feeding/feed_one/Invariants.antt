@@ -1,0 +1,11 @@
+use Rattle.std.proofs.Common.{◌≡◌, []}
+use Rattle.consumer_trait.specs.States.{Rest}
+use Rattle.spill_rate.proofs.feeding.feed_one.Given as goal
+
+-- the consumer rests, of its kind, and the page is empty
+abbrev pub invariant-loop-attempt : goal.invariant-loop-attempt
+invariant-loop-attempt g l = record {
+  kind : (g.C.Consumer.state l.consumer).kind ≡ (g.C.Consumer.state l.fn.consumer).kind;
+  rest : (g.C.Consumer.state l.consumer).stage ≡ Rest;
+  page : l.page ≡ record { rows = []; room = 262144 };
+}

@@ -1,0 +1,13 @@
+use Rattle.std.proofs.Common.{◌≡◌, [], Some}
+use Rattle.aggregate.specs.declared.kind.Kind.TheVariants.{Order}
+use Rattle.consumer_trait.specs.States.{Rest}
+use Rattle.row_sorter.specs.Sorters.{state_of}
+use Rattle.spill_rate.proofs.merging.write_run.Given as goal
+
+-- the sorter rests, and the page is empty
+abbrev pub invariant-loop-entry : goal.invariant-loop-entry
+invariant-loop-entry l = record {
+  kind : (state_of l.sorter).kind ≡ Some Order;
+  rest : (state_of l.sorter).stage ≡ Rest;
+  page : l.page ≡ record { rows = []; room = 262144 };
+}

@@ -1,0 +1,100 @@
+//! Consumers that are fed drawn entries and spilled, for a measure of speed.
+#![tactic(auto)]
+
+mod drawn;
+mod feeding;
+mod merging;
+
+use aggregate::{Agg, AggList, Kind};
+use feeding::feed_all;
+use group_map::GroupMap;
+use merging::merge_drawn;
+use row_sorter::RowSorter;
+use std::alloc::{AllocError, Global};
+use std::{env, io};
+
+/// What entries go through.
+#[derive(Clone, Copy)]
+enum Way {
+    Map,
+    Sorter,
+    /// Eight runs, which are read side by side where that is said.
+    Runs { merges: bool },
+}
+
+/// What the words ask for: the way, of how many keys the entries' keys are, how many entries there are, and how many bytes
+/// the consumer is granted at most.
+#[derive(Clone, Copy)]
+struct Wish {
+    way: Way,
+    keys: u64,
+    entries: u64,
+    most: u64,
+}
+
+// Without words a thousand entries of a hundred keys go to a map of 4,000 bytes.
+fn wish_of(words: [Option<String>; 4]) -> Option<Wish> {
+    let [kind, keys, entries, most] = words;
+    let Some(kind) = kind else {
+        return Some(Wish {
+            way: Way::Map,
+            keys: 100,
+            entries: 1000,
+            most: 4000,
+        });
+    };
+    let keys = keys?.as_str().parse::<u64>().ok()?;
+    let entries = entries?.as_str().parse::<u64>().ok()?;
+    let most = most?.as_str().parse::<u64>().ok()?;
+    let way = match kind.as_str() {
+        "map" => Way::Map,
+        "sort" => Way::Sorter,
+        "runs" => Way::Runs { merges: false },
+        "merge" => Way::Runs { merges: true },
+        _ => return None,
+    };
+    Some(Wish {
+        way,
+        keys,
+        entries,
+        most,
+    })
+}
+
+// How many spills there were, and how many rows they wrote; or none, and how many rows the runs had.
+fn work(alloc: Global, wish: Wish) -> Result<(u64, u64), AllocError> {
+    let Wish {
+        way,
+        keys,
+        entries,
+        most,
+    } = wish;
+    match way {
+        Way::Map => {
+            let kind = Kind::Group(AggList::of(alloc, &[Agg::Count, Agg::Sum])?);
+            let mut groups = GroupMap::new(alloc);
+            feed_all(alloc, &mut groups, &kind, keys, entries, most)
+        }
+        Way::Sorter => {
+            let mut sorter = RowSorter::new(alloc);
+            feed_all(alloc, &mut sorter, &Kind::Order, keys, entries, most)
+        }
+        Way::Runs { merges } => match merge_drawn(alloc, keys, entries, merges) {
+            Ok(rows) => Ok((0, rows)),
+            Err(_) => Err(AllocError),
+        },
+    }
+}
+
+fn main(rt: HostRuntime) -> io::Result<()> {
+    let mut words = env::args(&rt)?;
+    let _name = words.next();
+    let words = [words.next(), words.next(), words.next(), words.next()];
+    let Some(wish) = wish_of(words) else {
+        return println!(rt; "usage: spill_rate [map|sort|runs|merge KEYS ENTRIES BYTES]");
+    };
+    match work(rt.alloc(), wish) {
+        Ok((spills, rows)) => println!(rt; "spills {spills} rows {rows}"),
+        Err(_) => println!(rt; "out of memory"),
+    }
+}
