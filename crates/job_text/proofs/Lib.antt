@@ -1,0 +1,12 @@
+pub mod Quotes
+pub mod Fresh
+pub mod Fitting
+pub mod Viable
+pub mod Growing
+pub mod Sound
+pub mod Ends
+pub mod Scanning
+pub mod Names
+pub mod Places
+pub mod Doubled
+pub mod Texts

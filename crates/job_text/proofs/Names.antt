@@ -1,0 +1,127 @@
+-- A step adds one name at most.
+use Rattle.std.proofs.Common.{◌≡◌, ℕ, ◌+◌, ◌≤◌, Bool, true, false, cond, List, [], ◌∷◌, ◌++◌, length, Some, None, arith, inl, inr, ◌&&◌}
+use Rattle.std.specs.Prelude.{IfSome, if◌then◌else◌, nat_lt}
+use Rattle.std.specs.Str.{bytes_eq}
+use Rattle.std.proofs.lemmas.Bool.{cases_Bool}
+use Rattle.job_text.specs.declared.mark.Mark.{Mark}
+use Rattle.job_text.specs.declared.mark.Mark.TheVariants as marks
+use Rattle.job_text.specs.declared.token.Token.{Token}
+use Rattle.job_text.specs.declared.token.Token.TheVariants.{Fixed, Word, Quoted, Text, Whole}
+use Rattle.job_text.specs.declared.job.Part.{Part}
+use Rattle.job_text.specs.declared.job.KeyItem.{KeyItem}
+use Rattle.job_text.specs.declared.job.Shape.{Shape}
+use Rattle.job_text.specs.declared.job.Shape.TheVariants as shapes
+use Rattle.job_text.specs.declared.state.At.{At}
+use Rattle.job_text.specs.declared.state.At.TheVariants as at
+use Rattle.job_text.specs.declared.state.Read.{Read}
+use Rattle.job_text.specs.declared.state.State.{State}
+use Rattle.job_text.specs.Columns.{place_of, with_name, has_column, has_key, has_part, is_short}
+use Rattle.job_text.specs.Step.{step, query_of, counted, key, named, after_mark, after_query, after_group_columns, after_part, after_parts, after_keys, after_key_column, after_order_columns, after_source, ended, after_column, one_more}
+
+abbrev pub OneMore : Read → State → Type 0
+OneMore r next = length next.read.names ≤ length r.names + 1
+
+length-with_name-one : (names : List (List ℕ)) (name : List ℕ) → length (with_name names name) ≤ length names + 1
+length-with_name-one [] name = omega arith
+length-with_name-one (first ∷ names) name = elim (cases_Bool (bytes_eq first name)) [
+  | inl e ↦ rw e (omega arith)
+  | inr e ↦ rw e (omega (arith, length-with_name-one names name))
+]
+
+module _ (r : Read) where
+  one_cond : (b : Bool) (x : State) → OneMore r x → IfSome (cond b (Some x) None) (OneMore r)
+  one_cond true x h = h
+  one_cond false x h = tt
+
+  one_none : (b : Bool) (x : State) → OneMore r x → IfSome (cond b None (Some x)) (OneMore r)
+  one_none true x h = tt
+  one_none false x h = h
+
+  one_if : {A : Type 0} (items : List A) (next : At) → IfSome (one_more r items next) (OneMore r)
+  one_if items next = one_cond (nat_lt (length items) 8) (record { read = r; at = next }) (omega arith)
+
+  one_ended : (shape : Shape) (mark : Mark) → IfSome (ended r shape mark) (OneMore r)
+  one_ended shape marks.Semicolon = one_cond (nat_lt (length r.queries + 1) 8) (record { read = record r { queries = r.queries ++ query_of shape ∷ [] }; at = at.Query }) (omega arith)
+  one_ended shape _ = tt
+
+  one_query : (mark : Mark) → IfSome (after_query r mark) (OneMore r)
+  one_query marks.Group = omega arith
+  one_query marks.Order = omega arith
+  one_query _ = tt
+
+  one_group_columns : (columns : List ℕ) (mark : Mark) → IfSome (after_group_columns r columns mark) (OneMore r)
+  one_group_columns columns marks.Comma = one_if columns (at.GroupColumn columns)
+  one_group_columns columns marks.Colon = omega arith
+  one_group_columns columns _ = tt
+
+  one_part : (columns : List ℕ) (parts : List Part) (mark : Mark) → IfSome (after_part r columns parts mark) (OneMore r)
+  one_part columns parts marks.Count = one_none (has_part parts counted) (record { read = r; at = at.Parts columns (parts ++ counted ∷ []) }) (omega arith)
+  one_part columns parts marks.Sum = omega arith
+  one_part columns parts marks.Min = omega arith
+  one_part columns parts marks.Max = omega arith
+  one_part columns parts _ = tt
+
+  one_parts : (columns : List ℕ) (parts : List Part) (mark : Mark) → IfSome (after_parts r columns parts mark) (OneMore r)
+  one_parts columns parts marks.Comma = one_if parts (at.Part columns parts)
+  one_parts columns parts marks.From = omega arith
+  one_parts columns parts mark = one_ended (shapes.Group columns parts) mark
+
+  one_keys : (keys : List KeyItem) (mark : Mark) → IfSome (after_keys r keys mark) (OneMore r)
+  one_keys keys marks.Comma = one_if keys (at.Key keys)
+  one_keys keys marks.Colon = omega arith
+  one_keys keys _ = tt
+
+  one_key_column : (keys : List KeyItem) (column : ℕ) (number : Bool) (mark : Mark) → IfSome (after_key_column r keys column number mark) (OneMore r)
+  one_key_column keys column number marks.Down = omega arith
+  one_key_column keys column number mark = one_keys (key keys column number false) mark
+
+  one_order_columns : (keys : List KeyItem) (columns : List ℕ) (mark : Mark) → IfSome (after_order_columns r keys columns mark) (OneMore r)
+  one_order_columns keys columns marks.Comma = one_if columns (at.OrderColumn keys columns)
+  one_order_columns keys columns marks.From = omega arith
+  one_order_columns keys columns mark = one_ended (shapes.Order keys columns) mark
+
+  one_source : (shape : Shape) (mark : Mark) → IfSome (after_source r shape mark) (OneMore r)
+  one_source shape marks.Input = omega arith
+  one_source shape _ = tt
+
+  one_number : (keys : List KeyItem) (mark : Mark) → IfSome (after_mark r (at.Key keys) mark) (OneMore r)
+  one_number keys marks.Number = omega arith
+  one_number keys _ = tt
+
+  one_mark : (place : At) (mark : Mark) → IfSome (after_mark r place mark) (OneMore r)
+  one_mark at.Query mark = one_query mark
+  one_mark (at.GroupColumn columns) mark = tt
+  one_mark (at.GroupColumns columns) mark = one_group_columns columns mark
+  one_mark (at.Part columns parts) mark = one_part columns parts mark
+  one_mark (at.PartColumn columns parts agg) mark = tt
+  one_mark (at.Parts columns parts) mark = one_parts columns parts mark
+  one_mark (at.Key keys) mark = one_number keys mark
+  one_mark (at.NumberKey keys) mark = tt
+  one_mark (at.KeyColumn keys column number) mark = one_key_column keys column number mark
+  one_mark (at.Keys keys) mark = one_keys keys mark
+  one_mark (at.OrderColumn keys columns) mark = tt
+  one_mark (at.OrderColumns keys columns) mark = one_order_columns keys columns mark
+  one_mark (at.Source shape) mark = one_source shape mark
+  one_mark (at.Sourced shape) mark = one_ended shape mark
+
+  one_named : (is_taken : ℕ → Bool) (next : ℕ → At) (name : List ℕ) → IfSome (named r is_taken next (Some name)) (OneMore r)
+  one_named is_taken next name = one_cond (is_short name && (if is_taken (place_of r.names name) then false else true)) (record { read = record r { names = with_name r.names name }; at = next (place_of r.names name) }) (length-with_name-one r.names name)
+
+  one_column : (place : At) (name : List ℕ) → IfSome (after_column r place (Some name)) (OneMore r)
+  one_column (at.GroupColumn columns) name = one_named (has_column columns) (λ c. at.GroupColumns (columns ++ c ∷ [])) name
+  one_column (at.PartColumn columns parts agg) name = one_named (λ c. has_part parts (record { agg = agg; column = Some c })) (λ c. at.Parts columns (parts ++ record { agg = agg; column = Some c } ∷ [])) name
+  one_column (at.Key keys) name = one_named (has_key keys) (λ c. at.KeyColumn keys c false) name
+  one_column (at.NumberKey keys) name = one_named (has_key keys) (λ c. at.KeyColumn keys c true) name
+  one_column (at.OrderColumn keys columns) name = one_named (has_column columns) (λ c. at.OrderColumns keys (columns ++ c ∷ [])) name
+  one_column _ name = tt
+
+one_step : (s : State) (t : Token) → IfSome (step s t) (OneMore s.read)
+unfolding step
+one_step s (Fixed mark) = one_mark s.read s.at mark
+one_step s (Word name) = one_column s.read s.at name
+one_step s (Quoted name) = one_column s.read s.at name
+one_step s (Text text) = tt
+one_step s Whole = tt
+
+pub names_grow : (s next : State) (t : Token) → step s t ≡ Some next → length next.read.names ≤ length s.read.names + 1
+names_grow s next t e = rw e at (one_step s t)

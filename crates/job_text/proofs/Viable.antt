@@ -1,0 +1,197 @@
+-- Each state that is reached can be gone on from to a whole job.
+use Rattle.std.proofs.Common.{◌≡◌, ℕ, suc, ◌+◌, ◌<◌, ◌≤◌, Bool, true, false, List, [], ◌∷◌, ◌++◌, length, Option, Some, None, refl, ap, ◌∙◌, arith}
+use Rattle.std.specs.Prelude.{IsSome, IfSome, option_and_then}
+use Rattle.std.proofs.lemmas.Bool.{le-leb, and_right, or_from, or_parts}
+use Rattle.job_text.specs.declared.mark.Mark.TheVariants as marks
+use Rattle.job_text.specs.declared.token.Token.{Token}
+use Rattle.job_text.specs.declared.token.Token.TheVariants.{Fixed, Quoted}
+use Rattle.aggregate.specs.declared.agg_list.Agg.{Agg}
+use Rattle.aggregate.specs.declared.agg_list.Agg.TheVariants as aggs
+use Rattle.job_text.specs.declared.job.Part.{Part}
+use Rattle.job_text.specs.declared.job.KeyItem.{KeyItem}
+use Rattle.job_text.specs.declared.job.Shape.{Shape}
+use Rattle.job_text.specs.declared.job.Query.{Query}
+use Rattle.job_text.specs.declared.state.At.{At}
+use Rattle.job_text.specs.declared.state.At.TheVariants as at
+use Rattle.job_text.specs.declared.state.Read.{Read}
+use Rattle.job_text.specs.declared.state.State.{State}
+use Rattle.job_text.specs.Columns.{place_of, with_name, has_column, has_key, has_part, same_column}
+use Rattle.job_text.specs.Step.{step, start, key, named}
+use Rattle.std.specs.Prelude.{All}
+use Rattle.std.proofs.lemmas.List.Elements.{All-nil, All-cons}
+use Rattle.job_text.specs.Scan.{IsSpelled}
+use Rattle.job_text.specs.Begins.{steps, job_at, Begins}
+use Rattle.job_text.proofs.Fresh.{AreBelow, fresh}
+use Rattle.job_text.proofs.Fitting.{put, Fits, FitsAt, IsOpen, key_columns, part_columns, with_column, kept}
+
+-- ---- and each such state is gone on from
+
+-- some tokens lead from here to a job
+abbrev pub Viable : State → Type 0
+Viable s = (rest : List Token) × All IsSpelled rest × IsSome (job_at (steps s rest))
+
+by_token : (s next : State) (t : Token) → IsSpelled t → step s t ≡ Some next → Viable next → Viable s
+unfolding steps
+by_token s next t spelled e v = (t ∷ v.0, All-cons IsSpelled t v.0 spelled v.1, rw e v.2)
+
+named_is : (s : Read) (is_taken : ℕ → Bool) (next : ℕ → At) (name : List ℕ) → length name < 8 → is_taken (place_of s.names name) ≡ false → named s is_taken next (Some name) ≡ Some (put (with_name s.names name) s.queries (next (place_of s.names name)))
+named_is s is_taken next name lt free = rw (le-leb (length name) 1024 (omega arith), free) refl
+
+pub has_key_is : (keys : List KeyItem) (c : ℕ) → has_key keys c ≡ has_column (key_columns keys) c
+has_key_is [] c = refl
+has_key_is (k ∷ keys) c = rw (has_key_is keys c) refl
+
+length-key_columns : (keys : List KeyItem) → length (key_columns keys) ≡ length keys
+length-key_columns [] = refl
+length-key_columns (k ∷ keys) = ap suc (length-key_columns keys)
+
+length-with_column : (c : Option ℕ) (cs : List ℕ) → length (with_column c cs) ≤ length cs + 1
+length-with_column None cs = omega arith
+length-with_column (Some c) cs = omega arith
+
+length-part_columns : (parts : List Part) → length (part_columns parts) ≤ length parts
+length-part_columns [] = omega arith
+length-part_columns (p ∷ parts) = omega (arith, length-with_column p.column (part_columns parts), length-part_columns parts)
+
+other_part : (o : Option ℕ) (cs : List ℕ) (c : ℕ) → has_column (with_column o cs) c ≡ false → (same_column o (Some c) ≡ false) × (has_column cs c ≡ false)
+other_part None cs c h = (refl, h)
+other_part (Some d) cs c h = or_parts _ _ h
+
+-- no part has a column that none of their columns is
+new_part : (parts : List Part) (agg : Agg) (c : ℕ) → has_column (part_columns parts) c ≡ false → has_part parts (record { agg = agg; column = Some c }) ≡ false
+new_part [] agg c h = refl
+new_part (p ∷ parts) agg c h =
+    let both = other_part p.column (part_columns parts) c h in
+    or_from _ _ (and_right _ _ both.0) (new_part parts agg c both.1)
+
+-- ---- from the last token back
+
+module _ (names : List (List ℕ)) (queries : List Query) where
+  parts_viable : (columns : List ℕ) (parts : List Part) → Viable (put names queries (at.Parts columns parts))
+  unfolding steps
+  parts_viable columns parts = ([], All-nil IsSpelled, refl)
+
+  order_columns_viable : (keys : List KeyItem) (columns : List ℕ) → Viable (put names queries (at.OrderColumns keys columns))
+  unfolding steps
+  order_columns_viable keys columns = ([], All-nil IsSpelled, refl)
+
+  sourced_viable : (shape : Shape) → Viable (put names queries (at.Sourced shape))
+  unfolding steps
+  sourced_viable shape = ([], All-nil IsSpelled, refl)
+
+  source_viable : (shape : Shape) → Viable (put names queries (at.Source shape))
+  unfolding step
+  source_viable shape = by_token _ _ (Fixed marks.Input) tt refl (sourced_viable shape)
+
+-- a list to which a column is added
+by_column : (names : List (List ℕ)) (queries : List Query) (place : At) (cs : List ℕ) (is_taken : ℕ → Bool) (next : ℕ → At)
+    → length cs < 8 → AreBelow (length names) cs
+    → ((c : ℕ) → has_column cs c ≡ false → is_taken c ≡ false)
+    → ((name : List ℕ) → step (put names queries place) (Quoted name) ≡ named (record { names = names; queries = queries }) is_taken next (Some name))
+    → ((all : List (List ℕ)) (c : ℕ) → Viable (put all queries (next c)))
+    → Viable (put names queries place)
+by_column names queries place cs is_taken next few below free is after =
+    let f = fresh names cs below in
+    let r : Read = record { names = names; queries = queries } in
+    by_token (put names queries place) _ (Quoted f.0) f.1.spelled (is f.0 ∙ named_is r is_taken next f.0 (omega (arith, f.1.long)) (free _ f.1.new)) (after _ _)
+
+module _ (names : List (List ℕ)) (queries : List Query) where
+  part_column_viable : (columns : List ℕ) (parts : List Part) (agg : Agg) → IsOpen names (part_columns parts) (length parts) → Viable (put names queries (at.PartColumn columns parts agg))
+  unfolding step
+  part_column_viable columns parts agg h =
+      by_column names queries _ (part_columns parts) (λ c. has_part parts (record { agg = agg; column = Some c })) (λ c. at.Parts columns (parts ++ record { agg = agg; column = Some c } ∷ [])) (omega (arith, length-part_columns parts, h.few)) h.below (new_part parts agg) (λ _. refl) (λ all c. parts_viable all queries columns _)
+
+  part_viable : (columns : List ℕ) (parts : List Part) → IsOpen names (part_columns parts) (length parts) → Viable (put names queries (at.Part columns parts))
+  unfolding step
+  part_viable columns parts h = by_token _ _ (Fixed marks.Sum) tt refl (part_column_viable columns parts aggs.Sum h)
+
+  group_columns_viable : (columns : List ℕ) → Viable (put names queries (at.GroupColumns columns))
+  unfolding step
+  group_columns_viable columns = by_token _ _ (Fixed marks.Colon) tt refl (part_viable columns [] (record { few = omega arith; below = tt }))
+
+  order_column_viable : (keys : List KeyItem) (columns : List ℕ) → IsOpen names columns (length columns) → Viable (put names queries (at.OrderColumn keys columns))
+  unfolding step
+  order_column_viable keys columns h =
+      by_column names queries _ columns (has_column columns) (λ c. at.OrderColumns keys (columns ++ c ∷ [])) h.few h.below (λ c free. free) (λ _. refl) (λ all c. order_columns_viable all queries keys _)
+
+  keys_viable : (keys : List KeyItem) → Viable (put names queries (at.Keys keys))
+  unfolding step
+  keys_viable keys = by_token _ _ (Fixed marks.Colon) tt refl (order_column_viable keys [] (record { few = omega arith; below = tt }))
+
+  key_column_viable : (keys : List KeyItem) (column : ℕ) (number : Bool) → Viable (put names queries (at.KeyColumn keys column number))
+  unfolding step
+  key_column_viable keys column number = by_token _ _ (Fixed marks.Colon) tt refl (order_column_viable (key keys column number false) [] (record { few = omega arith; below = tt }))
+
+module _ (names : List (List ℕ)) (queries : List Query) where
+  group_column_viable : (columns : List ℕ) → IsOpen names columns (length columns) → Viable (put names queries (at.GroupColumn columns))
+  unfolding step
+  group_column_viable columns h =
+      by_column names queries _ columns (has_column columns) (λ c. at.GroupColumns (columns ++ c ∷ [])) h.few h.below (λ c free. free) (λ _. refl) (λ all c. group_columns_viable all queries _)
+
+  number_key_viable : (keys : List KeyItem) → IsOpen names (key_columns keys) (length keys) → Viable (put names queries (at.NumberKey keys))
+  unfolding step
+  number_key_viable keys h =
+      by_column names queries _ (key_columns keys) (has_key keys) (λ c. at.KeyColumn keys c true) (omega (arith, length-key_columns keys, h.few)) h.below (λ c free. has_key_is keys c ∙ free) (λ _. refl) (λ all c. key_column_viable all queries keys c true)
+
+  key_viable : (keys : List KeyItem) → IsOpen names (key_columns keys) (length keys) → Viable (put names queries (at.Key keys))
+  unfolding step
+  key_viable keys h = by_token _ _ (Fixed marks.Number) tt refl (number_key_viable keys h)
+
+  query_viable : Viable (put names queries at.Query)
+  unfolding step
+  query_viable = by_token _ _ (Fixed marks.Group) tt refl (group_column_viable [] (record { few = omega arith; below = tt }))
+
+  viable_at : (place : At) → FitsAt names place → Viable (put names queries place)
+  viable_at at.Query h = query_viable
+  viable_at (at.GroupColumn columns) h = group_column_viable columns h
+  viable_at (at.GroupColumns columns) h = group_columns_viable names queries columns
+  viable_at (at.Part columns parts) h = part_viable names queries columns parts h
+  viable_at (at.PartColumn columns parts agg) h = part_column_viable names queries columns parts agg h
+  viable_at (at.Parts columns parts) h = parts_viable names queries columns parts
+  viable_at (at.Key keys) h = key_viable keys h
+  viable_at (at.NumberKey keys) h = number_key_viable keys h
+  viable_at (at.KeyColumn keys column number) h = key_column_viable names queries keys column number
+  viable_at (at.Keys keys) h = keys_viable names queries keys
+  viable_at (at.OrderColumn keys columns) h = order_column_viable names queries keys columns h
+  viable_at (at.OrderColumns keys columns) h = order_columns_viable names queries keys columns
+  viable_at (at.Source shape) h = source_viable names queries shape
+  viable_at (at.Sourced shape) h = sourced_viable names queries shape
+
+pub viable : (s : State) → Fits s → Viable s
+viable s h = viable_at s.read.names s.read.queries s.at h
+
+-- ---- the tokens up to here begin a job exactly where each was taken
+
+on_next : (o : Option State) (ts : List Token) → ((next : State) → Fits next → IfSome (steps next ts) Fits) → IfSome o Fits → IfSome (option_and_then (λ next. steps next ts) o) Fits
+on_next None ts again f = tt
+on_next (Some next) ts again f = again next f
+
+steps_fit : (ts : List Token) (s : State) → Fits s → IfSome (steps s ts) Fits
+unfolding steps
+steps_fit [] s h = h
+steps_fit (t ∷ ts) s h = on_next (step s t) ts (λ next f. steps_fit ts next f) (kept s t h)
+
+on_append : (o : Option State) (ts us : List Token) → ((next : State) → steps next (ts ++ us) ≡ option_and_then (λ n. steps n us) (steps next ts)) → option_and_then (λ n. steps n (ts ++ us)) o ≡ option_and_then (λ n. steps n us) (option_and_then (λ n. steps n ts) o)
+on_append None ts us h = refl
+on_append (Some next) ts us h = h next
+
+pub steps-append : (ts us : List Token) (s : State) → steps s (ts ++ us) ≡ option_and_then (λ n. steps n us) (steps s ts)
+unfolding steps
+steps-append [] us s = refl
+steps-append (t ∷ ts) us s = on_append (step s t) ts us (λ next. steps-append ts us next)
+
+begins_from : (o : Option State) → IfSome o Fits → IsSome o → (rest : List Token) × All IsSpelled rest × IsSome (job_at (option_and_then (λ n. steps n rest) o))
+begins_from None f h = absurd (cc)
+begins_from (Some s) f h = viable s f
+
+pub begins : (ts : List Token) → IsSome (steps start ts) → Begins ts
+begins ts h =
+    let v = begins_from (steps start ts) (steps_fit ts start tt) h in
+    (v.0, v.1, rw (steps-append ts v.0 start) v.2)
+
+taken_from : (o : Option State) (rest : List Token) → IsSome (job_at (option_and_then (λ n. steps n rest) o)) → IsSome o
+taken_from None rest h = h
+taken_from (Some s) rest h = refl
+
+pub taken : (ts : List Token) → Begins ts → IsSome (steps start ts)
+taken ts b = taken_from (steps start ts) b.0 (rw (steps-append ts b.0 start) at b.2)

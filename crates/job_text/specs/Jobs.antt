@@ -1,0 +1,55 @@
+-- What holds of each job that has a text: how long its lists are, and that a column is one of its names.
+-- This project's own.
+use Rattle.std.specs.Prelude.{◌≡◌, ◌≢◌, ℕ, ◌≤◌, ◌<◌, not, Bool, true, false, List, All, AllPairs, IfSome, is_some, length, map}
+use Rattle.aggregate.specs.declared.agg_list.Agg.{Agg}
+use Rattle.aggregate.specs.declared.agg_list.Agg.TheVariants.{Count, Sum, Min, Max}
+use Rattle.job_text.specs.declared.job.Job.{Job}
+use Rattle.job_text.specs.declared.job.Part.{Part}
+use Rattle.job_text.specs.declared.job.Query.{Query}
+use Rattle.job_text.specs.declared.job.Shape.{Shape}
+use Rattle.job_text.specs.declared.job.Shape.TheVariants.{Group, Order}
+
+-- one to eight items
+pub record IsShortList {A : Type 0} (items : List A) : Type 0 where
+  pub some : 1 ≤ length items
+  pub few : length items ≤ 8
+
+-- the aggregate is the count of rows, which is of no column
+abbrev pub is_count : Agg → Bool
+is_count Count = true
+is_count Sum = false
+is_count Min = false
+is_count Max = false
+
+-- an aggregate has a column exactly where it isn't the count, and the column is one of so many names
+pub record IsPart (names : ℕ) (part : Part) : Type 0 where
+  pub column : is_some part.column ≡ not (is_count part.agg)
+  pub named : IfSome part.column (λ column. column < names)
+
+-- no item stands twice
+abbrev pub IsDistinct : {A : Type 0} → List A → Type 0
+IsDistinct items = AllPairs (λ earlier later. earlier ≢ later) items
+
+-- columns in a list: one to eight of so many names, none twice
+pub record IsColumns (names : ℕ) (columns : List ℕ) : Type 0 where
+  pub short : IsShortList columns
+  pub named : All (λ column. column < names) columns
+  pub distinct : IsDistinct columns
+
+-- a shape's lists are short, and its columns are among so many names, in each list and among the keys none twice
+abbrev pub IsShape : ℕ → Shape → Type 0
+IsShape names (Group columns parts) = IsColumns names columns × IsShortList parts × All (IsPart names) parts
+IsShape names (Order keys columns) = IsColumns names (map (λ key. key.column) keys) × IsColumns names columns
+
+-- a query over one of so many datasets beside the input
+pub record IsQuery (names datasets : ℕ) (query : Query) : Type 0 where
+  pub dataset : query.dataset ≤ datasets
+  pub shape : IsShape names query.shape
+
+-- what each job has that was read from a text
+pub record IsJob (job : Job) : Type 0 where
+  pub names : All (λ name. length name ≤ 1024) job.names
+  pub distinct : IsDistinct job.names
+  pub datasets : length job.datasets ≤ 8
+  pub several : IsShortList job.queries
+  pub queries : All (IsQuery (length job.names) (length job.datasets)) job.queries

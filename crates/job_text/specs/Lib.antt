@@ -1,0 +1,10 @@
+pub mod Marks
+pub mod Scan
+pub mod Columns
+pub mod Step
+pub mod Begins
+pub mod Text
+pub mod Place
+pub mod Jobs
+pub mod Printing
+pub mod Sheets

@@ -1,0 +1,150 @@
+-- Reading a job token by token: what each token leads to, or None where it is refused.
+-- This project's own.
+use Rattle.std.specs.Prelude.{ℕ, ◌+◌, List, [], ◌∷◌, ◌++◌, length, Bool, true, false, ◌&&◌, nat_lt, if◌then◌else◌, Option, Some, None}
+use Rattle.aggregate.specs.declared.agg_list.Agg.TheVariants as aggs
+use Rattle.job_text.specs.declared.mark.Mark.{Mark}
+use Rattle.job_text.specs.declared.mark.Mark.TheVariants as marks
+use Rattle.job_text.specs.declared.token.Token.{Token}
+use Rattle.job_text.specs.declared.token.Token.TheVariants.{Fixed, Word, Quoted, Text, Whole}
+use Rattle.job_text.specs.declared.job.Part.{Part}
+use Rattle.job_text.specs.declared.job.KeyItem.{KeyItem}
+use Rattle.job_text.specs.declared.job.Shape.{Shape}
+use Rattle.job_text.specs.declared.job.Shape.TheVariants as shapes
+use Rattle.job_text.specs.declared.job.Query.{Query}
+use Rattle.job_text.specs.declared.state.At.{At}
+use Rattle.job_text.specs.declared.state.At.TheVariants as at
+use Rattle.job_text.specs.declared.state.Read.{Read}
+use Rattle.job_text.specs.declared.state.State.{State}
+use Rattle.job_text.specs.Columns.{place_of, with_name, is_short, has_column, has_key, has_part}
+
+-- what was read stays, and this comes next
+abbrev pub moved : Read → At → Option State
+moved r next = Some (record { read = r; at = next })
+
+-- a list goes on behind a comma, up to eight items
+abbrev pub one_more : {A : Type 0} → Read → List A → At → Option State
+one_more r items next = if nat_lt (length items) 8 then moved r next else None
+
+-- a column at the place where it is named; `next` says what follows
+abbrev pub named : Read → (ℕ → Bool) → (ℕ → At) → Option (List ℕ) → Option State
+named r is_taken next None = None
+named r is_taken next (Some name) =
+    if is_short name && (if is_taken (place_of r.names name) then false else true)
+    then Some (record { read = record r { names = with_name r.names name }; at = next (place_of r.names name) })
+    else None
+
+-- a query over the input
+abbrev pub query_of : Shape → Query
+query_of shape = record { dataset = 0; shape = shape }
+
+-- behind a query that may end here
+abbrev pub ended : Read → Shape → Mark → Option State
+ended r shape marks.Semicolon =
+    if nat_lt (length r.queries + 1) 8
+    then Some (record { read = record r { queries = r.queries ++ query_of shape ∷ [] }; at = at.Query })
+    else None
+ended r shape _ = None
+
+-- where a query must come
+abbrev pub after_query : Read → Mark → Option State
+after_query r marks.Group = moved r (at.GroupColumn [])
+after_query r marks.Order = moved r (at.Key [])
+after_query r _ = None
+
+-- behind a column of a group
+abbrev pub after_group_columns : Read → List ℕ → Mark → Option State
+after_group_columns r columns marks.Comma = one_more r columns (at.GroupColumn columns)
+after_group_columns r columns marks.Colon = moved r (at.Part columns [])
+after_group_columns r columns _ = None
+
+-- the count of rows
+abbrev pub counted : Part
+counted = record { agg = aggs.Count; column = None }
+
+-- where an aggregate must come
+abbrev pub after_part : Read → List ℕ → List Part → Mark → Option State
+after_part r columns parts marks.Count = if has_part parts counted then None else moved r (at.Parts columns (parts ++ counted ∷ []))
+after_part r columns parts marks.Sum = moved r (at.PartColumn columns parts aggs.Sum)
+after_part r columns parts marks.Min = moved r (at.PartColumn columns parts aggs.Min)
+after_part r columns parts marks.Max = moved r (at.PartColumn columns parts aggs.Max)
+after_part r columns parts _ = None
+
+-- behind an aggregate
+abbrev pub after_parts : Read → List ℕ → List Part → Mark → Option State
+after_parts r columns parts marks.Comma = one_more r parts (at.Part columns parts)
+after_parts r columns parts marks.From = moved r (at.Source (shapes.Group columns parts))
+after_parts r columns parts mark = ended r (shapes.Group columns parts) mark
+
+-- the keys with one more
+abbrev pub key : List KeyItem → ℕ → Bool → Bool → List KeyItem
+key keys column number down = keys ++ record { column = column; number = number; down = down } ∷ []
+
+-- behind a key
+abbrev pub after_keys : Read → List KeyItem → Mark → Option State
+after_keys r keys marks.Comma = one_more r keys (at.Key keys)
+after_keys r keys marks.Colon = moved r (at.OrderColumn keys [])
+after_keys r keys _ = None
+
+-- behind the column of a key, where `down` may come
+abbrev pub after_key_column : Read → List KeyItem → ℕ → Bool → Mark → Option State
+after_key_column r keys column number marks.Down = moved r (at.Keys (key keys column number true))
+after_key_column r keys column number mark = after_keys r (key keys column number false) mark
+
+-- behind a column of an order
+abbrev pub after_order_columns : Read → List KeyItem → List ℕ → Mark → Option State
+after_order_columns r keys columns marks.Comma = one_more r columns (at.OrderColumn keys columns)
+after_order_columns r keys columns marks.From = moved r (at.Source (shapes.Order keys columns))
+after_order_columns r keys columns mark = ended r (shapes.Order keys columns) mark
+
+-- behind `from`
+abbrev pub after_source : Read → Shape → Mark → Option State
+after_source r shape marks.Input = moved r (at.Sourced shape)
+after_source r shape _ = None
+
+-- a reserved word or a sign
+abbrev pub after_mark : Read → At → Mark → Option State
+after_mark r at.Query mark = after_query r mark
+after_mark r (at.GroupColumn columns) mark = None
+after_mark r (at.GroupColumns columns) mark = after_group_columns r columns mark
+after_mark r (at.Part columns parts) mark = after_part r columns parts mark
+after_mark r (at.PartColumn columns parts agg) mark = None
+after_mark r (at.Parts columns parts) mark = after_parts r columns parts mark
+after_mark r (at.Key keys) marks.Number = moved r (at.NumberKey keys)
+after_mark r (at.Key keys) _ = None
+after_mark r (at.NumberKey keys) mark = None
+after_mark r (at.KeyColumn keys column number) mark = after_key_column r keys column number mark
+after_mark r (at.Keys keys) mark = after_keys r keys mark
+after_mark r (at.OrderColumn keys columns) mark = None
+after_mark r (at.OrderColumns keys columns) mark = after_order_columns r keys columns mark
+after_mark r (at.Source shape) mark = after_source r shape mark
+after_mark r (at.Sourced shape) mark = ended r shape mark
+
+-- a column
+abbrev pub after_column : Read → At → Option (List ℕ) → Option State
+after_column r (at.GroupColumn columns) column = named r (has_column columns) (λ c. at.GroupColumns (columns ++ c ∷ [])) column
+after_column r (at.PartColumn columns parts agg) column =
+    named r (λ c. has_part parts (record { agg = agg; column = Some c }))
+    (λ c. at.Parts columns (parts ++ record { agg = agg; column = Some c } ∷ [])) column
+after_column r (at.Key keys) column = named r (has_key keys) (λ c. at.KeyColumn keys c false) column
+after_column r (at.NumberKey keys) column = named r (has_key keys) (λ c. at.KeyColumn keys c true) column
+after_column r (at.OrderColumn keys columns) column = named r (has_column columns) (λ c. at.OrderColumns keys (columns ++ c ∷ [])) column
+after_column r _ column = None
+
+-- what follows a token, or None where it is refused
+unfoldable pub step : State → Token → Option State
+step s (Fixed mark) = after_mark s.read s.at mark
+step s (Word name) = after_column s.read s.at (Some name)
+step s (Quoted name) = after_column s.read s.at (Some name)
+step s (Text text) = None
+step s Whole = None
+
+-- the query at hand, where it may end here
+abbrev pub shape_of : At → Option Shape
+shape_of (at.Parts columns parts) = Some (shapes.Group columns parts)
+shape_of (at.OrderColumns keys columns) = Some (shapes.Order keys columns)
+shape_of (at.Sourced shape) = Some shape
+shape_of _ = None
+
+-- nothing was read
+abbrev pub start : State
+start = record { read = record { names = []; queries = [] }; at = at.Query }

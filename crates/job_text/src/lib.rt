@@ -1,0 +1,25 @@
+//! The job language, read and printed.
+#![tactic(auto)]
+
+mod columns;
+mod fault;
+mod job;
+mod lists;
+mod mark;
+mod printer;
+mod printing;
+mod reading;
+mod state;
+mod step;
+#[cfg(test)]
+mod tests;
+mod token;
+mod tokens;
+
+pub use fault::JobFault;
+pub use job::{
+    Dataset, DatasetList, Job, KeyItem, KeyList, NameList, Part, PartList, PlaceList, Query,
+    QueryList, Shape,
+};
+pub use printing::print;
+pub use reading::read;

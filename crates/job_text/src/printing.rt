@@ -1,0 +1,152 @@
+//! A job's text.
+
+ghost use Rattle.std.specs.Prelude.{◌≡◌, ◌<◌, [], All, IfOk, IfSome, length, string_bytes};
+ghost use Rattle.job_text.specs.declared.mark.Mark.TheVariants as marks;
+ghost use Rattle.job_text.specs.Jobs.{IsJob, IsPart, IsShape};
+ghost use Rattle.job_text.specs.Printing.{agg_mark, agg_column_tokens, key_tokens, part_tokens, place_tokens, printed, query_tokens, separated, shape_tokens, sign_before, word_where};
+ghost use Rattle.job_text.specs.Sheets.{Writes};
+
+use crate::job::{Job, KeyItem, Part, Shape};
+use crate::mark::Mark;
+use crate::printer::Printer;
+use aggregate::Agg;
+use item_lists::Name;
+use std::alloc::{AllocError, Global};
+
+fn mark_of(agg: Agg) -> Mark
+    ensures { result ≡ agg_mark agg }
+{
+    match agg {
+        Agg::Count => Mark::Count,
+        Agg::Sum => Mark::Sum,
+        Agg::Min => Mark::Min,
+        Agg::Max => Mark::Max,
+    }
+}
+
+/// Adds the sign before an item that isn't the first.
+#[tactic(auto, unfolding(crate::specs::Sheets::with_tokens))]
+fn print_sign(printer: &mut Printer, place: usize, sign: Mark) -> Result<(), AllocError>
+    ensures { Writes printer.old printer.new result (sign_before place sign) }
+{
+    if place > 0 {
+        printer.mark(sign)?;
+    }
+    Ok(())
+}
+
+#[tactic(auto, unfolding(crate::specs::Sheets::with_tokens))]
+fn print_word(printer: &mut Printer, written: bool, word: Mark) -> Result<(), AllocError>
+    ensures { Writes printer.old printer.new result (word_where written word) }
+{
+    if written {
+        printer.mark(word)?;
+    }
+    Ok(())
+}
+
+#[tactic(auto, unfolding(crate::specs::Sheets::with_tokens))]
+fn print_column(printer: &mut Printer, names: &[Name], column: u32) -> Result<(), AllocError>
+    requires named { column < length names.now }
+    ensures { Writes printer.old printer.new result (place_tokens names.now column) }
+{
+    printer.column(&names[column as usize])?;
+    Ok(())
+}
+
+fn print_columns(printer: &mut Printer, names: &[Name], columns: &[u32]) -> Result<(), AllocError>
+    requires named { All (λ column. column < length names.now) columns.now }
+    ensures { Writes printer.old printer.new result (separated marks.Comma (place_tokens names.now) columns.now) }
+{
+    for i in 0..columns.len() {
+        print_sign(printer, i, Mark::Comma)?;
+        print_column(printer, names, columns[i])?;
+    }
+    Ok(())
+}
+
+#[tactic(auto, unfolding(crate::specs::Sheets::with_tokens))]
+fn print_part(printer: &mut Printer, names: &[Name], part: Part) -> Result<(), AllocError>
+    requires fine { IsPart (length names.now) part }
+    ensures { Writes printer.old printer.new result (part_tokens names.now part) }
+{
+    printer.mark(mark_of(part.agg))?;
+    match part.column {
+        Some(column) => print_column(printer, names, column),
+        None => Ok(()),
+    }
+}
+
+fn print_parts(printer: &mut Printer, names: &[Name], parts: &[Part]) -> Result<(), AllocError>
+    requires fine { All (IsPart (length names.now)) parts.now }
+    ensures { Writes printer.old printer.new result (separated marks.Comma (part_tokens names.now) parts.now) }
+{
+    for i in 0..parts.len() {
+        print_sign(printer, i, Mark::Comma)?;
+        print_part(printer, names, parts[i])?;
+    }
+    Ok(())
+}
+
+fn print_key(printer: &mut Printer, names: &[Name], key: KeyItem) -> Result<(), AllocError>
+    requires named { key.column < length names.now }
+    ensures { Writes printer.old printer.new result (key_tokens names.now key) }
+{
+    print_word(printer, key.number, Mark::Number)?;
+    print_column(printer, names, key.column)?;
+    print_word(printer, key.down, Mark::Down)?;
+    Ok(())
+}
+
+fn print_keys(printer: &mut Printer, names: &[Name], keys: &[KeyItem]) -> Result<(), AllocError>
+    requires named { All (λ key. key.column < length names.now) keys.now }
+    ensures { Writes printer.old printer.new result (separated marks.Comma (key_tokens names.now) keys.now) }
+{
+    for i in 0..keys.len() {
+        print_sign(printer, i, Mark::Comma)?;
+        print_key(printer, names, keys[i])?;
+    }
+    Ok(())
+}
+
+fn print_shape(printer: &mut Printer, names: &[Name], shape: &Shape) -> Result<(), AllocError>
+    requires fine { IsShape (length names.now) shape.now }
+    ensures { Writes printer.old printer.new result (shape_tokens names.now shape.now) }
+{
+    match shape {
+        Shape::Group { columns, parts } => {
+            printer.mark(Mark::Group)?;
+            print_columns(printer, names, columns.items())?;
+            printer.mark(Mark::Colon)?;
+            print_parts(printer, names, parts.items())?;
+            Ok(())
+        }
+        Shape::Order { keys, columns } => {
+            printer.mark(Mark::Order)?;
+            print_keys(printer, names, keys.items())?;
+            printer.mark(Mark::Colon)?;
+            print_columns(printer, names, columns.items())?;
+            Ok(())
+        }
+    }
+}
+
+/// The text of a job without datasets, in its one printed form.
+///
+/// Two tokens are one blank apart, with none before `,` `:` `;`. A column is a word where that is possible,
+/// and in quotes else. The one error is want of memory.
+pub fn print(alloc: Global, job: &Job) -> Result<String, AllocError>
+    requires whole { IsJob job.now }
+    requires plain { job.now.datasets ≡ [] }
+    // Want of memory is the one answer without a cause; a test shows success.
+    ensures { IfOk result (λ text. string_bytes text ≡ printed job.now) }
+{
+    let mut printer = Printer::new(alloc);
+    let names = job.names.items();
+    let queries = job.queries.items();
+    for i in 0..queries.len() {
+        print_sign(&mut printer, i, Mark::Semicolon)?;
+        print_shape(&mut printer, names, &queries[i].shape)?;
+    }
+    Ok(printer.into_text())
+}
