@@ -1,0 +1,196 @@
+-- The plan of a job over a header, from the places of its names.
+use Rattle.std.proofs.Common.{◌≡◌, ◌≢◌, ◌<◌, ◌≤◌, ◌+◌, ◌∙◌, ◌++◌, ℕ, List, [], ◌∷◌, Some, None, true, length, map, get_or, take, refl, sym, ap, inl, inr, arith, subst, slice_index}
+use Rattle.std.specs.Prelude.{◌==◌, All, nat_lt}
+use Rattle.std.specs.List.{flat_map, list_any, range_with_len}
+use Rattle.std.specs.Str.{bytes_eq}
+use Rattle.std.proofs.lemmas.Bool.{cases_Bool, eqb-true, ltb-true, ltb-false}
+use Rattle.std.proofs.lemmas.Bool.Decides.{nat_tests}
+use Rattle.std.proofs.lemmas.List.{get_or-map, length-map, map-append, map_more, map_push}
+use Rattle.std.proofs.lemmas.List.Elements.{All-map, All-push, All-same}
+use Rattle.std.proofs.lemmas.List.Folds.{flat_map-map, list_any_at}
+use Rattle.std.proofs.lemmas.List.FromFn.{get_or-range_with_len, length-range_with_len}
+use Rattle.std.proofs.lemmas.Slice.Eq.{bytes_eq-Decides}
+use Rattle.row_filter.specs.Chains.{form_of, links_of}
+use Rattle.row_filter.specs.declared.chain.Chain.{Chain}
+use Rattle.run_file.specs.declared.form.Form.TheVariants.{Landed}
+use Rattle.job_text.specs.Jobs.{IsJob, IsShape}
+use Rattle.job_text.specs.declared.job.Job.{Job}
+use Rattle.job_text.specs.declared.job.Query.{Query}
+use Rattle.job_text.specs.declared.job.Shape.{Shape}
+use Rattle.job_text.specs.declared.job.Shape.TheVariants.{Group, Order}
+use Rattle.job_plan.specs.Columns.{Fields, kept, kept_place, missing, name_of, number_columns, number_places, numbers_in, over_kept, place, stands_at}
+use Rattle.job_plan.specs.Entries.{kind_of}
+use Rattle.job_plan.specs.Making.{AreFound, ArePlannedOf, IsPlannedOf, ascending, place_in}
+use Rattle.job_plan.specs.Moved.{moved}
+use Rattle.job_plan.specs.Planning.{ArePlanned, IsPlanned, columns_of}
+use Rattle.job_plan.specs.Plans.{IsPlanOf, no_shape}
+use Rattle.job_plan.specs.declared.planned.Planned.{Planned}
+use Rattle.job_plan.specs.declared.query_plan.Plan.{Plan}
+use Rattle.job_plan.proofs.Firsts.{any_of_kept, any_of_map, filter_same, first_at, first_of_any}
+use Rattle.job_plan.proofs.Moving.{map_same, moved-same, numbers-moved, shape-moved}
+
+-- ---- one more query
+
+list_more : {Y : Type 0} (f : Planned → Y) (g : Query → Y) (ps : List Planned) (p : Planned) (qs : List Query) (i : ℕ) (q : Query)
+    → i < length qs → q ≡ get_or qs i q → map f ps ≡ map g (take i qs) → f p ≡ g q → map f (ps ++ p ∷ []) ≡ map g (take (i + 1) qs)
+list_more f g ps p qs i q lt e h same =
+    map_push f ps p ∙ rw (h, same, ap g e) refl ∙ sym (map_more g qs i q lt)
+
+pub planned_more : (names : List (List ℕ)) (places : List ℕ) (qs : List Query) (ps : List Planned) (i : ℕ) (q : Query) (p : Planned)
+    → i < length qs → q ≡ get_or qs i q → ArePlannedOf names places (take i qs) ps → IsPlannedOf names places q.shape p
+    → ArePlannedOf names places (take (i + 1) qs) (ps ++ p ∷ [])
+planned_more names places qs ps i q p lt e h is = record {
+  shapes = list_more (λ (x : Planned). x.shape) _ ps p qs i q lt e h.shapes is.shape;
+  over = list_more (λ (x : Planned). x.kept) _ ps p qs i q lt e h.over is.over;
+  kinds = All-push (λ (x : Planned). x.kind ≡ kind_of x.kept) ps p h.kinds is.kind;
+  headings = list_more (λ (x : Planned). x.heading) _ ps p qs i q lt e h.headings is.heading;
+}
+
+-- ---- kept places
+
+same-test : (n : ℕ) → (n == n) ≡ true
+same-test n = grind (arith, nat_tests)
+
+any_found : (header : Fields) (names : List (List ℕ)) (places : List ℕ) (p : ℕ) → AreFound names header places → list_any (λ q. q == p) places ≡ list_any (stands_at header p) names
+any_found header [] [] p h = refl
+any_found header (name ∷ names) [] p h = cc h
+any_found header [] (q ∷ places) p h = cc h
+any_found header (name ∷ names) (q ∷ places) p h =
+    let here : place name header ≡ Some q = cc h in
+    let more : AreFound names header places = cc h in
+    rw (here, any_found header names places p more) refl
+
+pub kept_is : (header : Fields) (names : List (List ℕ)) (places : List ℕ) → AreFound names header places → ascending places (length header) ≡ kept names header
+kept_is header names places h =
+    filter_same (λ p. list_any (λ q. q == p) places) (λ p. list_any (stands_at header p) names) (range_with_len 0 (length header)) (λ p. any_found header names places p h)
+
+over-moved : (job : Job) (header : Fields) (s : Shape) → over_kept job header s ≡ moved (kept_place job header) s
+over-moved job header (Group columns parts) = refl
+over-moved job header (Order keys columns) = refl
+
+flat-moved : (g : ℕ → ℕ) (qs : List Query) → flat_map (λ (q : Query). numbers_in (moved g q.shape)) qs ≡ map g (flat_map (λ (q : Query). numbers_in q.shape) qs)
+flat-moved g [] = refl
+flat-moved g (q ∷ qs) = rw (numbers-moved g q.shape, flat-moved g qs) (sym (map-append g (numbers_in q.shape) (flat_map (λ (x : Query). numbers_in x.shape) qs)))
+
+module _ (job : Job) (header : Fields) (places : List ℕ) (is : IsJob job) (found : AreFound job.names header places) where
+  abbrev the-kept : List ℕ
+  the-kept = kept job.names header
+
+  abbrev count : ℕ
+  count = length job.names
+
+  long : length places ≡ count
+  long = sym (length-map places Some) ∙ ap length found ∙ length-map job.names (λ name. place name header)
+
+  found_at : (c : ℕ) → c < count → place (name_of job c) header ≡ Some (get_or places c 0)
+  found_at c lt =
+      let inside : c < length places = omega (arith, long) in
+      sym (get_or-map (λ name. place name header) job.names c [] None lt) ∙ sym (ap (λ list. get_or list c None) found) ∙ get_or-map Some places c 0 None inside
+
+  -- the kept place of a name's column, and what stands there
+  kept_at : (c : ℕ) → c < count → (k : ℕ) × (kept_place job header c ≡ k) × (k < length the-kept) × (get_or the-kept k 0 ≡ get_or places c 0)
+  kept_at c lt =
+      let q = get_or places c 0 in
+      let here : q < length header = (first_at (λ f. bytes_eq f (name_of job c)) header q [] (found_at c lt)).0 in
+      let at : get_or (range_with_len 0 (length header)) q 0 ≡ q = get_or-range_with_len 0 (length header) q 0 here ∙ omega arith in
+      let stands : stands_at header q (name_of job c) ≡ true = rw (found_at c lt) (same-test q) in
+      let passes : list_any (stands_at header q) job.names ≡ true = list_any_at (stands_at header q) job.names c [] lt stands in
+      let inside : q < length (range_with_len 0 (length header)) = omega (arith, length-range_with_len 0 (length header)) in
+      let any : list_any (λ p. p == q) the-kept ≡ true =
+      any_of_kept (λ p. p == q) (λ p. list_any (stands_at header p) job.names) (range_with_len 0 (length header)) q 0 inside (rw at passes) (rw at (same-test q)) in
+      let first = first_of_any (λ p. p == q) 0 the-kept any in
+      let same = first_at (λ p. p == q) the-kept first.0 0 first.1 in
+      (first.0, rw (found_at c lt, first.1) refl, same.0, eqb-true (get_or the-kept first.0 0) q same.1)
+
+  pub kept_within : (c : ℕ) → c < count → kept_place job header c < length the-kept
+  kept_within c lt = let k = kept_at c lt in rw k.1 k.2
+
+  same-name : (a b : ℕ) → a < count → b < count → kept_place job header a ≡ kept_place job header b → name_of job a ≡ name_of job b
+  same-name a b la lb e =
+      let ka = kept_at a la in
+      let kb = kept_at b lb in
+      let at : get_or places a 0 ≡ get_or places b 0 = sym ka.3 ∙ ap (λ k. get_or the-kept k 0) (sym ka.1 ∙ e ∙ kb.1) ∙ kb.3 in
+      let na = (first_at (λ f. bytes_eq f (name_of job a)) header (get_or places a 0) [] (found_at a la)).1 in
+      let nb = (first_at (λ f. bytes_eq f (name_of job b)) header (get_or places b 0) [] (found_at b lb)).1 in
+      sym ((bytes_eq-Decides (get_or header (get_or places a 0) []) (name_of job a)).0 na)
+      ∙ ap (λ p. get_or header p []) at
+      ∙ (bytes_eq-Decides (get_or header (get_or places b 0) []) (name_of job b)).0 nb
+
+  pub kept_apart : (a b : ℕ) → a < count → b < count → a ≢ b → kept_place job header a ≢ kept_place job header b
+  kept_apart a b la lb ne e = elim (cases_Bool (nat_lt a b)) [
+    | inl before ↦ is.distinct a b [] (ltb-true a b before) lb (same-name a b la lb e)
+    | inr behind ↦
+        let le : b ≤ a = ltb-false a b behind in
+        is.distinct b a [] (omega arith) la (same-name b a lb la (sym e))
+  ]
+
+  index_is : (c : ℕ) → c < count → slice_index (map (place_in the-kept) places) c ≡ kept_place job header c
+  index_is c lt =
+      let inside : c < length places = omega (arith, long) in
+      get_or-map (place_in the-kept) places c 0 0 inside ∙ rw (found_at c lt) refl
+
+  abbrev indexes : List ℕ
+  indexes = map (place_in the-kept) places
+
+  -- the same, as it was told of lists that are these
+  pub told_of : (names : List (List ℕ)) (k k' ix ix' : List ℕ) (qs : List Query) (ps : List Planned) → names ≡ job.names → k ≡ the-kept → k' ≡ k
+      → ix ≡ map (place_in k') places → ix' ≡ ix → qs ≡ job.queries → ArePlannedOf names ix' qs ps → ArePlannedOf job.names indexes job.queries ps
+  told_of names k k' ix ix' qs ps n e e' i i' q h =
+      let at : ix' ≡ indexes = i' ∙ i ∙ ap (λ list. map (place_in list) places) (e' ∙ e) in
+      subst (λ (list : List (List ℕ)). ArePlannedOf list indexes job.queries ps) n
+      (subst (λ (list : List ℕ). ArePlannedOf names list job.queries ps) at
+      (subst (λ (list : List Query). ArePlannedOf names ix' list ps) q h))
+
+  pub over_is : (ps : List Planned) → ArePlannedOf job.names indexes job.queries ps → map (λ (p : Planned). p.kept) ps ≡ map (λ (q : Query). over_kept job header q.shape) job.queries
+  over_is ps h =
+      h.over ∙ map_same (λ (q : Query). moved (slice_index indexes) q.shape) (λ (q : Query). over_kept job header q.shape) job.queries
+      (λ i d lt. moved-same (slice_index indexes) (kept_place job header) count index_is (get_or job.queries i d).shape (is.queries i d lt).shape
+      ∙ sym (over-moved job header (get_or job.queries i d).shape))
+
+  pub planned_is : (ps : List Planned) → ArePlannedOf job.names indexes job.queries ps → All (IsPlanned (length the-kept)) ps
+  planned_is ps h i d lt =
+      let shapes : All (IsShape (length the-kept)) (map (λ (q : Query). over_kept job header q.shape) job.queries) =
+      All-map (IsShape (length the-kept)) (λ (q : Query). over_kept job header q.shape) job.queries
+      (λ j e in_queries. subst (λ (s : Shape). IsShape (length the-kept) s) (sym (over-moved job header (get_or job.queries j e).shape))
+      (shape-moved (kept_place job header) count (length the-kept) kept_within kept_apart (get_or job.queries j e).shape (is.queries j e in_queries).shape)) in
+      let all : All (IsShape (length the-kept)) (map (λ (p : Planned). p.kept) ps) = All-same (IsShape (length the-kept)) _ _ (over_is ps h) shapes in
+      let inside : i < length (map (λ (p : Planned). p.kept) ps) = omega (arith, length-map ps (λ (p : Planned). p.kept)) in
+      record {
+        shape = subst (λ (s : Shape). IsShape (length the-kept) s) (get_or-map (λ (p : Planned). p.kept) ps i d no_shape lt) (all i no_shape inside);
+        kind = h.kinds i d lt;
+      }
+
+  pub numbers_is : (ps : List Planned) → ArePlannedOf job.names indexes job.queries ps
+      → ascending (flat_map (λ (p : Planned). numbers_in p.kept) ps) (length the-kept) ≡ number_places job header
+  numbers_is ps h =
+      let all : flat_map (λ (p : Planned). numbers_in p.kept) ps ≡ map (kept_place job header) (number_columns job) =
+      sym (flat_map-map numbers_in (λ (p : Planned). p.kept) ps) ∙ ap (flat_map numbers_in) (over_is ps h)
+      ∙ ap (flat_map numbers_in) (map_same (λ (q : Query). over_kept job header q.shape) (λ (q : Query). moved (kept_place job header) q.shape) job.queries (λ i d lt. over-moved job header (get_or job.queries i d).shape))
+      ∙ flat_map-map numbers_in (λ (q : Query). moved (kept_place job header) q.shape) job.queries ∙ flat-moved (kept_place job header) job.queries in
+      ap (λ list. ascending list (length the-kept)) all
+      ∙ filter_same (λ k. list_any (λ q. q == k) (map (kept_place job header) (number_columns job))) (λ k. list_any (λ c. kept_place job header c == k) (number_columns job))
+      (range_with_len 0 (length the-kept)) (λ k. any_of_map (λ q. q == k) (kept_place job header) (number_columns job))
+
+  -- the chain has the kept columns and the numbers among them
+  pub are_planned : (chain : Chain) (n : ℕ) (numbers : List ℕ) (ps : List Planned) → form_of chain ≡ Landed n numbers → n ≡ length the-kept
+      → ArePlannedOf job.names indexes job.queries ps → ArePlanned chain ps
+  are_planned chain n numbers ps form wide h =
+      let several = is.several.few in
+      let columns : columns_of (form_of chain) ≡ length the-kept = ap columns_of form ∙ wide in
+      record {
+        few = omega (arith, several, ap length h.shapes, length-map ps (λ (p : Planned). p.shape), length-map job.queries (λ (q : Query). q.shape));
+        each = subst (λ (m : ℕ). All (IsPlanned m) ps) (sym columns) (planned_is ps h);
+      }
+
+  pub is_plan : (plan : Plan) (n : ℕ) (numbers : List ℕ) → missing job.names header ≡ None → plan.places.items ≡ the-kept
+      → form_of plan.chain ≡ Landed n numbers → n ≡ length the-kept → numbers ≡ ascending (flat_map (λ (p : Planned). numbers_in p.kept) plan.queries.items) n
+      → links_of plan.chain ≡ [] → ArePlannedOf job.names indexes job.queries plan.queries.items → IsPlanOf job header plan
+  is_plan plan n numbers there at form wide told alone h = record {
+    found = there;
+    places = at;
+    form = form ∙ rw (told, wide) (ap (λ (list : List ℕ). Landed (length the-kept) list) (numbers_is plan.queries.items h));
+    alone = alone;
+    shapes = h.shapes;
+    over = over_is plan.queries.items h;
+    headings = h.headings;
+  }

@@ -1,0 +1,9 @@
+pub mod Columns
+pub mod Entries
+pub mod Planning
+pub mod Plans
+pub mod Rows
+pub mod Telling
+pub mod Within
+pub mod Moved
+pub mod Making
