@@ -1,0 +1,9 @@
+pub mod Numerals
+pub mod PlaceFields
+pub mod Changing
+pub mod Keeping
+pub mod Following
+pub mod Shelves
+pub mod Filled
+pub mod Partitions
+pub mod Checking

@@ -1,0 +1,17 @@
+use Rattle.std.proofs.Common.{◌∙◌}
+use Rattle.landing.proofs.Changing.{made_other, same_but}
+use Rattle.landing.proofs.shelf_calls.start_on.Goals as goal
+
+pub returns-in-Ok-clause-same : goal.returns-in-Ok-clause-same
+returns-in-Ok-clause-same g c =
+    let shelf = c.args.shelf.now in
+    let i = c.args.to in
+    let old = c.disk-disk.result.now in
+    let new = c.start.new.disk in
+    same_but (g.H.Shelf.named shelf) (g.H.Shelf.disk_of shelf) (g.H.Shelf.disk_of (g.H.Shelf.with_disk shelf i new)) g.D.Disk.files i c.in-Ok.writer.file old new
+    (record {
+      was = λ j e. g.met.H.Shelf.one_disk shelf i j e ∙ c.disk-disk.ensures.value;
+      is = λ j e. g.met.H.Shelf.changed shelf i j new c.requires.to e;
+      others = λ j apart. g.met.H.Shelf.others shelf i j new apart;
+    })
+    (λ q apart. made_other (g.D.Disk.files old) (g.D.Disk.files new) c.in-Ok.writer.file q c.in-Ok.ensures.made c.start.ensures.tells apart)

@@ -1,0 +1,5 @@
+pub mod Checks
+pub mod Landed
+pub mod Ruling
+pub mod Explaining
+pub mod Filling

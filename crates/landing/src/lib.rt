@@ -1,0 +1,17 @@
+//! The input of a job, checked and written in partitions.
+#![tactic(auto)]
+
+mod desk;
+mod fault;
+mod landing;
+mod length;
+mod number;
+mod part;
+mod rules;
+mod shelf_calls;
+
+pub use fault::LandFault;
+pub use landing::{Landed, land};
+
+#[cfg(test)]
+mod tests;
