@@ -1,0 +1,4 @@
+mod Readers
+mod Answered
+mod Told
+mod OneTask

@@ -1,0 +1,40 @@
+-- What a merge of runs asks of the pool, and what a refusal then says.
+-- This project's own.
+use Rattle.std.specs.Prelude.{◌≡◌, ℕ, ◌+◌, ◌*◌, ◌<◌, min, List, Option, Result, Ok, Err, length, ⊤}
+use Rattle.pool_ledger.specs.Sizes.{Sizes, floor_of}
+use Rattle.run_file.specs.declared.run.Run.{Run}
+use Rattle.run_merge.specs.Runs.{greatest_of}
+use Rattle.spill_stack.specs.Accounts.{Held}
+use Rattle.task_runner.specs.declared.work_fault.WorkFault.{WorkFault}
+use Rattle.task_runner.specs.declared.work_fault.WorkFault.TheVariants.{NoRoom, DiskFault, Damaged, NoMemory}
+
+-- the bytes of one reader of these runs: the greatest cost of an entry, and 64
+abbrev pub reader_of : List Run → ℕ
+reader_of runs = greatest_of runs + 64
+
+-- the bytes that are wished for: a reader for each run, up to eight
+abbrev pub wish_of : List Run → ℕ
+wish_of runs = reader_of runs * min 8 (length runs)
+
+-- an attempt was granted less than it asked, and less than had to be got; what it got was given back
+pub record IsShort (sizes : Sizes) (old new : Held) (asked floor : ℕ) : Type 0 where
+  pub floor_is : floor ≡ floor_of sizes
+  pub gave_back : new.held ≡ old.held
+  pub short : new.got < new.asked
+  pub less : new.got < asked
+
+-- the same answer, but that a refusal for want of room tells that the task held so much
+abbrev pub told_with : Result (Option Run) WorkFault → ℕ → Result (Option Run) WorkFault
+told_with (Ok answer) held = Ok answer
+told_with (Err (NoRoom asked was floor)) held = Err (NoRoom asked held floor)
+told_with (Err (DiskFault post)) held = Err (DiskFault post)
+told_with (Err (Damaged post file kept found)) held = Err (Damaged post file kept found)
+told_with (Err NoMemory) held = Err NoMemory
+
+-- no fault of a disk is told
+abbrev pub AsksNoDisk : {T : Type 0} → Result T WorkFault → Type 0
+AsksNoDisk (Ok x) = ⊤
+AsksNoDisk (Err (NoRoom asked held floor)) = ⊤
+AsksNoDisk (Err (DiskFault post)) = ⊥
+AsksNoDisk (Err (Damaged post file kept found)) = ⊥
+AsksNoDisk (Err NoMemory) = ⊤

@@ -1,0 +1,65 @@
+-- What a task adds to its worker's own entries, and what a refusal for want of room shows there.
+-- This project's own.
+use Rattle.std.specs.Prelude.{◌≡◌, ℕ, ◌==◌, ◌<◌, ◌⊎◌, List, [], ◌∷◌, ◌++◌, Option, Some, None, Result, Ok, Err, ⊤, if◌then◌else◌}
+use Rattle.std.specs.List.{AllByRecursion}
+use Rattle.pool_ledger.specs.History.{History}
+use Rattle.pool_ledger.specs.Sizes.{Sizes, floor_of}
+use Rattle.pool_ledger.specs.declared.entry.Entry.{Entry}
+use Rattle.pool_ledger.specs.declared.entry.Event.{Event}
+use Rattle.pool_ledger.specs.declared.entry.Event.TheVariants.{Begin, End}
+use Rattle.pool_laws.specs.Growing.{entry_by}
+use Rattle.turn_lock.specs.Passes.{PassState}
+use Rattle.memory_lock.specs.Workers.{own_entries}
+use Rattle.spill_stack.specs.Accounts.{Held}
+use Rattle.spill_stack.specs.Attempts.{last_attempt}
+use Rattle.spill_stack.specs.Going.{IsOfTask}
+use Rattle.task_runner.specs.declared.work_fault.WorkFault.{WorkFault}
+use Rattle.task_runner.specs.declared.work_fault.WorkFault.TheVariants.{NoRoom, DiskFault, Damaged, NoMemory}
+
+-- the entries of a task from its begin to its end: between them its attempts, evictions for them, and releases
+pub record IsTaskOf (worker task : ℕ) (entries : List Entry) : Type 0 where
+  pub amid : List Entry
+  pub freed : ℕ
+  pub asks : AllByRecursion (IsOfTask worker task) amid
+  pub are : entries ≡ entry_by worker (Begin task) ∷ (amid ++ entry_by worker (End task freed) ∷ [])
+
+-- the worker began the task and ended it
+abbrev pub Works : ℕ → PassState → PassState → Type 0
+Works task before after =
+    (added : List Entry) × IsTaskOf before.number task added × (own_entries after ≡ own_entries before ++ added)
+
+-- the same, or the task never began
+abbrev pub MayWork : ℕ → PassState → PassState → Type 0
+MayWork task before after = (own_entries after ≡ own_entries before) ⊎ Works task before after
+
+-- what the newest end of a task freed
+abbrev pub end_after : ℕ → Event → Option ℕ → Option ℕ
+end_after task (End t freed) was = if t == task then Some freed else was
+end_after task _ was = was
+
+abbrev pub last_end : History → ℕ → Option ℕ
+last_end [] task = None
+last_end (entry ∷ before) task = end_after task entry.event (last_end before task)
+
+-- a refusal for want of room: the task's last attempt was granted less than it asked, and less than was asked for here; its
+-- end freed what it held
+pub record ShowsNoRoom (sizes : Sizes) (history : History) (task asked held floor : ℕ) : Type 0 where
+  pub floor_is : floor ≡ floor_of sizes
+  pub short : (last_attempt history task).got < (last_attempt history task).asked
+  pub less : (last_attempt history task).got < asked
+  pub freed : last_end history task ≡ Some held
+
+-- the same before the task's end: it holds so much
+pub record FallsShort (sizes : Sizes) (account : Held) (asked held floor : ℕ) : Type 0 where
+  pub holds : held ≡ account.held
+  pub floor_is : floor ≡ floor_of sizes
+  pub short : account.got < account.asked
+  pub less : account.got < asked
+
+-- what such a refusal says
+abbrev pub IfNoRoom : {T : Type 0} → Result T WorkFault → (ℕ → ℕ → ℕ → Type 0) → Type 0
+IfNoRoom (Ok x) says = ⊤
+IfNoRoom (Err (NoRoom asked held floor)) says = says asked held floor
+IfNoRoom (Err (DiskFault post)) says = ⊤
+IfNoRoom (Err (Damaged post file kept found)) says = ⊤
+IfNoRoom (Err NoMemory) says = ⊤
