@@ -1,0 +1,209 @@
+-- What the totals of a query of groups tell.
+use Rattle.std.proofs.Common.{◌≡◌, ◌+◌, ◌≤◌, ◌<◌, ◌^◌, ◌∙◌, ℕ, List, [], ◌∷◌, Option, Some, None, map, length, refl, sym, ap, arith, subst, IfSome, unwrap_or, ℤ, pos}
+use Rattle.std.specs.Prelude.{option_map}
+use Rattle.std.specs.Int.{w64, w128}
+use Rattle.std.specs.Int.RustNames.{FitsSigned}
+use Rattle.std.specs.List.{AllByRecursion, filter, flat_map}
+use Rattle.std.specs.Ordering.{is_eq}
+use Rattle.std.proofs.lemmas.Int.{ints}
+use Rattle.std.proofs.lemmas.List.{length-map}
+use Rattle.std.proofs.lemmas.List.Elements.{recursion_from_All}
+use Rattle.std.proofs.lemmas.List.Sums.{count_by-le-length, length-filter}
+use Rattle.aggregate.specs.declared.agg_list.Agg.{Agg}
+use Rattle.aggregate.specs.declared.kind.Kind.TheVariants as kinds
+use Rattle.aggregate.specs.Partial.{partial_of}
+use Rattle.aggregate.specs.PartialLaws.{NumbersComeBack, PartialsAreSixteenBytes}
+use Rattle.aggregate.specs.Spelling.{KeysInOrder, SpellingsAreReadBack, spelled}
+use Rattle.aggregate.specs.Totals.{Entry, total}
+use Rattle.run_file.specs.Numbers.{number}
+use Rattle.job_text.specs.Jobs.{IsPart, IsShape}
+use Rattle.job_text.specs.declared.job.Job.{Job}
+use Rattle.job_text.specs.declared.job.Part.{Part}
+use Rattle.job_text.specs.declared.job.Shape.TheVariants.{Group}
+use Rattle.job_plan.specs.Columns.{Fields, kept, kept_place, missing, over_kept, part_over}
+use Rattle.job_plan.specs.Entries.{entry_of, field, key_of, told_by, value_of}
+use Rattle.job_plan.specs.Rows.{landed_row, landed_rows}
+use Rattle.job_answer.specs.Answer.{field_of, fields_cmp, group_of, groups, members, number_of, told_of}
+use Rattle.job_answer.specs.OneShape.{GroupsTell, totals_over}
+use Rattle.job_answer.proofs.Aggregates.{fits-wider, joint-aggregated, number-small, told_of_column}
+use Rattle.job_answer.proofs.Classes.{Class, IsWhole, all-groups, all-whole, all-weaker, classes, entries-classes, rows_in}
+use Rattle.job_answer.proofs.Decoding.{IsGroup, all-told, first-wide, group_entry, rows-told}
+use Rattle.job_answer.proofs.GroupEntries.{class_entry, row_entry, total-classes}
+use Rattle.job_answer.proofs.KeptFields.{IsKept, column-kept, field-landed}
+use Rattle.job_answer.proofs.Values.{bytes_of, joint-bytes, joint-fits, joint_number}
+
+module _ (job : Job) (header : Fields) where
+  -- the number that a row adds to a part
+  abbrev part_number : Part → Fields → ℤ
+  part_number part row = told_of_column (number_of job header) part.column row
+
+  -- the value of a row
+  abbrev row_value : List Part → Fields → List ℕ
+  row_value parts row = bytes_of (map (λ part. part_number part row) parts)
+
+  numbers-fit : (row : Fields) (column : ℕ) → FitsSigned w64 (number_of job header row column)
+  numbers-fit row column = number-small (field_of job header row column)
+
+  column-fits : (column : Option ℕ) (row : Fields) → FitsSigned w128 (told_of_column (number_of job header) column row)
+  column-fits None row = omega (arith, ints)
+  column-fits (Some column) row = fits-wider (number_of job header row column) (numbers-fit row column)
+
+  parts-fit : (part : Part) (row : Fields) → FitsSigned w128 (part_number part row)
+  parts-fit part row = column-fits part.column row
+
+  -- ---- the entry of a landed row
+
+  abbrev IsKeptPart : Part → Type 0
+  IsKeptPart part = IfSome part.column (IsKept job header)
+
+  keys-same : (n : ℕ) (row : Fields) (columns : List ℕ) → AllByRecursion (IsKept job header) columns
+      → flat_map (λ k. spelled (field (landed_row (kept job.names header) n row) k)) (map (kept_place job header) columns)
+      ≡ flat_map spelled (group_of job header columns row)
+  keys-same n row [] all = refl
+  keys-same n row (column ∷ columns) all =
+      let here = field-landed job header column n row all.0 in
+      rw (here, keys-same n row columns all.1) refl
+
+  told-same : (n : ℕ) (row : Fields) (column : Option ℕ) → IfSome column (IsKept job header)
+      → told_by (landed_row (kept job.names header) n row) (option_map (kept_place job header) column) ≡ told_of_column (number_of job header) column row
+  told-same n row None is = refl
+  told-same n row (Some column) is =
+      ap (λ (bytes : List ℕ). unwrap_or (number bytes) (pos 0)) (field-landed job header column n row is)
+
+  values-same : (n : ℕ) (row : Fields) (parts : List Part) → AllByRecursion IsKeptPart parts
+      → flat_map (λ part. partial_of (told_by (landed_row (kept job.names header) n row) part.column)) (map (part_over job header) parts) ≡ row_value parts row
+  values-same n row [] all = refl
+  values-same n row (part ∷ parts) all =
+      let here = told-same n row part.column all.0 in
+      rw (here, values-same n row parts all.1) refl
+
+  -- the aggregates of parts
+  abbrev aggs_of : List Part → List Agg
+  aggs_of parts = map (λ part. part.agg) parts
+
+  entry-same : (n : ℕ) (row : Fields) (columns : List ℕ) (parts : List Part) → AllByRecursion (IsKept job header) columns → AllByRecursion IsKeptPart parts
+      → entry_of (over_kept job header (Group columns parts)) (landed_row (kept job.names header) n row)
+      ≡ row_entry (group_of job header columns) (row_value parts) (aggs_of parts) row
+  unfolding key_of value_of
+  entry-same n row columns parts in-columns in-parts = rw (keys-same n row columns in-columns, values-same n row parts in-parts) refl
+
+  entries-same : (n : ℕ) (rows : List Fields) (columns : List ℕ) (parts : List Part) → AllByRecursion (IsKept job header) columns → AllByRecursion IsKeptPart parts
+      → map (entry_of (over_kept job header (Group columns parts))) (landed_rows (kept job.names header) n rows)
+      ≡ map (row_entry (group_of job header columns) (row_value parts) (aggs_of parts)) rows
+  entries-same n [] columns parts in-columns in-parts = refl
+  entries-same n (row ∷ rows) columns parts in-columns in-parts =
+      let first = entry-same n row columns parts in-columns in-parts in
+      let later = entries-same (n + 1) rows columns parts in-columns in-parts in
+      ap (λ (e : Entry). e ∷ map (entry_of (over_kept job header (Group columns parts))) (landed_rows (kept job.names header) (n + 1) rows)) first
+      ∙ ap (λ (es : List Entry). row_entry (group_of job header columns) (row_value parts) (aggs_of parts) row ∷ es) later
+
+  aggs-same : (parts : List Part) → map (λ part. part.agg) (map (part_over job header) parts) ≡ aggs_of parts
+  aggs-same [] = refl
+  aggs-same (part ∷ parts) = ap (λ (aggs : List Agg). part.agg ∷ aggs) (aggs-same parts)
+
+  -- ---- what is told of a class
+
+  module _ (columns : List ℕ) (parts : List Part) (rows : List Fields) where
+    -- what is told of a group, and the group with it
+    abbrev pub tell : Fields → List ℤ
+    tell group = map (told_of job header (members job header columns rows group)) parts
+
+    abbrev told_group : Class → Fields × List ℤ
+    told_group c = (c.group, tell c.group)
+
+  module _ (columns : List ℕ) (parts : List Part) (rows : List Fields) (few : length rows ≤ 2 ^ 32) where
+    class-few : (c : Class) → IsWhole (group_of job header columns) rows c → length c.rest + 1 ≤ 2 ^ 32
+    class-few c whole =
+        let test = λ (row : Fields). is_eq (fields_cmp (group_of job header columns row) c.group) in
+        let size : length (rows_in c) ≡ length (filter test rows) = ap length whole in
+        omega (arith, length-filter test rows, count_by-le-length test rows)
+
+    told-part : (part : Part) (c : Class) → IsPart (length job.names) part → IsWhole (group_of job header columns) rows c
+        → joint_number part.agg (part_number part c.first) (map (part_number part) c.rest) ≡ told_of job header (members job header columns rows c.group) part
+    told-part part c is whole =
+        joint-aggregated (number_of job header) numbers-fit part.agg part.column c.first c.rest is.column (class-few c whole)
+        ∙ ap (λ (rs : List Fields). told_of job header rs part) whole
+
+    told-parts : (ps : List Part) (c : Class) → AllByRecursion (IsPart (length job.names)) ps → IsWhole (group_of job header columns) rows c
+        → map (λ part. joint_number part.agg (part_number part c.first) (map (part_number part) c.rest)) ps ≡ map (told_of job header (members job header columns rows c.group)) ps
+    told-parts [] c all whole = refl
+    told-parts (part ∷ ps) c all whole = rw (told-part part c all.0 whole, told-parts ps c all.1 whole) refl
+
+    fit-parts : (ps : List Part) (c : Class) → AllByRecursion (IsPart (length job.names)) ps → IsWhole (group_of job header columns) rows c
+        → AllByRecursion (FitsSigned w128) (map (told_of job header (members job header columns rows c.group)) ps)
+    fit-parts [] c all whole = tt
+    fit-parts (part ∷ ps) c all whole =
+        (subst (FitsSigned w128) (told-part part c all.0 whole) (joint-fits part_number parts-fit part.agg part c.first c.rest), fit-parts ps c all.1 whole)
+
+    class-told : (long : PartialsAreSixteenBytes) (back : NumbersComeBack) (c : Class) → AllByRecursion (IsPart (length job.names)) parts → IsWhole (group_of job header columns) rows c
+        → class_entry (group_of job header columns) (row_value parts) (aggs_of parts) c ≡ group_entry (told_group columns parts rows c)
+    class-told long back c all whole =
+        ap (λ (v : List ℕ). let e : Entry = record { key = flat_map spelled c.group; value = v } in e)
+        (joint-bytes long back part_number parts-fit parts c.first c.rest ∙ ap bytes_of (told-parts parts c all whole))
+
+    classes-told : (long : PartialsAreSixteenBytes) (back : NumbersComeBack) (cs : List Class) → AllByRecursion (IsPart (length job.names)) parts
+        → AllByRecursion (IsWhole (group_of job header columns) rows) cs
+        → map (class_entry (group_of job header columns) (row_value parts) (aggs_of parts)) cs ≡ map group_entry (map (told_group columns parts rows) cs)
+    classes-told long back [] all whole = refl
+    classes-told long back (c ∷ cs) all whole = rw (class-told long back c all whole.0, classes-told long back cs all whole.1) refl
+
+    are-groups : (cs : List Class) → AllByRecursion (IsPart (length job.names)) parts → AllByRecursion (IsWhole (group_of job header columns) rows) cs
+        → AllByRecursion (λ c. length c.group ≡ length columns) cs → AllByRecursion (IsGroup (length columns) (length parts)) (map (told_group columns parts rows) cs)
+    are-groups [] all whole several = tt
+    are-groups (c ∷ cs) all whole several =
+        let first : IsGroup (length columns) (length parts) (told_group columns parts rows c) = record {
+          several = several.0;
+          counted = length-map parts (told_of job header (members job header columns rows c.group));
+          fits = fit-parts parts c all whole.0;
+        } in
+        (first, are-groups cs all whole.1 several.1)
+
+  -- ---- the query
+
+  kept-columns : (columns : List ℕ) → missing job.names header ≡ None → AllByRecursion (λ column. column < length job.names) columns → AllByRecursion (IsKept job header) columns
+  kept-columns columns found named = all-weaker (λ column. column < length job.names) (IsKept job header) (λ column within. column-kept job header column found within) columns named
+
+  kept-part : (column : Option ℕ) → missing job.names header ≡ None → IfSome column (λ k. k < length job.names) → IfSome column (IsKept job header)
+  kept-part None found named = tt
+  kept-part (Some column) found named = column-kept job header column found named
+
+  kept-parts : (parts : List Part) → missing job.names header ≡ None → AllByRecursion (IsPart (length job.names)) parts → AllByRecursion IsKeptPart parts
+  kept-parts parts found all = all-weaker (IsPart (length job.names)) IsKeptPart (λ part is. kept-part part.column found is.named) parts all
+
+  module _ (order : KeysInOrder) (long : PartialsAreSixteenBytes) (back : NumbersComeBack) where
+    -- the totals are the entries of the groups
+    pub totals-are : (rows : List Fields) (columns : List ℕ) (parts : List Part) → missing job.names header ≡ None → IsShape (length job.names) (Group columns parts) → length rows ≤ 2 ^ 32
+        → totals_over job header rows (Group columns parts) ≡ map group_entry (groups job header columns parts rows)
+    totals-are rows columns parts found shape few =
+        let in-columns = kept-columns columns found (recursion_from_All (λ column. column < length job.names) columns shape.0.named) in
+        let are-parts = recursion_from_All (IsPart (length job.names)) parts shape.2 in
+        let g = group_of job header columns in
+        ap (λ (aggs : List Agg). total (kinds.Group aggs) (map (entry_of (over_kept job header (Group columns parts))) (landed_rows (kept job.names header) 1 rows))) (aggs-same parts)
+        ∙ ap (total (kinds.Group (aggs_of parts))) (entries-same 1 rows columns parts in-columns (kept-parts parts found are-parts))
+        ∙ total-classes g (row_value parts) (aggs_of parts) order (length columns) (λ row. length-map columns (field_of job header row)) rows
+        ∙ classes-told columns parts rows few long back (classes g rows) are-parts (all-whole g rows)
+        ∙ ap (map group_entry) (sym (entries-classes g (tell columns parts rows) rows))
+
+    pub groups-are : (rows : List Fields) (columns : List ℕ) (parts : List Part) → IsShape (length job.names) (Group columns parts) → length rows ≤ 2 ^ 32
+        → AllByRecursion (IsGroup (length columns) (length parts)) (groups job header columns parts rows)
+    groups-are rows columns parts shape few =
+        let g = group_of job header columns in
+        let are-parts = recursion_from_All (IsPart (length job.names)) parts shape.2 in
+        let several = all-groups g (λ fields. length fields ≡ length columns) (λ row. length-map columns (field_of job header row)) rows in
+        subst (AllByRecursion (IsGroup (length columns) (length parts))) (sym (entries-classes g (tell columns parts rows) rows))
+        (are-groups columns parts rows few (classes g rows) are-parts (all-whole g rows) several)
+
+pub groups-tell : KeysInOrder → SpellingsAreReadBack → PartialsAreSixteenBytes → NumbersComeBack → GroupsTell
+groups-tell order read long back job header rows columns parts found shape few =
+    let totals = totals-are job header order long back rows columns parts found shape few in
+    let all = groups-are job header order long back rows columns parts shape few in
+    let over-columns = map (kept_place job header) columns in
+    let over-parts = map (part_over job header) parts in
+    let size-columns : length over-columns ≡ length columns = length-map columns (kept_place job header) in
+    let size-parts : length over-parts ≡ length parts = length-map parts (part_over job header) in
+    let whole : AllByRecursion (IsGroup (length over-columns) (length over-parts)) (groups job header columns parts rows) = rw (size-columns, size-parts) all in
+    record {
+      table = rw totals (rows-told read long back over-columns over-parts (groups job header columns parts rows) whole);
+      wide = rw totals (first-wide read long back (length over-columns) (length over-parts) (groups job header columns parts rows) whole);
+      told = λ none. rw totals (all-told read long back over-columns over-parts (groups job header columns parts rows) whole none);
+    }

@@ -1,0 +1,13 @@
+pub mod KeptFields
+pub mod Classes
+pub mod Values
+pub mod Aggregates
+pub mod Decoding
+pub mod GroupEntries
+pub mod Groups
+pub mod KeyItems
+pub mod RowOrder
+pub mod Orders
+pub mod Queries
+pub mod Examples
+pub mod WholeTotals

@@ -1,0 +1,5 @@
+pub mod Answer
+pub mod Output
+pub mod Laws
+pub mod OneShape
+pub mod Parts

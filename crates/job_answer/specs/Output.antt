@@ -1,0 +1,58 @@
+-- What is printed for a job: the tables of its queries, one behind the other.
+-- This project's own.
+use Rattle.std.specs.Prelude.{ℕ, ◌+◌, not, List, [], ◌∷◌, ◌++◌, Option, None, map, option_map}
+use Rattle.std.specs.Fmt.{signed_decimal}
+use Rattle.std.specs.List.{find, flat_map, list_any}
+use Rattle.std.specs.Option.{option_or}
+use Rattle.csv.specs.Writing.{default_writer, row_text}
+use Rattle.aggregate.specs.Partial.{fits_i64}
+use Rattle.aggregate.specs.Spelling.{spelled}
+use Rattle.job_text.specs.declared.job.Job.{Job}
+use Rattle.job_text.specs.declared.job.Shape.{Shape}
+use Rattle.job_text.specs.declared.job.Shape.TheVariants.{Group, Order}
+use Rattle.job_plan.specs.Columns.{Fields}
+use Rattle.job_plan.specs.Plans.{heading_of}
+use Rattle.job_answer.specs.Answer.{arranged, field_of, groups}
+
+-- the rows of a query's table, below its heading
+abbrev pub answer_rows : Job → Fields → List Fields → Shape → List Fields
+answer_rows job header rows (Group columns parts) =
+    map (λ group. group.0 ++ map signed_decimal group.1) (groups job header columns parts rows)
+answer_rows job header rows (Order keys columns) =
+    map (λ row. map (field_of job header row) columns) (arranged job header keys rows)
+
+-- the table: its heading, and the rows
+abbrev pub table_rows : Job → Fields → List Fields → Shape → List Fields
+table_rows job header rows shape = heading_of job.names shape ∷ answer_rows job header rows shape
+
+-- rows as csv writes them
+abbrev pub text_of : List Fields → List ℕ
+text_of rows = flat_map (row_text default_writer) rows
+
+-- tables one behind the other, with one line feed between two
+abbrev pub joined : List (List ℕ) → List ℕ
+joined [] = []
+joined (table ∷ []) = table
+joined (table ∷ next ∷ tables) = table ++ 10 ∷ joined (next ∷ tables)
+
+-- the bytes that are printed
+unfoldable pub output : Job → Fields → List Fields → List ℕ
+output job header rows = joined (map (λ query. text_of (table_rows job header rows query.shape)) job.queries)
+
+-- ---- sums that are too wide to be told
+
+-- the key, as it is spelled, of the first group with a number outside `i64`
+abbrev pub wide_key : Job → Fields → List Fields → Shape → Option (List ℕ)
+wide_key job header rows (Group columns parts) =
+    option_map (λ group. flat_map spelled group.0)
+    (find (λ group. list_any (λ number. not (fits_i64 number)) group.1) (groups job header columns parts rows))
+wide_key job header rows (Order keys columns) = None
+
+-- the first query, from 0, with such a group, and its key
+abbrev pub wide_from : Job → Fields → List Fields → ℕ → List Shape → Option (ℕ × List ℕ)
+wide_from job header rows query [] = None
+wide_from job header rows query (shape ∷ shapes) =
+    option_or (option_map (λ key. (query, key)) (wide_key job header rows shape)) (wide_from job header rows (query + 1) shapes)
+
+abbrev pub too_wide : Job → Fields → List Fields → Option (ℕ × List ℕ)
+too_wide job header rows = wide_from job header rows 0 (map (λ query. query.shape) job.queries)

@@ -1,0 +1,38 @@
+//! What the totals of a query's entries tell.
+
+ghost use Rattle.job_answer.specs.Laws.{TotalsTellAnswers};
+ghost use Rattle.job_answer.specs.OneShape.{GroupsTell, OrdersTell};
+
+use aggregate::{
+    keys_in_order, numbers_come_back, numbers_in_order, partials_are_sixteen_bytes,
+    spellings_are_read_back,
+};
+use row_page::fields_have_one_encoding;
+
+/// What the entries of a query come to tells the rows of its plain answer, and the first total that is
+/// too wide is that of the first such group. It does nothing when run.
+pub fn totals_tell_answers()
+    ensures { TotalsTellAnswers }
+{
+    groups_are_told();
+    orders_are_told();
+}
+
+// So it is where rows are grouped.
+fn groups_are_told()
+    ensures { GroupsTell }
+{
+    keys_in_order();
+    spellings_are_read_back();
+    partials_are_sixteen_bytes();
+    numbers_come_back();
+}
+
+// So it is where rows are ordered.
+fn orders_are_told()
+    ensures { OrdersTell }
+{
+    keys_in_order();
+    numbers_in_order();
+    fields_have_one_encoding();
+}
