@@ -1,6 +1,6 @@
 -- A table is written block by block, and what was written is always a front of it.
-use Rattle.std.proofs.Common.{◌≡◌, ◌+◌, ◌++◌, ◌∷◌, ◌∙◌, ℕ, List, Option, length, take, drop, map, sym, ap, subst, append_assoc, take-append-drop}
-use Rattle.std.proofs.lemmas.List.{map-append}
+use Rattle.std.proofs.Common.{◌≡◌, ◌+◌, ◌++◌, ◌∷◌, ◌∙◌, [], refl, ℕ, List, None, Option, Some, length, take, drop, map, sym, ap, subst, append_assoc, take-append-drop}
+use Rattle.std.proofs.lemmas.List.{append-nil, map-append}
 use Rattle.std.proofs.lemmas.Grind.{flat_map-append}
 use Rattle.std.proofs.KnownBytes.{Appends-trans}
 use Rattle.std.proofs.Math.Seq.{take-add, take-append_seam}
@@ -10,7 +10,7 @@ use Rattle.csv.specs.Writing.{default_writer, row_text}
 use Rattle.aggregate.specs.declared.agg_list.Agg.{Agg}
 use Rattle.result_table.specs.Table.{group_table, row_fields, table}
 
-table-append : (xs ys : List (List (List ℕ))) → table (xs ++ ys) ≡ table xs ++ table ys
+pub table-append : (xs ys : List (List (List ℕ))) → table (xs ++ ys) ≡ table xs ++ table ys
 table-append xs ys = flat_map-append (row_text default_writer) xs ys
 
 group_table-append : (aggs : List Agg) (head : List (List ℕ)) (xs ys : List (List ℕ × List ℕ))
@@ -61,3 +61,17 @@ front-more a b c done piece rest whole first second e =
     ∙ ap (λ (p : List ℕ). p ++ rest) (sym (append_assoc done (take second.0 piece) (drop second.0 piece)))
     ∙ append_assoc (done ++ take second.0 piece) (drop second.0 piece) rest in
     front-done a c (done ++ take second.0 piece) (drop second.0 piece ++ rest) whole (Appends-trans a b c done (take second.0 piece) first second.1) cut
+
+-- a front of a piece is a front of what begins with it
+pub front-within : (a b : Option (List ℕ)) (piece rest : List ℕ) → AppendsPrefix a b piece → AppendsPrefix a b (piece ++ rest)
+front-within a b piece rest first =
+    front-done a b (take first.0 piece) (drop first.0 piece ++ rest) (piece ++ rest) first.1
+    (ap (λ (p : List ℕ). p ++ rest) (sym (take-append-drop first.0 piece)) ∙ append_assoc (take first.0 piece) (drop first.0 piece) rest)
+
+-- where nothing was written, that is a front of all
+appends_none : (a : Option (List ℕ)) → Appends a a []
+appends_none None = tt
+appends_none (Some bytes) = sym (append-nil bytes)
+
+pub front-none : (a : Option (List ℕ)) (whole : List ℕ) → AppendsPrefix a a whole
+front-none a whole = front-done a a [] whole whole (appends_none a) refl

@@ -1,7 +1,8 @@
 -- The field of a key and the numbers of a value, as a row has them.
 use Rattle.std.proofs.Common.{◌≡◌, ◌<◌, ◌+◌, ◌*◌, ◌++◌, ◌∷◌, ◌∙◌, [], ℕ, zero, suc, List, Option, Some, None, IfSome, IfNone, length, map, refl, sym, ap, subst, arith, append_assoc, ℤ, pos, negsuc, true, get_or}
 use Rattle.std.proofs.lemmas.Int.{ints}
-use Rattle.std.proofs.lemmas.List.{append-nil}
+use Rattle.std.proofs.lemmas.List.{append-nil, map-append}
+use Rattle.std.proofs.lemmas.List.FromFn.{map-range_with_len_more}
 use Rattle.std.proofs.lemmas.List.{length-append}
 use Rattle.std.proofs.lemmas.List.Elements.{All-cons, All-get_or, All-head, All-nil, All-tail, All-weaker}
 use Rattle.std.specs.Fmt.{signed_decimal}
@@ -13,6 +14,7 @@ use Rattle.aggregate.specs.declared.agg_list.Agg.TheVariants.{Count, Sum}
 use Rattle.aggregate.specs.Partial.{fits_i64, number_at, partial_of}
 use Rattle.aggregate.specs.PartialLaws.{NumbersComeBack, PartialsAreSixteenBytes}
 use Rattle.aggregate.specs.Spelling.{BeginsWithNone, SpellingsAreReadBack, TakesField, spelled, unspelled}
+use Rattle.job_plan.specs.Telling.{value_numbers}
 use Rattle.result_table.specs.Table.{IsTableRow, PutRowsArePrintable, RowsSayWhatWasPut, decimals_of, field_read}
 
 cons-both : {a b : List ℕ} {as_ bs : List (List ℕ)} → a ≡ b → as_ ≡ bs → a ∷ as_ ≡ b ∷ bs
@@ -42,6 +44,13 @@ decimals-behind wide back (n ∷ ns) before at long fit =
 decimals-put : PartialsAreSixteenBytes → NumbersComeBack → (aggs : List Agg) (numbers : List ℤ) → length numbers ≡ length aggs
     → All (FitsSigned w128) numbers → decimals_of aggs (flat_map partial_of numbers) ≡ map signed_decimal numbers
 decimals-put wide back aggs numbers long fit = rw (← long) (decimals-behind wide back numbers [] 0 refl fit)
+
+-- the decimals of one number more
+pub decimals_more : (value : List ℕ) (place : ℕ)
+    → map signed_decimal (value_numbers (place + 1) value) ≡ map signed_decimal (value_numbers place value) ++ signed_decimal (number_at place value) ∷ []
+decimals_more value place =
+    ap (map signed_decimal) (map-range_with_len_more (λ k. number_at k value) 0 place place (omega arith))
+    ∙ map-append signed_decimal (value_numbers place value) (number_at place value ∷ [])
 
 -- a row says what was put
 pub says-what-was-put : SpellingsAreReadBack → PartialsAreSixteenBytes → NumbersComeBack → RowsSayWhatWasPut

@@ -15,7 +15,7 @@ use csv::Writer;
 use std::alloc::{AllocError, Global};
 
 // How many bytes a block has at least, before it is written out.
-const BLOCK: usize = 65536;
+pub(crate) const BLOCK: usize = 65536;
 
 /// Prints the table of a group query: the row of names, then for each key and value the row of the
 /// key's field and the value's numbers. A key is the spelling of one field, a value has 16 bytes for

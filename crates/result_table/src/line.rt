@@ -15,8 +15,8 @@ use std::alloc::{AllocError, Global};
 // A row's fields, and the bytes of its key's field.
 #[derive(Drop)]
 pub(crate) struct Line {
-    row: ByteRecord,
-    field: Vec<u8>,
+    pub(crate) row: ByteRecord,
+    pub(crate) field: Vec<u8>,
 }
 
 impl Line {

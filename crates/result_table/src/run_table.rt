@@ -1,0 +1,226 @@
+// The table of a query's result, written in blocks.
+ghost use Rattle.std.specs.Prelude.{◌≡◌, ◌<◌, ◌≤◌, ◌++◌, ℕ, All, List, OnErr, OnOk, IfOk, IfSome, Some, is_some, length, map, option_map, true};
+ghost use Rattle.std.specs.Io.KnownBytes.{Appends};
+ghost use Rattle.aggregate.specs.Totals.{Entry};
+ghost use Rattle.byte_io.specs.Sinks.{AppendsPrefix};
+ghost use Rattle.csv.specs.Writing.{default_writer, row_text, text_written};
+ghost use Rattle.row_page.specs.Views.{fields_in};
+ghost use Rattle.run_file.specs.Shelved.{LeavesFiles, faults_on, files_on};
+ghost use Rattle.job_plan.specs.Entries.{kind_of};
+ghost use Rattle.job_plan.specs.Plans.{kept_at, kept_in, kind_at};
+ghost use Rattle.job_plan.specs.Telling.{IsTold, row_of};
+ghost use Rattle.result_table.specs.Ahead.{AreAhead, GoesOn, IsOfKind, run_in};
+ghost use Rattle.result_table.specs.Faults.{HasCauseRead, HasCauseWritten, NoDamage};
+ghost use Rattle.result_table.specs.Results.{FindsNoDamage, HasCauseIn, HasResult, table_of};
+ghost use Rattle.result_table.specs.Table.{IsBetweenRows, table};
+ghost use Rattle.result_table.specs.Told.{TellsFirst};
+
+use crate::entry_reader::EntryReader;
+use crate::group_table::BLOCK;
+use crate::line::Line;
+use crate::print_fault::PrintFault;
+use aggregate::Kind;
+use byte_io::{Sink, SinkError, write_all_counted};
+use csv::Writer;
+use job_plan::Plan;
+use job_text::Shape;
+use row_page::RowView;
+use run_file::Run;
+use spill_disk::{Disk, Shelf};
+use std::alloc::{AllocError, Global};
+
+/// Prints the table of a query: its heading, then a row for each entry of its result, which is a run of the query's
+/// entries, or none.
+///
+/// The bytes go out in blocks of about 64 KiB. After an `Err` a part of the table, from the front, was written.
+pub fn print_table<D: Disk, H: Shelf<D>, W: Sink>(
+    alloc: Global,
+    shelf: &mut H,
+    answer: Option<&Run>,
+    plan: &Plan,
+    query: u32,
+    output: &mut W,
+) -> Result<(), PrintFault>
+    requires query { query < length (kept_in plan.now) }
+    requires there { IfSome (option_map (λ run. run.now) answer) (λ run. run.disk < H.count_of shelf.old) }
+    ensures ok { OnOk result ((entries : List Entry) →
+        HasResult (files_on H.disk_of D.files shelf.old) (kind_at plan.now query) (option_map (λ run. run.now) answer.entry) entries →
+        Appends (W.written output.old) (W.written output.new) (table_of plan.now query entries)) }
+    ensures told { OnOk result ((entries : List Entry) →
+        HasResult (files_on H.disk_of D.files shelf.old) (kind_at plan.now query) (option_map (λ run. run.now) answer.entry) entries →
+        All (IsTold (kept_at plan.now query)) entries) }
+    ensures err { OnErr result ((entries : List Entry) →
+        HasResult (files_on H.disk_of D.files shelf.old) (kind_at plan.now query) (option_map (λ run. run.now) answer.entry) entries →
+        AppendsPrefix (W.written output.old) (W.written output.new) (table_of plan.now query entries)) }
+    ensures undamaged { (entries : List Entry) →
+        HasResult (files_on H.disk_of D.files shelf.old) (kind_at plan.now query) (option_map (λ run. run.now) answer.entry) entries →
+        All (IsTold (kept_at plan.now query)) entries → FindsNoDamage result }
+    ensures cause { HasCauseIn (faults_on H.disk_of D.faults shelf.old) (faults_on H.disk_of D.faults shelf.new)
+        (W.faults output.old) (W.faults output.new) result }
+    ensures tells { is_some (W.written output.new) ≡ is_some (W.written output.old) }
+    ensures later { W.faults output.old ≤ W.faults output.new }
+    ensures shelf { LeavesFiles H.count_of H.named H.disk_of D.files D.faults shelf.old shelf.new }
+{
+    let mut line = Line::new(alloc);
+    let text = heading_text(alloc, &mut line, &plan.heading(query))?;
+    let Some(run) = answer else {
+        return write_out(output, &text);
+    };
+    let kind = plan.kind(query);
+    let mut reader = EntryReader::new(alloc, run, kind)?;
+    print_entries(
+        shelf,
+        &mut reader,
+        plan.kept(query),
+        kind,
+        &mut line,
+        text,
+        output,
+    )
+}
+
+// The text of the first row.
+pub(crate) fn heading_text(
+    alloc: Global,
+    line: &mut Line,
+    view: &RowView<'_>,
+) -> Result<Vec<u8>, AllocError>
+    ensures { IfOk result (λ text. text.items ≡ row_text default_writer (fields_in view.now)) }
+{
+    line.set_view(view)?;
+    let mut writer = Writer::from_writer(Vec::new(alloc));
+    line.write_to(&mut writer)?;
+    match writer.into_inner() {
+        Ok(text) => Ok(text),
+        Err(_) => Err(AllocError),
+    }
+}
+
+// Writes a block.
+fn write_out<W: Sink>(output: &mut W, text: &[u8]) -> Result<(), PrintFault>
+    ensures ok { OnOk result (Appends (W.written output.old) (W.written output.new) text.now) }
+    ensures err { OnErr result (AppendsPrefix (W.written output.old) (W.written output.new) text.now) }
+    ensures cause { HasCauseWritten (W.faults output.old) (W.faults output.new) result }
+    ensures tells { is_some (W.written output.new) ≡ is_some (W.written output.old) }
+    ensures later { W.faults output.old ≤ W.faults output.new }
+{
+    match write_all_counted(output, text) {
+        Ok(()) => Ok(()),
+        Err(SinkError::Failed) => Err(PrintFault::WriteFault),
+        Err(SinkError::NoMemory) => Err(PrintFault::NoMemory),
+    }
+}
+
+// Prints this text, and behind it the rows of the entries that are ahead.
+pub(crate) fn print_entries<D: Disk, H: Shelf<D>, W: Sink>(
+    shelf: &mut H,
+    reader: &mut EntryReader,
+    shape: &Shape,
+    kind: &Kind,
+    line: &mut Line,
+    text: Vec<u8>,
+    output: &mut W,
+) -> Result<(), PrintFault>
+    requires there { (run_in reader.old).disk < H.count_of shelf.old }
+    requires kind { kind.now ≡ kind_of shape.now }
+    requires form { IsOfKind kind.now reader.old }
+    ensures ok { OnOk result ((entries : List Entry) →
+        AreAhead (files_on H.disk_of D.files shelf.old (run_in reader.old).disk) reader.old entries →
+        Appends (W.written output.old) (W.written output.new) (text.items ++ table (map (row_of shape.now) entries))) }
+    ensures told { OnOk result ((entries : List Entry) →
+        AreAhead (files_on H.disk_of D.files shelf.old (run_in reader.old).disk) reader.old entries →
+        All (IsTold shape.now) entries) }
+    ensures err { OnErr result ((entries : List Entry) →
+        AreAhead (files_on H.disk_of D.files shelf.old (run_in reader.old).disk) reader.old entries →
+        AppendsPrefix (W.written output.old) (W.written output.new) (text.items ++ table (map (row_of shape.now) entries))) }
+    ensures undamaged { (entries : List Entry) →
+        AreAhead (files_on H.disk_of D.files shelf.old (run_in reader.old).disk) reader.old entries →
+        All (IsTold shape.now) entries → FindsNoDamage result }
+    ensures cause { HasCauseIn (faults_on H.disk_of D.faults shelf.old) (faults_on H.disk_of D.faults shelf.new)
+        (W.faults output.old) (W.faults output.new) result }
+    ensures tells { is_some (W.written output.new) ≡ is_some (W.written output.old) }
+    ensures later { W.faults output.old ≤ W.faults output.new }
+    ensures shelf { LeavesFiles H.count_of H.named H.disk_of D.files D.faults shelf.old shelf.new }
+{
+    let mut text = text;
+    'blocks: loop {
+        let (filled, more) = fill_block(shelf, reader, shape, kind, line, text)?;
+        write_out(output, &filled)?;
+        if !more {
+            return Ok(());
+        }
+        text = filled;
+        text.clear();
+    }
+}
+
+// The text with the rows of some first entries behind it, and whether an entry may be left.
+fn fill_block<D: Disk, H: Shelf<D>>(
+    shelf: &mut H,
+    reader: &mut EntryReader,
+    shape: &Shape,
+    kind: &Kind,
+    line: &mut Line,
+    text: Vec<u8>,
+) -> Result<(Vec<u8>, bool), PrintFault>
+    requires there { (run_in reader.old).disk < H.count_of shelf.old }
+    requires kind { kind.now ≡ kind_of shape.now }
+    requires form { IsOfKind kind.now reader.old }
+    ensures tells { IfOk result (λ p. (piece : List ℕ) × (p.0.items ≡ text.items ++ piece) × ((entries : List Entry) →
+        AreAhead (files_on H.disk_of D.files shelf.old (run_in reader.old).disk) reader.old entries →
+        TellsFirst shape.now (files_on H.disk_of D.files shelf.new (run_in reader.new).disk) reader.new p.1 piece entries)) }
+    ensures more { IfOk result (λ p. p.1 ≡ true → GoesOn reader.old reader.new) }
+    ensures undamaged { (entries : List Entry) →
+        AreAhead (files_on H.disk_of D.files shelf.old (run_in reader.old).disk) reader.old entries →
+        All (IsTold shape.now) entries → NoDamage result }
+    ensures run { run_in reader.new ≡ run_in reader.old }
+    ensures form { IsOfKind kind.now reader.new }
+    ensures cause { HasCauseRead (faults_on H.disk_of D.faults shelf.old) (faults_on H.disk_of D.faults shelf.new) result }
+    ensures shelf { LeavesFiles H.count_of H.named H.disk_of D.files D.faults shelf.old shelf.new }
+{
+    let mut writer = Writer::from_writer(text);
+    let more = put_rows(shelf, reader, shape, kind, line, &mut writer)?;
+    match writer.into_inner() {
+        Ok(filled) => Ok((filled, more)),
+        Err(_) => Err(PrintFault::NoMemory),
+    }
+}
+
+// Writes rows until a block is full or no entry is left, and says whether one may be left.
+fn put_rows<D: Disk, H: Shelf<D>>(
+    shelf: &mut H,
+    reader: &mut EntryReader,
+    shape: &Shape,
+    kind: &Kind,
+    line: &mut Line,
+    writer: &mut Writer<Vec<u8>>,
+) -> Result<bool, PrintFault>
+    requires between { IsBetweenRows writer.old }
+    requires there { (run_in reader.old).disk < H.count_of shelf.old }
+    requires kind { kind.now ≡ kind_of shape.now }
+    requires form { IsOfKind kind.now reader.old }
+    ensures tells { IfOk result (λ more. (piece : List ℕ)
+        × Appends (text_written (λ v. Some v.items) writer.old) (text_written (λ v. Some v.items) writer.new) piece
+        × ((entries : List Entry) →
+        AreAhead (files_on H.disk_of D.files shelf.old (run_in reader.old).disk) reader.old entries →
+        TellsFirst shape.now (files_on H.disk_of D.files shelf.new (run_in reader.new).disk) reader.new more piece entries)) }
+    ensures more { IfOk result (λ more. more ≡ true → GoesOn reader.old reader.new) }
+    ensures undamaged { (entries : List Entry) →
+        AreAhead (files_on H.disk_of D.files shelf.old (run_in reader.old).disk) reader.old entries →
+        All (IsTold shape.now) entries → NoDamage result }
+    ensures run { run_in reader.new ≡ run_in reader.old }
+    ensures form { IsOfKind kind.now reader.new }
+    ensures cause { HasCauseRead (faults_on H.disk_of D.faults shelf.old) (faults_on H.disk_of D.faults shelf.new) result }
+    ensures shelf { LeavesFiles H.count_of H.named H.disk_of D.files D.faults shelf.old shelf.new }
+{
+    while reader.go_on(shelf)? {
+        if !line.tell(shape, kind, reader.key(), reader.value())? {
+            return Err(reader.damage());
+        }
+        line.write_to(writer)?;
+        if writer.get_ref().len() >= BLOCK {
+            return Ok(true);
+        }
+    }
+    Ok(false)
+}

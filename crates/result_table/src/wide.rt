@@ -1,0 +1,99 @@
+// Sums that are too wide to be printed.
+ghost use Rattle.std.specs.Prelude.{◌≡◌, ◌<◌, ◌*◌, Err, IfOk, IfSome, List, OnErr, Some, length, not, option_map};
+ghost use Rattle.std.specs.List.{list_any};
+ghost use Rattle.aggregate.specs.Partial.{fits_i64};
+ghost use Rattle.aggregate.specs.Totals.{Entry};
+ghost use Rattle.aggregate.specs.declared.kind.Kind.TheVariants.{Group};
+ghost use Rattle.run_file.specs.Causes.{NotDamaged};
+ghost use Rattle.run_file.specs.Shelved.{LeavesFiles, faults_on, files_on};
+ghost use Rattle.run_merge.specs.Causes.{FindsFewer, HasCauseAmong};
+ghost use Rattle.job_plan.specs.Telling.{value_numbers};
+ghost use Rattle.result_table.specs.Ahead.{AreAhead, IsOfKind, run_in};
+ghost use Rattle.result_table.specs.Results.{HasResult, wide_key};
+
+use crate::entry_reader::EntryReader;
+use aggregate::{AggList, Key, Kind, finish};
+use run_file::{Run, RunFault};
+use spill_disk::{Disk, Shelf};
+use std::alloc::Global;
+
+/// The key of the first group of a result with a number outside `i64`, if there is one. It goes over the whole run,
+/// or up to that group.
+pub fn too_wide<D: Disk, H: Shelf<D>>(
+    alloc: Global,
+    shelf: &mut H,
+    answer: Option<&Run>,
+    aggs: &AggList,
+) -> Result<Option<Key>, RunFault>
+    requires there { IfSome (option_map (λ run. run.now) answer) (λ run. run.disk < H.count_of shelf.old) }
+    ensures ok { IfOk result (λ key. (entries : List Entry) →
+        HasResult (files_on H.disk_of D.files shelf.old) (Group aggs.now) (option_map (λ run. run.now) answer.entry) entries →
+        key ≡ wide_key (length aggs.now) entries) }
+    ensures undamaged { (entries : List Entry) →
+        HasResult (files_on H.disk_of D.files shelf.old) (Group aggs.now) (option_map (λ run. run.now) answer.entry) entries →
+        NotDamaged result }
+    ensures fewer { FindsFewer result }
+    ensures cause { HasCauseAmong (faults_on H.disk_of D.faults shelf.old) (faults_on H.disk_of D.faults shelf.new) result }
+    ensures shelf { LeavesFiles H.count_of H.named H.disk_of D.files D.faults shelf.old shelf.new }
+{
+    let Some(run) = answer else {
+        return Ok(None);
+    };
+    let Ok(copy) = aggs.copy() else {
+        return Err(RunFault::NoMemory);
+    };
+    let Ok(mut reader) = EntryReader::new(alloc, run, &Kind::Group(copy)) else {
+        return Err(RunFault::NoMemory);
+    };
+    first_wide(alloc, shelf, &mut reader, aggs)
+}
+
+// The key of the first of the entries that are ahead with a number outside `i64`.
+fn first_wide<D: Disk, H: Shelf<D>>(
+    alloc: Global,
+    shelf: &mut H,
+    reader: &mut EntryReader,
+    aggs: &AggList,
+) -> Result<Option<Key>, RunFault>
+    requires there { (run_in reader.old).disk < H.count_of shelf.old }
+    requires kind { IsOfKind (Group aggs.now) reader.old }
+    ensures ok { IfOk result (λ key. (entries : List Entry) →
+        AreAhead (files_on H.disk_of D.files shelf.old (run_in reader.old).disk) reader.old entries →
+        key ≡ wide_key (length aggs.now) entries) }
+    ensures undamaged { (entries : List Entry) →
+        AreAhead (files_on H.disk_of D.files shelf.old (run_in reader.old).disk) reader.old entries → NotDamaged result }
+    ensures fewer { FindsFewer result }
+    ensures cause { HasCauseAmong (faults_on H.disk_of D.faults shelf.old) (faults_on H.disk_of D.faults shelf.new) result }
+    ensures shelf { LeavesFiles H.count_of H.named H.disk_of D.files D.faults shelf.old shelf.new }
+{
+    while reader.go_on(shelf)? {
+        if has_wide(aggs, reader.value()) {
+            return copy_key(alloc, reader.key());
+        }
+    }
+    Ok(None)
+}
+
+// A key of its own with these bytes.
+fn copy_key(alloc: Global, bytes: &[u8]) -> Result<Option<Key>, RunFault>
+    ensures ok { IfOk result (λ key. key ≡ Some bytes.now) }
+    ensures err { OnErr result (result ≡ Err RunFault.NoMemory) }
+{
+    match Vec::from_slice(alloc, bytes) {
+        Ok(copy) => Ok(Some(Key::of(copy))),
+        Err(_) => Err(RunFault::NoMemory),
+    }
+}
+
+// Whether a value has a number outside `i64`.
+fn has_wide(aggs: &AggList, value: &[u8]) -> bool
+    requires { length value.now ≡ 16 * length aggs.now }
+    ensures { result ≡ list_any (λ number. not (fits_i64 number)) (value_numbers (length aggs.now) value.now) }
+{
+    for place in 0..aggs.items().len() {
+        if finish(aggs, value, place).is_none() {
+            return true;
+        }
+    }
+    false
+}
