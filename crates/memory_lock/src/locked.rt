@@ -94,6 +94,7 @@ impl<K: Disk> Locked<K> {
         ensures own { Continues worker (journal_of self.old.history) (journal_of self.new.history) }
         ensures ok { OnOk result (entries_of worker (journal_of self.new.history)
             ≡ entries_of worker (journal_of self.old.history) ++ entry_by worker (Begin task) ∷ []) }
+        ensures nothing { OnOk result (held (own_in worker self.new) task ≡ 0) }
         ensures err { OnErr result (journal_of self.new.history ≡ journal_of self.old.history) }
     {
         own_entries_decide();

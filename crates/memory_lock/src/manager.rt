@@ -91,6 +91,7 @@ impl<K: Disk, B: Basis> Manager<K, B> {
         ensures begun { IfOk result (λ begun. begun ≡ task) }
         ensures ok { IfOk result (λ _. Adds worker.old worker.new (entry_by worker.old.number (Begin task) ∷ [])) }
         ensures its_task { IfOk result (λ _. IsOpen worker.new task) }
+        ensures nothing { IfOk result (λ _. held (own_of worker.new) task ≡ 0) }
         ensures err { OnErr result (own_entries worker.new ≡ own_entries worker.old) }
         ensures pin { KeepsPin worker.old worker.new }
         ensures sees { SeesMore worker.old worker.new }
