@@ -1,13 +1,15 @@
 -- A run that is put behind those of one consumer.
-use Rattle.std.proofs.Common.{◌≡◌, ◌≢◌, ◌⊎◌, inl, inr, ℕ, zero, suc, ◌<◌, List, [], ◌∷◌, ◌++◌, All, length, get_or, set, Result, Ok, Err, OnErr, refl, sym, ap, subst, ◌∙◌, arith}
+use Rattle.std.proofs.Common.{◌≡◌, ◌≢◌, ◌⊎◌, inl, inr, ℕ, zero, suc, ◌<◌, ◌≤◌, List, [], ◌∷◌, ◌++◌, All, length, get_or, set, Option, Result, Ok, Err, OnErr, refl, sym, ap, subst, ◌∙◌, arith}
 use Rattle.std.specs.Global.{Vec}
 use Rattle.std.proofs.lemmas.List.{map-set, get_or-map, set-get_or, get_or-set_same, get_or-set_other}
 use Rattle.std.proofs.lemmas.List.Elements.{All-append}
+use Rattle.spill_disk.specs.Files.{Files}
 use Rattle.run_file.specs.declared.run.Run.{Run}
 use Rattle.spill_stack.proofs.Places.{at_or_not}
 use Rattle.spill_stack.proofs.Holding.{prefix_self}
 use Rattle.spill_stack.specs.RunLists.{lists_of, runs_at, run_at, no_run, IsBounded, AreBounded, AreApart}
 use Rattle.spill_stack.specs.Serving.{RunsGrow}
+use Rattle.spill_stack.specs.Writing.{WasNotThere, AddedAreNew}
 
 -- the lists of runs after a write at one place
 pub lists_set : (vectors : List (Vec Run)) (i : ℕ) (default vector : Vec Run) (more : List Run) → i < length vectors → vector.items ≡ (get_or vectors i default).items ++ more → lists_of (set vectors i vector) ≡ set (lists_of vectors) i (runs_at (lists_of vectors) i ++ more)
@@ -90,3 +92,11 @@ apart_at runs runs' i run fresh apart a b k l (inr new) (inr new') same = (new.l
 pub apart_more : (runs : List (List Run)) (i : ℕ) (run : Run) → i < length runs → ((j k : ℕ) → k < length (runs_at runs j) → (run_at runs j k).file ≢ run.file) → AreApart runs → AreApart (with_run runs i run)
 apart_more runs i run within fresh apart a b k l lt lt' same =
     apart_at runs (with_run runs i run) i run fresh apart a b k l (place_of runs i run within a k lt) (place_of runs i run within b l lt') same
+
+-- where it is in a file that wasn't there, so is each that was added
+added_at : (files : Option Files) (runs runs' : List (List Run)) (i : ℕ) (run : Run) → WasNotThere files run.file → (j k : ℕ) → length (runs_at runs j) ≤ k → WasAt runs runs' j k ⊎ IsNewAt runs runs' i run j k → WasNotThere files (run_at runs' j k).file
+added_at files runs runs' i run new j k from (inl old) = absurd (let below = old.within in omega arith)
+added_at files runs runs' i run new j k from (inr here) = subst (λ (r : Run). WasNotThere files r.file) (sym here.same) new
+
+pub added_more : (files : Option Files) (runs : List (List Run)) (i : ℕ) (run : Run) → i < length runs → WasNotThere files run.file → AddedAreNew files runs (with_run runs i run)
+added_more files runs i run within new j k from below = added_at files runs (with_run runs i run) i run new j k from (place_of runs i run within j k below)

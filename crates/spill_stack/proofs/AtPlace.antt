@@ -17,8 +17,8 @@ use Rattle.spill_stack.specs.Serving.{KeepsRuns, SpillsAt}
 use Rattle.spill_stack.specs.Writing.{WritesRun}
 use Rattle.spill_stack.proofs.Midways.{total-append}
 use Rattle.spill_stack.proofs.Places.{at_or_not}
-use Rattle.spill_stack.proofs.Holding.{prefix_self}
-use Rattle.spill_stack.proofs.AddingRuns.{with_run, bounded_more, grow_more}
+use Rattle.spill_stack.proofs.Holding.{prefix_self, added_none}
+use Rattle.spill_stack.proofs.AddingRuns.{with_run, bounded_more, grow_more, added_more}
 use Rattle.spill_stack.proofs.HeldRuns.{hold_same, hold_more}
 
 -- no entry of one consumer is lost
@@ -45,6 +45,8 @@ keeps_same before after states i state runs written within h kept none = record 
     hold_same before after states i state runs spilled h.same.kind kept hold,
     λ j lt. all_totals states i state spilled spilled written within h (sym (append-nil (spilled_at spilled i)) ∙ ap (λ (w : List Entry). spilled_at spilled i ++ w) (sym none)) (λ k ne. refl) j,
   );
+  stay = kept;
+  added = added_none before runs;
 }
 
 keeps_more : (before after : Option Files) (states : List State) (i : ℕ) (state : State) (runs : List (List Run)) (run : Run) (written : List Entry) → i < length states → length runs ≡ length states → Spilled (state_at states i) state written → KeepsFiles before after → WritesRun before after (state_at states i).kind (Some run) written → KeepsRuns before after states (set states i state) runs (with_run runs i run)
@@ -61,6 +63,8 @@ keeps_more before after states i state runs run written within lists h kept wrot
             hold_more before after states i state runs spilled run written within h.same.kind kept wrote.1 one hold,
             λ j lt. all_totals states i state spilled (set spilled i (spilled_at spilled i ++ written)) written within h (get_or-set_same spilled i (spilled_at spilled i ++ written) [] in_spilled) (λ k ne. get_or-set_other spilled i k (spilled_at spilled i ++ written) [] ne) j,
           );
+      stay = kept;
+      added = added_more before runs i run in_runs wrote.1;
     }
 
 keeps_runs : (before after : Option Files) (states : List State) (i : ℕ) (state : State) (runs : List (List Run)) (given : ℕ) (run : Option Run) (written : List Entry) → i < length states → length runs ≡ length states → Spilled (state_at states i) state written → KeepsFiles before after → WritesRun before after (state_at states i).kind run written → KeepsRuns before after states (set states i state) runs (runs_after runs i (Ended given run))

@@ -13,8 +13,9 @@ use Rattle.spill_stack.specs.Scenes.{Scene, ArePicks, AreBegun, IsPick, used_by}
 use Rattle.spill_stack.specs.Asking.{IsReady}
 use Rattle.spill_stack.specs.Feeding.{FeedsTotals, FedTo, Raises}
 use Rattle.spill_stack.proofs.Places.{at_or_not, same_field}
+use Rattle.spill_stack.proofs.Sameness.{files_self, files_trans}
 use Rattle.spill_stack.proofs.Keeping.{kept_self, keeps_one_trans}
-use Rattle.spill_stack.proofs.Holding.{grow_self, grow_trans}
+use Rattle.spill_stack.proofs.Holding.{grow_self, grow_trans, added_none, added_trans}
 use Rattle.spill_stack.proofs.LongerTotals.{behind_by, with_last_by, total_not_none}
 
 taken_picks : (picks : List ℕ) (states states' : List State) (who : ℕ) → IsPick picks who → length states' ≡ length states → ((j : ℕ) → j ≢ who → state_at states' j ≡ state_at states j) → ArePicks picks states → ArePicks picks states'
@@ -80,6 +81,8 @@ fed_taken old states who entry laws pick ready within begun only takes =
         (λ i below other. rw (others i other) refl),
         taken_total laws before after (spilled_at spilled who) entry kind takes.total,
       );
+      stay = files_self old.files;
+      added = added_none old.files old.runs;
       shorts = omega arith;
       ready = record {
         lengths = ready.lengths ∙ sym members;
@@ -131,6 +134,8 @@ fed_after old mid new who must entry laws within raises fed =
       lengths = fed.lengths ∙ raises.runs.lengths;
       grow = grow_trans old.runs mid.runs new.runs raises.runs.grow fed.grow;
       totals = after_totals old mid new who must entry laws within raises fed;
+      stay = files_trans old.files mid.files new.files raises.runs.stay fed.stay;
+      added = added_trans old.files mid.files old.runs mid.runs new.runs raises.runs.stay fed.grow raises.runs.added fed.added;
       shorts = omega (arith, raises.shorts, fed.shorts);
       ready = fed.ready;
       balance = omega (arith, raises.balance, fed.balance);

@@ -6,7 +6,9 @@ use Rattle.consumer_trait.specs.States.{State, room, total_by}
 use Rattle.consumer_trait.specs.Members.{state_at}
 use Rattle.spill_stack.specs.declared.fault.SpillFault.{SpillFault}
 use Rattle.spill_stack.specs.declared.fault.SpillFault.TheVariants.{NoRoom, DiskFault, NoMemory}
+use Rattle.spill_stack.specs.Disks.{KeepsFiles}
 use Rattle.spill_stack.specs.RunLists.{HoldRuns, gathered, gathered_total}
+use Rattle.spill_stack.specs.Writing.{AddedAreNew}
 use Rattle.spill_stack.specs.Pauses.{SameConsumer}
 use Rattle.spill_stack.specs.Scenes.{Scene, used_by}
 use Rattle.spill_stack.specs.Serving.{KeepsOne, KeepsRuns, RunsGrow}
@@ -71,6 +73,8 @@ pub record FedTo (old new : Scene) (who : ℕ) (entry : Entry) : Type 0 where
   pub lengths : length new.runs ≡ length old.runs
   pub grow : RunsGrow old.runs new.runs
   pub totals : FeedsTotals old new who entry
+  pub stay : KeepsFiles old.files new.files
+  pub added : AddedAreNew old.files old.runs new.runs
   pub shorts : old.account.shorts ≤ new.account.shorts
   pub ready : IsReady new
   pub balance : new.account.held + used_by old.states ≡ old.account.held + used_by new.states

@@ -10,7 +10,9 @@ use Rattle.consumer_trait.specs.Members.{state_at, OnlyAt}
 use Rattle.spill_stack.specs.declared.spill.Pause.{Pause}
 use Rattle.spill_stack.specs.declared.spill.Pause.TheVariants.{Asks, Ended}
 use Rattle.spill_stack.specs.Asks.{ask_at, pending_of}
+use Rattle.spill_stack.specs.Disks.{KeepsFiles}
 use Rattle.spill_stack.specs.RunLists.{runs_at, AreBounded, KeepTotals}
+use Rattle.spill_stack.specs.Writing.{AddedAreNew}
 use Rattle.spill_stack.specs.Pauses.{SameConsumer, AsksFor, EndsWith}
 use Rattle.spill_stack.specs.Scenes.{Scene, IsStack, IsTried, IsDry, used_by, entries_in}
 
@@ -18,12 +20,15 @@ use Rattle.spill_stack.specs.Scenes.{Scene, IsStack, IsTried, IsDry, used_by, en
 abbrev pub RunsGrow : List (List Run) → List (List Run) → Type 0
 RunsGrow runs runs' = (i : ℕ) → IsPrefix (runs_at runs i) (runs_at runs' i)
 
--- what a spill of one consumer does to the runs
+-- what a spill of one consumer does to the runs: where they stood, they stand, and those that it adds are in files that weren't
+-- there
 pub record KeepsRuns (files files' : Option Files) (states states' : List State) (runs runs' : List (List Run)) : Type 0 where
   pub lengths : length runs' ≡ length runs
   pub bounded : AreBounded runs → AreBounded runs'
   pub grow : RunsGrow runs runs'
   pub totals : KeepTotals files files' states states' runs runs'
+  pub stay : KeepsFiles files files'
+  pub added : AddedAreNew files runs runs'
 
 -- a spill of the consumer at a place asks for bytes: it has no run
 pub record AsksAt (files files' : Option Files) (states states' : List State) (runs runs' : List (List Run)) (i before bytes given : ℕ) : Type 0 where

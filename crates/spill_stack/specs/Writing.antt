@@ -1,6 +1,6 @@
 -- A spill's run while it is being written.
 -- This project's own.
-use Rattle.std.specs.Prelude.{◌≡◌, ℕ, List, [], Option, Some, None, IsSome, ⊤}
+use Rattle.std.specs.Prelude.{◌≡◌, ℕ, ◌≤◌, ◌<◌, List, [], Option, Some, None, IsSome, length, ⊤}
 use Rattle.std.specs.FinMap as map
 use Rattle.aggregate.specs.declared.kind.Kind.{Kind}
 use Rattle.aggregate.specs.Totals.{Entry}
@@ -8,12 +8,17 @@ use Rattle.spill_disk.specs.Files.{Files, IsThere}
 use Rattle.run_file.specs.declared.run.Run.{Run}
 use Rattle.run_file.specs.Runs.{Counts, IsFileOf}
 use Rattle.spill_stack.specs.Disks.{KeepsFiles}
-use Rattle.spill_stack.specs.RunLists.{IsBounded, IsRunOf}
+use Rattle.spill_stack.specs.RunLists.{IsBounded, IsRunOf, runs_at, run_at}
 
 -- where the disk told, the file wasn't there
 abbrev pub WasNotThere : Option Files → ℕ → Type 0
 WasNotThere None file = ⊤
 WasNotThere (Some files) file = map.get files file ≡ None
+
+-- each run that was added is in a file that wasn't there before
+abbrev pub AddedAreNew : Option Files → List (List Run) → List (List Run) → Type 0
+AddedAreNew files runs runs' =
+    (i k : ℕ) → length (runs_at runs i) ≤ k → k < length (runs_at runs' i) → WasNotThere files (run_at runs' i k).file
 
 -- the run so far: a file that wasn't there when the spill began, with these rows
 pub record IsRunSoFar (start files : Option Files) (run : Run) (rows : List (List (List ℕ))) : Type 0 where

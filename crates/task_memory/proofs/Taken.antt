@@ -1,6 +1,7 @@
 -- The runs of a consumer that was drained are taken: the others' stand as they did.
 use Rattle.std.proofs.Common.{◌≡◌, inl, inr, ℕ, ◌<◌, List, [], ◌++◌, Option, length, get_or, set, refl, sym, ap, subst, ◌∙◌, arith, append-nil}
 use Rattle.std.proofs.lemmas.List.{length-set, get_or-set_same, get_or-set_other}
+use mathlib.Core.List.{IsPrefix}
 use Rattle.aggregate.specs.declared.kind.Kind.{Kind}
 use Rattle.aggregate.specs.Totals.{Entry}
 use Rattle.spill_disk.specs.Files.{Files}
@@ -10,8 +11,10 @@ use Rattle.consumer_trait.specs.Members.{state_at}
 use Rattle.spill_stack.specs.Pauses.{AllSame}
 use Rattle.spill_stack.specs.RunLists.{run_at, runs_at, no_run, spilled_at, AreApart, HaveEntries, HoldRuns, KeepTotals}
 use Rattle.spill_stack.specs.Scenes.{Scene}
+use Rattle.spill_stack.specs.Serving.{RunsGrow}
+use Rattle.spill_stack.specs.Writing.{AddedAreNew, WasNotThere}
 use Rattle.task_memory.proofs.Places.{at_or_not}
-use Rattle.task_memory.specs.Draining.{DrainsTotals}
+use Rattle.task_memory.specs.Draining.{DrainsTotals, TakesNew}
 
 none_at : (runs : List (List Run)) (who i : ℕ) → who < length runs → i ≡ who → length (runs_at (set runs who []) i) ≡ 0
 none_at runs who i within here = rw here (ap (λ (list : List Run). length list) (get_or-set_same runs who [] [] within))
@@ -80,3 +83,9 @@ drains_totals old new runs who taken within same totals empty is left = λ spill
           ap (λ (entries : List Entry). total_by (state_at new.states i).kind (entries ++ (state_at new.states i).entries)) (get_or-set_other spilled' who i [] [] other)
           ∙ kept.2 i below;
     }
+
+pub takes_new : (old : Scene) (runs : List (List Run)) (who : ℕ) (taken : List Run) → RunsGrow old.runs runs → AddedAreNew old.files old.runs runs → taken ≡ runs_at runs who → TakesNew old who taken
+takes_new old runs who taken grow added is = record {
+  had = subst (λ (list : List Run). IsPrefix (runs_at old.runs who) list) (sym is) (grow who);
+  added = λ k from below. subst (λ (list : List Run). WasNotThere old.files (get_or list k no_run).file) (sym is) (added who k from (subst (λ (list : List Run). k < length list) is below));
+}

@@ -1,6 +1,7 @@
 -- What a consumer that was drained leaves.
 -- This project's own.
-use Rattle.std.specs.Prelude.{◌≡◌, ◌≢◌, ℕ, ◌<◌, List, [], length, slice_index_or}
+use Rattle.std.specs.Prelude.{◌≡◌, ◌≢◌, ℕ, ◌<◌, ◌≤◌, List, [], length, slice_index_or}
+use mathlib.Core.List.{IsPrefix}
 use Rattle.aggregate.specs.Totals.{Entry}
 use Rattle.run_file.specs.declared.run.Run.{Run}
 use Rattle.consumer_trait.specs.States.{State, total_by}
@@ -8,6 +9,7 @@ use Rattle.consumer_trait.specs.Members.{state_at}
 use Rattle.spill_stack.specs.RunLists.{HaveEntries, HoldRuns, gathered, gathered_total, no_run, run_at, runs_at}
 use Rattle.spill_stack.specs.Scenes.{Scene}
 use Rattle.spill_stack.specs.Serving.{KeepsOne}
+use Rattle.spill_stack.specs.Writing.{WasNotThere}
 
 -- a run at a place of those that were taken
 abbrev pub taken_at : List Run → ℕ → Run
@@ -29,6 +31,11 @@ pub record DrainsOf (old new : Scene) (who : ℕ) (taken : List Run) (spilled : 
 abbrev pub DrainsTotals : Scene → Scene → ℕ → List Run → Type 0
 DrainsTotals old new who taken =
     (spilled : List (List Entry)) → HoldRuns old.files old.states old.runs spilled → DrainsOf old new who taken spilled
+
+-- the runs that were taken are those that the consumer had, and maybe more, each in a file that wasn't there before
+pub record TakesNew (old : Scene) (who : ℕ) (taken : List Run) : Type 0 where
+  pub had : IsPrefix (runs_at old.runs who) taken
+  pub added : (k : ℕ) → length (runs_at old.runs who) ≤ k → k < length taken → WasNotThere old.files (taken_at taken k).file
 
 -- what each consumer keeps through the spills of one of them: a consumer without an entry uses nothing, if it did before
 abbrev pub KeepEach : List State → List State → Type 0

@@ -14,7 +14,7 @@ ghost use Rattle.spill_stack.specs.RunLists.{IsBounded};
 ghost use Rattle.spill_stack.specs.Scenes.{scene_of, used_by};
 ghost use Rattle.pool_ledger.specs.Sizes.{floor_of};
 ghost use Rattle.task_memory.specs.declared.fault.TaskFault.TheVariants.{NoRoom};
-ghost use Rattle.task_memory.specs.Draining.{DrainsTotals, KeepEach};
+ghost use Rattle.task_memory.specs.Draining.{DrainsTotals, KeepEach, TakesNew};
 ghost use Rattle.task_memory.specs.Live.{IfNoRoom, IsBetween, NeverNoRoom, TellsHeld};
 
 use crate::TaskFault;
@@ -160,6 +160,8 @@ pub(crate) fn drain_from<C: Consumer, K: Disk, D: Disk, B: Basis, R: Wait + Sync
     ensures bounded { IfOk result (λ runs. All IsBounded runs.items) }
     ensures totals { IfOk result (λ runs. DrainsTotals (scene_of (map C.state members.old) (D.files disk.old) (held_by account.now.task worker.old) spills.old)
         (scene_of (map C.state members.new) (D.files disk.new) (held_by account.now.task worker.new) spills.new) (slice_index spills.old.picks.items consumer) runs.items) }
+    ensures new_files { IfOk result (λ runs. TakesNew (scene_of (map C.state members.old) (D.files disk.old) (held_by account.now.task worker.old) spills.old)
+        (slice_index spills.old.picks.items consumer) runs.items) }
     ensures never { NeverNoRoom result }
     ensures its { IfOk result (λ _. IsBetween (scene_of (map C.state members.new) (D.files disk.new) (held_by account.now.task worker.new) spills.new) leasts roomed) }
     ensures page { IfOk result (λ _. spills.new.page ≡ record { rows = []; room = 262144 }) }

@@ -12,7 +12,7 @@ ghost use Rattle.spill_stack.specs.Going.{Goes, IsAtWork};
 ghost use Rattle.spill_stack.specs.Pauses.{AllSame};
 ghost use Rattle.spill_stack.specs.RunLists.{IsBounded};
 ghost use Rattle.spill_stack.specs.Scenes.{scene_of};
-ghost use Rattle.task_memory.specs.Draining.{DrainsTotals, KeepEach};
+ghost use Rattle.task_memory.specs.Draining.{DrainsTotals, KeepEach, TakesNew};
 ghost use Rattle.task_memory.specs.Live.{IfNoRoom, IsBetween, NeverNoRoom, TellsHeld};
 
 use crate::TaskFault;
@@ -158,6 +158,8 @@ impl<'a, C: Consumer, K: Disk, D: Disk, B: Basis> TaskMemory<'a, C, K, D, B, Spi
         ensures bounded { IfOk result (λ runs. All IsBounded runs.items) }
         ensures totals { IfOk result (λ runs. DrainsTotals (scene_of (map C.state self.old.boxes.now) (D.files self.old.disk.now) (held_by self.old.account.now.task worker.old) self.old.spills)
             (scene_of (map C.state self.new.boxes.now) (D.files self.new.disk.now) (held_by self.new.account.now.task worker.new) self.new.spills) (slice_index self.old.spills.picks.items consumer) runs.items) }
+        ensures new_files { IfOk result (λ runs. TakesNew (scene_of (map C.state self.old.boxes.now) (D.files self.old.disk.now) (held_by self.old.account.now.task worker.old) self.old.spills)
+            (slice_index self.old.spills.picks.items consumer) runs.items) }
         ensures never { NeverNoRoom result }
         ensures its { IfOk result (λ _. IsBetween (scene_of (map C.state self.new.boxes.now) (D.files self.new.disk.now) (held_by self.new.account.now.task worker.new) self.new.spills) self.new.leasts self.new.roomed) }
         ensures page { IfOk result (λ _. self.new.spills.page ≡ record { rows = []; room = 262144 }) }
