@@ -7,7 +7,7 @@ use Rattle.aggregate.specs.Totals.{Entry, total}
 use Rattle.spill_disk.specs.Files.{Files}
 use Rattle.run_file.specs.declared.run.Run.{Run}
 use Rattle.run_merge.specs.Becoming.{ComesTo}
-use Rattle.run_merge.specs.Merged.{Merges}
+use Rattle.run_merge.specs.Merged.{IsFresh, Merges, answered}
 use Rattle.run_merge.specs.Runs.{HasEntries, HaveEntries, concatenated}
 use Rattle.run_merge.proofs.Ascending.{own_total}
 
@@ -25,6 +25,12 @@ few_merge files kind (run ∷ []) [] few have = absurd have
 few_merge files kind (run ∷ []) (entries ∷ []) few have = one_has (files run.disk) kind run entries have.0
 few_merge files kind (run ∷ []) (entries ∷ other ∷ lists) few have = absurd have.1
 few_merge files kind (run ∷ other ∷ runs) lists few have = absurd (omega arith)
+
+-- and its file is one of theirs
+pub few_fresh : (named : ℕ → ℕ) (before : ℕ → Option Files) (runs : List Run) → length runs ≤ 1 → IsFresh named before runs (answered (slice_get runs 0))
+few_fresh named before [] few disk file is other = absurd (let none = is.1 in omega arith)
+few_fresh named before (run ∷ []) few disk file is other = absurd (other is)
+few_fresh named before (run ∷ other ∷ runs) few disk file is none = absurd (omega arith)
 
 -- the run that is left has the total of all
 pub last_has : (files : Option Files) (kind : Kind) (run : Run) (entries all : List Entry) → HasEntries files kind run entries → total kind entries ≡ total kind all → HasEntries files kind run (total kind all)

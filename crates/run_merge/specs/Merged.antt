@@ -48,6 +48,11 @@ pub record LeavesOnly (named : ℕ → ℕ) (before after : ℕ → Option Files
   pub gone : (disk file : ℕ) → IsFileAmong named runs disk file → (IsFileAmong named answer disk file → ⊥) → IsGone (after disk) file
   pub others : (disk file : ℕ) → (IsFileAmong named runs disk file → ⊥) → (IsFileAmong named answer disk file → ⊥) → SameFile (before disk) (after disk) file
 
+-- a file of the answer is one of the runs', or wasn't there before
+abbrev pub IsFresh : (ℕ → ℕ) → (ℕ → Option Files) → List Run → List Run → Type 0
+IsFresh named before runs answer =
+    (disk file : ℕ) → IsFileAmong named answer disk file → (IsFileAmong named runs disk file → ⊥) → IsGone (before disk) file
+
 -- the answer as a list
 abbrev pub answered : Option Run → List Run
 answered None = []

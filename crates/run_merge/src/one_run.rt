@@ -5,7 +5,7 @@ ghost use Rattle.aggregate.specs.Totals.{Entry};
 ghost use Rattle.run_file.specs.declared.run.Run.{Run};
 ghost use Rattle.run_file.specs.Shelved.{files_on, faults_on, LeavesFiles};
 ghost use Rattle.run_merge.specs.Causes.{HasCauseAmong, FindsFewer};
-ghost use Rattle.run_merge.specs.Merged.{Merges, KeepsOthers, LeavesOnly, KeepsShelf, answered};
+ghost use Rattle.run_merge.specs.Merged.{Merges, KeepsOthers, LeavesOnly, IsFresh, KeepsShelf, answered};
 ghost use Rattle.run_merge.specs.Runs.{AreApart, AreOn, HaveEntries, greatest_of};
 
 use crate::rounds::merge_rounds;
@@ -41,6 +41,8 @@ pub fn merge_all<D: Disk, H: Shelf<D>>(
     ensures bounded { IfOk result (λ answer. IfSome answer (λ run. run.greatest ≤ greatest_of runs.items)) }
     ensures files { IfOk result (λ answer. LeavesOnly (H.named shelf.old)
         (files_on H.disk_of D.files shelf.old) (files_on H.disk_of D.files shelf.new) runs.items (answered answer)) }
+    ensures fresh { IfOk result (λ answer. IsFresh (H.named shelf.old)
+        (files_on H.disk_of D.files shelf.old) runs.items (answered answer)) }
     ensures others { KeepsOthers (H.named shelf.old)
         (files_on H.disk_of D.files shelf.old) (files_on H.disk_of D.files shelf.new) runs.items }
     ensures fewer { FindsFewer result }
