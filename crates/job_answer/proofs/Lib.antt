@@ -11,3 +11,4 @@ pub mod Orders
 pub mod Queries
 pub mod Examples
 pub mod WholeTotals
+pub mod AllTold

@@ -3,3 +3,4 @@ pub mod Output
 pub mod Laws
 pub mod OneShape
 pub mod Parts
+pub mod Told

@@ -3,6 +3,8 @@
 
 mod laws;
 mod parts;
+mod told;
 
 pub use laws::totals_tell_answers;
 pub use parts::parts_tell_all;
+pub use told::short_shapes_are_told;
