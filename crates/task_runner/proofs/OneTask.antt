@@ -1,5 +1,5 @@
 -- A worker's own entries through a whole task: its begin, its asks, its end.
-use Rattle.std.proofs.Common.{◌≡◌, ◌∙◌, ℕ, List, [], ◌∷◌, ◌++◌, true, refl, ap, subst, append_assoc, inl, inr, arith}
+use Rattle.std.proofs.Common.{◌≡◌, ◌∙◌, ℕ, List, [], ◌∷◌, ◌++◌, true, refl, sym, ap, subst, append_assoc, inl, inr, arith}
 use Rattle.std.specs.Prelude.{◌==◌}
 use Rattle.std.specs.List.{AllByRecursion}
 use Rattle.std.proofs.lemmas.Bool.{cases_Bool}
@@ -62,3 +62,9 @@ shows_short sizes task freed worked after ends old asked floor short =
       less = omega (arith, short.less, got);
       freed = ap (λ (h : History). last_end h task) whole ∙ rw (itself task) refl;
     }
+
+-- a task that went on goes on, whichever name it has
+pub goes_more : (task was now : ℕ) (first amid last : PassState) → ((a b c : PassState) → Goes task a b → Goes task b c → Goes task a c) → was ≡ task → now ≡ was
+    → Goes was first amid → Goes now amid last → Goes was first last
+goes_more task was now first amid last more same still one next =
+    subst (λ (t : ℕ). Goes t first last) (sym same) (more first amid last (subst (λ (t : ℕ). Goes t first amid) same one) (subst (λ (t : ℕ). Goes t amid last) (still ∙ same) next))

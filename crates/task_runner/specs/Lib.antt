@@ -1,3 +1,12 @@
 pub mod Works
 pub mod Answers
 pub mod Merging
+pub mod Consumers
+pub mod Parts
+pub mod Reading
+pub mod Spilling
+pub mod Workers
+pub mod OneWorker
+pub mod Pass
+pub mod AllWorkers
+pub mod Gathered

@@ -80,7 +80,10 @@ pub fn run_final<K: Disk, D: Disk, H: Shelf<D>, B: Basis, R: Wait + Sync>(
 }
 
 // The same answer, but that a refusal for want of room tells that the task held so much.
-fn told(answer: Result<Option<Run>, WorkFault>, held: u64) -> Result<Option<Run>, WorkFault>
+pub(crate) fn told(
+    answer: Result<Option<Run>, WorkFault>,
+    held: u64,
+) -> Result<Option<Run>, WorkFault>
     ensures { result ≡ told_with answer held }
 {
     match answer {

@@ -1,13 +1,27 @@
 //! The tasks of a job: what its final one merges, and the posts of its workers.
 #![tactic(auto)]
 
+mod aside;
 mod asking;
+mod each_worker;
+mod feeding;
 mod final_task;
+mod gathering;
+mod making;
 mod merged;
 mod merging;
+mod one_worker;
 mod post;
+mod reading;
+mod spilling;
+mod task;
 mod work_fault;
+mod worker;
+mod workers;
 
+pub use aside::{swap_consumers, take_consumers};
 pub use final_task::run_final;
 pub use post::Post;
+pub use task::run_task;
 pub use work_fault::WorkFault;
+pub use workers::run_workers;

@@ -4,7 +4,7 @@ ghost use Rattle.std.specs.Prelude.{◌≡◌, ◌≤◌, ◌<◌, ◌↔◌, �
 ghost use Rattle.aggregate.specs.Totals.{Entry};
 ghost use Rattle.run_file.specs.declared.run.Run.{Run};
 ghost use Rattle.run_file.specs.Shelved.{faults_on, files_on};
-ghost use Rattle.run_merge.specs.Merged.{KeepsOthers, KeepsShelf, LeavesOnly, answered};
+ghost use Rattle.run_merge.specs.Merged.{IsFresh, KeepsOthers, KeepsShelf, LeavesOnly, answered};
 ghost use Rattle.run_merge.specs.Runs.{AreApart, AreOn, HaveEntries};
 ghost use Rattle.spill_stack.specs.Attempts.{held_by};
 ghost use Rattle.spill_stack.specs.Going.{Goes, IsAtWork};
@@ -67,6 +67,7 @@ pub(crate) fn merge_runs<K: Disk, D: Disk, H: Shelf<D>, B: Basis, R: Wait + Sync
     // The disks.
     ensures files { IfOk result (λ answer. LeavesOnly (H.named shelf.old)
         (files_on H.disk_of D.files shelf.old) (files_on H.disk_of D.files shelf.new) runs.items (answered answer)) }
+    ensures fresh { IfOk result (λ answer. IsFresh (H.named shelf.old) (files_on H.disk_of D.files shelf.old) runs.items (answered answer)) }
     ensures others { KeepsOthers (H.named shelf.old)
         (files_on H.disk_of D.files shelf.old) (files_on H.disk_of D.files shelf.new) runs.items }
     ensures shelf { KeepsShelf H.count_of H.named H.disk_of D.files D.faults shelf.old shelf.new }

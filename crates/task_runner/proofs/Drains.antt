@@ -1,0 +1,74 @@
+-- The runs that a task's one consumer leaves.
+use Rattle.std.proofs.Common.{◌≡◌, ◌∙◌, ℕ, ◌<◌, List, [], Option, sym, ap, subst, arith, inl, inr, length, get_or}
+use Rattle.std.specs.Prelude.{All, slice_index}
+use Rattle.std.proofs.lemmas.List.{get_or_append_left}
+use mathlib.Core.List.{IsPrefix}
+use Rattle.aggregate.specs.Totals.{Entry, total}
+use Rattle.aggregate.specs.declared.kind.Kind.{Kind}
+use Rattle.consumer_trait.specs.Members.{state_at}
+use Rattle.consumer_trait.specs.States.{State, total_by}
+use Rattle.run_file.specs.declared.run.Run.{Run}
+use Rattle.spill_disk.specs.Files.{Files}
+use Rattle.spill_stack.specs.Disks.{KeepsFiles}
+use Rattle.spill_stack.specs.RunLists.{HaveEntries, IsBounded, no_run, runs_at}
+use Rattle.spill_stack.specs.Scenes.{IsDry, Scene}
+use Rattle.spill_stack.specs.Writing.{WasNotThere}
+use Rattle.spill_stack.proofs.Holding.{not_there_before}
+use Rattle.spill_stack.proofs.Places.{at_or_not, less_or_not}
+use Rattle.spill_stack.proofs.Sameness.{files_trans}
+use Rattle.task_memory.specs.Draining.{DrainsTotals, TakesNew, taken_at}
+use Rattle.task_memory.specs.Live.{IsBetween}
+use Rattle.task_runner.specs.Spilling.{AllNew, IsFed, LeavesRuns}
+
+-- a list with a beginning has its items at the same places
+front_at : (front runs : List Run) (k : ℕ) → IsPrefix front runs → k < length front → taken_at runs k ≡ taken_at front k
+front_at front runs k begins below = ap (λ (list : List Run). get_or list k no_run) (sym begins.1) ∙ get_or_append_left front begins.0 no_run k below
+
+-- the runs that were taken are in files that weren't there
+taken_new : (before : Option Files) (old : Scene) (who : ℕ) (taken : List Run) → KeepsFiles before old.files → AllNew before old.runs → TakesNew old who taken
+    → (k : ℕ) → k < length taken → WasNotThere before (taken_at taken k).file
+taken_new before old who taken stay fresh takes k below = elim (less_or_not k (length (runs_at old.runs who))) [
+  | inl here ↦ subst (λ (run : Run). WasNotThere before run.file) (sym (front_at (runs_at old.runs who) taken k takes.had here)) (fresh who k here)
+  | inr later ↦ not_there_before before old.files (taken_at taken k).file stay (takes.added k later below)
+]
+
+leaves_runs : (states : List State) (before : Option Files) (place : ℕ) (kind : Kind) (entries : List Entry) (old new : Scene) (taken : List Run)
+    → All IsBounded taken → DrainsTotals old new place taken → TakesNew old place taken → KeepsFiles old.files new.files
+    → IsFed states before place kind entries old → LeavesRuns before new.files kind entries taken
+leaves_runs states before place kind entries old new taken bounded totals takes kept fed = record {
+  bounded = bounded;
+  fresh = taken_new before old place taken fed.stay fed.fresh takes;
+  stay = files_trans before old.files new.files fed.stay kept;
+  total_is = λ telling.
+      let was = fed.gathers telling in
+      let drains = totals was.spilled was.hold in record {
+        drained = drains.drained;
+        have = subst (λ (k : Option Kind). HaveEntries new.files k taken drains.drained) fed.kind_is drains.stand;
+        comes = subst (λ (k : Option Kind). total_by k drains.drained ≡ total kind entries) fed.kind_is (drains.total ∙ was.comes);
+        apart = drains.apart;
+      };
+}
+
+-- the same at the place that is the first of the task's own
+leaves_first : (states : List State) (before : Option Files) (place : ℕ) (kind : Kind) (entries : List Entry) (old new : Scene) (taken : List Run)
+    → All IsBounded taken → DrainsTotals old new (slice_index old.picks 0) taken → TakesNew old (slice_index old.picks 0) taken → KeepsFiles old.files new.files
+    → IsFed states before place kind entries old → LeavesRuns before new.files kind entries taken
+leaves_first states before place kind entries old new taken bounded totals takes kept fed =
+    let first : slice_index old.picks 0 ≡ place = ap (λ (picks : List ℕ). slice_index picks 0) fed.picks in
+    leaves_runs states before place kind entries old new taken bounded (subst (λ (who : ℕ). DrainsTotals old new who taken) first totals) (subst (λ (who : ℕ). TakesNew old who taken) first takes) kept fed
+
+-- and later, where the files stayed
+pub leaves_now : (states : List State) (before : Option Files) (place : ℕ) (kind : Kind) (entries : List Entry) (old new : Scene) (now : Option Files) (taken : List Run) → now ≡ new.files
+    → All IsBounded taken → DrainsTotals old new (slice_index old.picks 0) taken → TakesNew old (slice_index old.picks 0) taken → KeepsFiles old.files new.files
+    → IsFed states before place kind entries old → LeavesRuns before now kind entries taken
+leaves_now states before place kind entries old new now taken same bounded totals takes kept fed =
+    subst (λ (files : Option Files). LeavesRuns before files kind entries taken) (sym same) (leaves_first states before place kind entries old new taken bounded totals takes kept fed)
+
+-- where the task's one consumer is drained, none has an entry
+pub dry_of : (old new : Scene) (leasts roomed : ℕ) → IsBetween new leasts roomed → new.picks ≡ old.picks → length old.picks ≡ 1 → (state_at new.states (slice_index old.picks 0)).entries ≡ [] → IsDry new.states
+dry_of old new leasts roomed between same one empty i below = elim (at_or_not i (slice_index old.picks 0)) [
+  | inl here ↦ rw here empty
+  | inr other ↦ between.ready.picked.inert i below (λ j within there.
+      let zero_is : j ≡ 0 = omega (arith, within, one, ap (λ (picks : List ℕ). length picks) same) in
+      other (sym there ∙ ap (λ (picks : List ℕ). slice_index picks j) same ∙ ap (λ (n : ℕ). slice_index old.picks n) zero_is))
+]

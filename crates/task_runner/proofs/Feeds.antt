@@ -1,0 +1,135 @@
+-- A consumer that is fed an entry more.
+use Rattle.std.proofs.Common.{◌≡◌, ◌≢◌, ◌∙◌, ℕ, zero, suc, ◌+◌, ◌-◌, ◌^◌, ◌<◌, min, List, [], ◌∷◌, ◌++◌, Option, Some, refl, sym, ap, subst, arith, inl, inr, length}
+use Rattle.std.specs.Prelude.{slice_index}
+use Rattle.std.proofs.lemmas.List.{get_or_past, length-append}
+use Rattle.aggregate.specs.Totals.{Entry, TotalsStayEqual, total}
+use Rattle.aggregate.specs.declared.kind.Kind.{Kind}
+use Rattle.consumer_trait.specs.Members.{blank, state_at}
+use Rattle.consumer_trait.specs.States.{State, total_by}
+use Rattle.run_file.specs.declared.run.Run.{Run}
+use Rattle.spill_disk.specs.Files.{Files}
+use Rattle.spill_stack.specs.Disks.{KeepsFiles}
+use Rattle.spill_stack.specs.Feeding.{FedTo, OthersSame}
+use Rattle.spill_stack.specs.Pauses.{AllSame, SameConsumer}
+use Rattle.spill_stack.specs.RunLists.{gathered, run_at, runs_at}
+use Rattle.spill_stack.specs.Scenes.{Scene}
+use Rattle.spill_stack.specs.Serving.{RunsGrow}
+use Rattle.spill_stack.specs.Writing.{AddedAreNew, WasNotThere}
+use Rattle.spill_stack.proofs.Holding.{not_there_before, stays_at}
+use Rattle.spill_stack.proofs.Places.{at_or_not, less_or_not}
+use Rattle.spill_stack.proofs.Sameness.{files_trans, same_self}
+use Rattle.task_runner.specs.Consumers.{FeedsOne, KeepsConsumers, fed_after}
+use Rattle.task_runner.specs.Spilling.{AllNew, IsFed}
+
+-- ---- what never changes of consumers
+
+-- from what is the same of those that are there: nothing is at other places
+pub everywhere : (states states' : List State) (P : State → State → Type 0) → length states' ≡ length states → P blank blank
+    → ((i : ℕ) → i < length states → P (state_at states i) (state_at states' i)) → (i : ℕ) → P (state_at states i) (state_at states' i)
+everywhere states states' P members none here i = elim (less_or_not i (length states)) [
+  | inl below ↦ here i below
+  | inr above ↦ rw (get_or_past states i blank (omega (arith, above)), get_or_past states' i blank (omega (arith, above, members))) none
+]
+
+pub keeps_self : (states : List State) → KeepsConsumers states states
+keeps_self states = record { count = refl; serves = λ i. refl; least = λ i. refl }
+
+pub keeps_trans : (a b c : List State) → KeepsConsumers a b → KeepsConsumers b c → KeepsConsumers a c
+keeps_trans a b c first then = record {
+  count = then.count ∙ first.count;
+  serves = λ i. then.serves i ∙ first.serves i;
+  least = λ i. then.least i ∙ first.least i;
+}
+
+pub keeps_all_same : (states states' : List State) → AllSame states states' → KeepsConsumers states states'
+keeps_all_same states states' same =
+    let all = everywhere states states' SameConsumer same.members (same_self blank) same.each in
+    record { count = same.members; serves = λ i. (all i).serves; least = λ i. (all i).least }
+
+pub fed_all_same : (states states' : List State) → AllSame states states' → (i : ℕ) → (state_at states' i).fed ≡ (state_at states i).fed
+fed_all_same states states' same i = (everywhere states states' SameConsumer same.members (same_self blank) same.each i).fed
+
+-- what is the same of all but one, and of that one
+others_or_one : (states states' : List State) (who : ℕ) (P : State → State → Type 0) → length states' ≡ length states → P blank blank
+    → P (state_at states who) (state_at states' who) → ((i : ℕ) → i < length states → i ≢ who → P (state_at states i) (state_at states' i))
+    → (i : ℕ) → P (state_at states i) (state_at states' i)
+others_or_one states states' who P members none one others = everywhere states states' P members none (λ i below. elim (at_or_not i who) [
+  | inl here ↦ rw here one
+  | inr other ↦ others i below other
+])
+
+pub keeps_others_same : (states states' : List State) (who : ℕ) → OthersSame states states' who → KeepsConsumers states states'
+keeps_others_same states states' who same = record {
+  count = same.members;
+  serves = others_or_one states states' who (λ (a b : State). b.serves ≡ a.serves) same.members refl same.serves (λ i below other. (same.each i below other).serves);
+  least = others_or_one states states' who (λ (a b : State). b.least ≡ a.least) same.members refl same.least (λ i below other. (same.each i below other).least);
+}
+
+-- ---- how often a consumer was fed
+
+pub fed_more : (fed now after n : ℕ) → now ≡ fed_after fed n → after ≡ min (now + 1) (2 ^ 64 - 1) → after ≡ fed_after fed (n + 1)
+fed_more fed now after zero so_far more = omega (arith, so_far, more)
+fed_more fed now after (suc n) so_far more =
+    let whole : after ≡ min (fed + suc (suc n)) (2 ^ 64 - 1) = omega (arith, so_far, more) in
+    let next : suc (suc n) ≡ suc n + 1 = omega arith in
+    subst (λ (k : ℕ). after ≡ fed_after fed k) next whole
+
+feeds_more : (states before after : List State) (who n : ℕ) → FeedsOne states before who n → length after ≡ length before
+    → (state_at after who).fed ≡ min ((state_at before who).fed + 1) (2 ^ 64 - 1)
+    → ((i : ℕ) → i < length before → i ≢ who → SameConsumer (state_at before i) (state_at after i)) → FeedsOne states after who (n + 1)
+feeds_more states before after who n so_far members fed others = record {
+  fed = fed_more _ _ _ n so_far.fed fed;
+  others = λ i other. elim (less_or_not i (length before)) [
+    | inl below ↦ (others i below other).fed ∙ so_far.others i other
+    | inr above ↦ rw (get_or_past after i blank (omega (arith, above, members))) (ap (λ (s : State). s.fed) (sym (get_or_past before i blank (omega (arith, above)))) ∙ so_far.others i other)
+  ];
+}
+
+-- ---- runs in new files
+
+pub all_new_more : (before middle : Option Files) (runs runs' : List (List Run)) → KeepsFiles before middle → RunsGrow runs runs' → AllNew before runs → AddedAreNew middle runs runs' → AllNew before runs'
+all_new_more before middle runs runs' stay grow first added i k below = elim (less_or_not k (length (runs_at runs i))) [
+  | inl here ↦ subst (λ (run : Run). WasNotThere before run.file) (sym (stays_at runs runs' i k grow here)) (first i k here)
+  | inr later ↦ not_there_before before middle (run_at runs' i k).file stay (added i k later below)
+]
+
+-- ---- one entry more
+
+pub fed_entry : ((kind : Kind) → TotalsStayEqual kind) → (states : List State) (before : Option Files) (place : ℕ) (kind : Kind) (entries : List Entry) (entry : Entry) (old new : Scene)
+    → FedTo old new place entry → OthersSame old.states new.states place → IsFed states before place kind entries old → IsFed states before place kind (entries ++ entry ∷ []) new
+fed_entry laws states before place kind entries entry old new step same so_far = record {
+  picks = step.picks ∙ so_far.picks;
+  within = omega (arith, step.members, so_far.within);
+  kind_is = step.takes.kind ∙ so_far.kind_is;
+  keeps = keeps_trans states old.states new.states so_far.keeps (keeps_others_same old.states new.states place same);
+  feeds = subst (λ (n : ℕ). FeedsOne states new.states place n) (sym (length-append entries (entry ∷ [])))
+      (feeds_more states old.states new.states place (length entries) so_far.feeds step.members step.takes.fed (λ i below other. same.each i below other));
+  stay = files_trans before old.files new.files so_far.stay step.stay;
+  fresh = all_new_more before old.files old.runs new.runs so_far.stay step.grow so_far.fresh step.added;
+  gathers = λ telling.
+      let was = so_far.gathers telling in
+      let now = step.totals was.spilled was.hold in
+      let kind_was : (state_at old.states place).kind ≡ Some kind = so_far.kind_is in
+      let comes : total kind (gathered old.states was.spilled place) ≡ total kind entries =
+      subst (λ (k : Option Kind). total_by k (gathered old.states was.spilled place) ≡ total kind entries) kind_was was.comes in
+      record {
+        spilled = now.0;
+        hold = now.1;
+        comes = now.3 ∙ ap (λ (k : Option Kind). total_by k (gathered old.states was.spilled place ++ entry ∷ [])) kind_was
+            ∙ (laws kind).with_last (gathered old.states was.spilled place) entries entry comes;
+      };
+}
+
+-- the same at the place that is the first of the task's own
+pub fed_first : ((kind : Kind) → TotalsStayEqual kind) → (states : List State) (before : Option Files) (place : ℕ) (kind : Kind) (entries : List Entry) (entry : Entry) (old new : Scene)
+    → FedTo old new (slice_index old.picks 0) entry → OthersSame old.states new.states (slice_index old.picks 0) → IsFed states before place kind entries old → IsFed states before place kind (entries ++ entry ∷ []) new
+fed_first laws states before place kind entries entry old new step same so_far =
+    let first : slice_index old.picks 0 ≡ place = ap (λ (picks : List ℕ). slice_index picks 0) so_far.picks in
+    fed_entry laws states before place kind entries entry old new (subst (λ (who : ℕ). FedTo old new who entry) first step) (subst (λ (who : ℕ). OthersSame old.states new.states who) first same) so_far
+
+-- spills feed nobody
+pub feeds_still : (states middle after : List State) (who n m : ℕ) → FeedsOne states middle who n → AllSame middle after → m ≡ n → FeedsOne states after who m
+feeds_still states middle after who n m so_far same as_many = record {
+  fed = rw as_many (fed_all_same middle after same who ∙ so_far.fed);
+  others = λ i other. fed_all_same middle after same i ∙ so_far.others i other;
+}

@@ -1,0 +1,89 @@
+-- A task's consumers as they start.
+use Rattle.std.proofs.Common.{◌≡◌, ◌∙◌, ℕ, zero, suc, ◌<◌, List, [], ◌∷◌, ◌++◌, Option, Some, refl, sym, ap, subst, arith, length, get_or, replicate}
+use Rattle.std.proofs.lemmas.List.{length-replicate}
+use Rattle.aggregate.specs.Totals.{Entry}
+use Rattle.aggregate.specs.declared.kind.Kind.{Kind}
+use Rattle.aggregate.specs.declared.kind.Kind.TheVariants.{Group, Order}
+use Rattle.consumer_trait.specs.Members.{state_at}
+use Rattle.consumer_trait.specs.States.{State, as_reset, total_by}
+use Rattle.run_file.specs.declared.run.Run.{Run}
+use Rattle.spill_disk.specs.Files.{Files}
+use Rattle.spill_stack.specs.Accounts.{Held}
+use Rattle.spill_stack.specs.RunLists.{lists_of, runs_at}
+use Rattle.spill_stack.specs.Scenes.{scene_of}
+use Rattle.spill_stack.specs.declared.spills.Spills.{Spills}
+use Rattle.spill_stack.proofs.Sameness.{files_self}
+use Rattle.task_memory.specs.Live.{IsBetween}
+use Rattle.task_memory.specs.Starting.{AreAlike, Begins}
+use Rattle.task_runner.specs.Consumers.{FeedsOne, HasConsumers, KeepsConsumers, place_for}
+use Rattle.task_runner.specs.Spilling.{IsFed}
+use Rattle.task_runner.proofs.Feeds.{everywhere, keeps_self}
+
+none_at : {A : Type 0} (nothing : A) (n i : ℕ) → get_or (replicate n nothing) i nothing ≡ nothing
+none_at nothing zero i = refl
+none_at nothing (suc n) zero = refl
+none_at nothing (suc n) (suc i) = none_at nothing n i
+
+-- the one consumer that was begun was fed nothing yet
+pub starts_fed : (states states' : List State) (files : Option Files) (account : Held) (spills : Spills) (leasts n place : ℕ) (kind : Kind) → IsBetween (scene_of states' files account spills) leasts 0
+    → Begins (place ∷ []) (kind ∷ []) states states' → spills.picks.items ≡ place ∷ [] → lists_of spills.runs.items ≡ replicate n [] → place < length states
+    → IsFed states' files place kind [] (scene_of states' files account spills)
+starts_fed states states' files account spills leasts n place kind its begins picks runs within =
+    let begun = begins.begun 0 (omega arith) in
+    let kind_is : (state_at states' place).kind ≡ Some kind = ap (λ (s : State). s.kind) begun in
+    let empty : (state_at states' place).entries ≡ [] = ap (λ (s : State). s.entries) begun in
+    let no_runs : (i : ℕ) → runs_at (lists_of spills.runs.items) i ≡ [] = λ i. ap (λ (lists : List (List Run)). runs_at lists i) runs ∙ none_at [] n i in
+    let no_run_at : (i k : ℕ) → k < length (runs_at (lists_of spills.runs.items) i) → ⊥ = λ i k below.
+    let none : length (runs_at (lists_of spills.runs.items) i) ≡ 0 = ap (λ (list : List Run). length list) (no_runs i) in
+    omega (arith, below, none) in
+    record {
+      picks = picks;
+      within = omega (arith, within, begins.members);
+      kind_is = kind_is;
+      keeps = keeps_self states';
+      feeds = record { fed = refl; others = λ i other. refl };
+      stay = files_self files;
+      fresh = λ i k below. absurd (no_run_at i k below);
+      gathers = λ telling. record {
+        spilled = replicate (length states') [];
+        hold = record {
+          telling = telling;
+          lists = its.ready.lengths;
+          lengths = length-replicate (length states') [];
+          each = λ i below. rw (no_runs i) (none_at [] (length states') i);
+          apart = λ i j k l below other same. absurd (no_run_at i k below);
+        };
+        comes = ap (λ (es : List Entry). total_by (state_at states' place).kind (es ++ (state_at states' place).entries)) (none_at [] (length states') place)
+            ∙ ap (λ (es : List Entry). total_by (state_at states' place).kind es) empty ∙ ap (λ (k : Option Kind). total_by k []) kind_is;
+      };
+    }
+
+-- ---- consumers that can be begun as they could
+
+pub keeps_alike : (states states' : List State) → AreAlike states states' → KeepsConsumers states states'
+keeps_alike states states' alike =
+    let same = everywhere states states' (λ (a b : State). as_reset b ≡ as_reset a) alike.members refl alike.each in record {
+      count = alike.members;
+      serves = λ i. ap (λ (s : State). s.serves) (same i);
+      least = λ i. ap (λ (s : State). s.least) (same i);
+    }
+
+pub feeds_alike : (states middle after : List State) (who n : ℕ) → AreAlike states middle → FeedsOne middle after who n → FeedsOne states after who n
+feeds_alike states middle after who n alike feeds =
+    let same = everywhere states middle (λ (a b : State). as_reset b ≡ as_reset a) alike.members refl alike.each in
+    let fed : (i : ℕ) → (state_at middle i).fed ≡ (state_at states i).fed = λ i. ap (λ (s : State). s.fed) (same i) in
+    record { fed = rw (sym (fed who)) feeds.fed; others = λ i other. feeds.others i other ∙ fed i }
+
+-- ---- the place of the one consumer
+
+pub place_within : (kind : Kind) (states : List State) → HasConsumers states → place_for kind < length states
+place_within (Group aggs) states has = omega (arith, has.count)
+place_within Order states has = omega (arith, has.count)
+
+pub begins_as : (place : ℕ) (copy kind : Kind) (states states' : List State) → place ≡ place_for copy → copy ≡ kind
+    → Begins (place ∷ []) (copy ∷ []) states states' → Begins (place_for kind ∷ []) (kind ∷ []) states states'
+begins_as place copy kind states states' there same begins =
+    subst (λ (k : Kind). Begins (place_for k ∷ []) (k ∷ []) states states') same (subst (λ (p : ℕ). Begins (p ∷ []) (copy ∷ []) states states') there begins)
+
+pub picks_as : (place : ℕ) (copy kind : Kind) (picks : List ℕ) → place ≡ place_for copy → copy ≡ kind → picks ≡ place ∷ [] → picks ≡ place_for kind ∷ []
+picks_as place copy kind picks there same are = are ∙ ap (λ (p : ℕ). p ∷ []) (there ∙ ap place_for same)
