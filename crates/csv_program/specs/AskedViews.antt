@@ -2,10 +2,8 @@
 -- This project's own.
 use Rattle.csv_program.specs.declared.words.Asked.{Asked as Lent}
 use Rattle.csv_program.specs.declared.words.Asked.TheVariants as lent
-use Rattle.csv_program.specs.QueryViews.{query_seen}
-use Rattle.csv_program.specs.Words.{Asked, NoWords, NoJob, Grouping}
+use Rattle.csv_program.specs.Words.{Asked, NoWords, Asks}
 
 abbrev pub asked_seen : Lent → Asked
 asked_seen lent.NoWords = NoWords
-asked_seen lent.NoJob = NoJob
-asked_seen (lent.Grouping pool query) = Grouping pool (query_seen query)
+asked_seen (lent.Job pool text) = Asks pool text.now

@@ -1,107 +1,99 @@
--- How a run ends where nothing outside fails and there is memory.
+-- How a run ends where nothing outside fails, and there is room and memory.
 -- This project's own.
-use Rattle.std.specs.Prelude.{◌≡◌, ◌⊎◌, ℕ, ℤ, List, [], map, if◌then◌else◌, nat_lt}
-use Rattle.pool_ledger.specs.Sizes.{Sizes}
-use Rattle.csv_program.specs.declared.landing.Refusal.{Refusal}
-use Rattle.csv_program.specs.declared.landing.Refusal.TheVariants as refusal
+use Rattle.std.specs.Prelude.{◌≡◌, ℕ, List, [], Option, Some, None, length, map}
+use Rattle.aggregate.specs.Totals.{Entry, total}
+use Rattle.byte_io.specs.Rows.{rows_of}
+use Rattle.job_answer.specs.Laws.{wide_total}
+use Rattle.job_answer.specs.Output.{output, too_wide}
+use Rattle.job_plan.specs.Columns.{Fields}
+use Rattle.job_plan.specs.Entries.{entry_of}
+use Rattle.job_plan.specs.Plans.{kept_at, kind_at}
+use Rattle.job_plan.specs.declared.query_plan.Plan.{Plan}
+use Rattle.job_text.specs.declared.job.Job.{Job}
+use Rattle.landing.specs.Checks.{Checked, Refused, Rows, checked}
+use Rattle.landing.specs.Landed.{partition_count}
+use Rattle.landing.specs.declared.fault.LandFault.{LandFault}
+use Rattle.landing.specs.declared.fault.LandFault.TheVariants as fault
+use Rattle.result_table.specs.Results.{table_of}
 use Rattle.csv_program.specs.declared.outcome.Status.{Status}
 use Rattle.csv_program.specs.declared.outcome.Status.TheVariants as status
-use Rattle.byte_io.specs.Rows.{rows_of}
-use Rattle.csv_program.specs.declared.groups.Totals.{Totals}
-use Rattle.csv_program.specs.Answer.{answer, is_too_wide, table_text}
-use Rattle.csv_program.specs.Grouping.{takes}
-use Rattle.csv_program.specs.Landing.{Landed, Refused, Rows, entries_of, landed}
-use Rattle.csv_program.specs.Queries.{Query}
-use Rattle.csv_program.specs.Words.{Asked, NoWords, NoJob, Grouping}
 
--- The input has no header; a field is no number; the job or the input is of a form that isn't built; the groups
--- pass the pool; or a table is printed
+-- the most rows below the header, and how many of them make a partition
+abbrev pub max_rows : ℕ
+max_rows = 10000000
+
+abbrev pub part_rows : ℕ
+part_rows = 10000
+
+-- the input is refused; a sum of a query is too wide, for this key; or tables are printed
 pub data Ending : Type 0 where
-  HasNoHeader : Ending
-  HasBadNumber : (row column : ℕ) → Ending
-  IsNotBuilt : Ending
-  HasNoRoom : Ending
+  Refuses : (why : LandFault) → Ending
+  HasTooWide : (query : ℕ) (key : List ℕ) → Ending
   Prints : (text : List ℕ) → Ending
 
-abbrev pub ending_of_refusal : Refusal → Ending
-ending_of_refusal refusal.NoHeader = HasNoHeader
-ending_of_refusal (refusal.BadNumber row column) = HasBadNumber row column
-ending_of_refusal refusal.NoColumn = IsNotBuilt
-ending_of_refusal refusal.TooManyRows = IsNotBuilt
-ending_of_refusal (refusal.RowTooLong row) = IsNotBuilt
-ending_of_refusal (refusal.Ragged row) = IsNotBuilt
+abbrev pub ending_with : List ℕ → Option (ℕ × List ℕ) → Ending
+ending_with text None = Prints text
+ending_with text (Some wide) = HasTooWide wide.0 wide.1
 
-abbrev pub ending_of_groups : Query → List (List ℕ × Totals) → Ending
-ending_of_groups query groups = if is_too_wide query.told groups then IsNotBuilt else Prints (table_text query groups)
+abbrev pub ending_of_checked : Job → Checked → Ending
+ending_of_checked job (Refused why) = Refuses why
+ending_of_checked job (Rows header rows) = ending_with (output job header rows) (too_wide job header rows)
 
--- rows of these keys and numbers, in a pool of this size
-abbrev pub ending_of_entries : ℕ → Query → List (List ℕ × ℤ) → Ending
-ending_of_entries maximum query rows =
-    if nat_lt maximum (takes query.told (map (λ row. row.0) rows)) then HasNoRoom else ending_of_groups query (answer rows)
-
-abbrev pub ending_of_landed : ℕ → Query → Landed → Ending
-ending_of_landed maximum query (Refused why) = ending_of_refusal why
-ending_of_landed maximum query (Rows columns rows) = ending_of_entries maximum query (entries_of columns rows)
-
--- how a query over an input ends, in a pool of these sizes
-abbrev pub ending_of : Sizes → Query → List ℕ → Ending
-ending_of pool query bytes = ending_of_landed pool.maximum query (landed query (rows_of bytes))
-
--- ---- statuses
-
--- the status tells this ending
-abbrev pub EndsAs : Ending → Status → Type 0
-EndsAs HasNoHeader s = s ≡ status.NoHeader
-EndsAs (HasBadNumber row column) s = s ≡ status.BadNumber row column
-EndsAs IsNotBuilt s = s ≡ status.Unbuilt
-EndsAs HasNoRoom s = (asked : ℕ) × (held : ℕ) × (floor : ℕ) × (s ≡ status.NoRoom asked held floor)
-EndsAs (Prints text) s = s ≡ status.Done
-
--- the status tells a fault of the input or the output, or want of memory
-abbrev pub IsOutside : Status → Type 0
-IsOutside s = (s ≡ status.ReadFault) ⊎ (s ≡ status.WriteFault) ⊎ (s ≡ status.NoMemory)
+-- how a job over an input ends
+abbrev pub ending_of : Job → List ℕ → Ending
+ending_of job bytes = ending_of_checked job (checked job max_rows (rows_of bytes))
 
 -- what is printed in an ending
 abbrev pub printed_in : Ending → List ℕ
-printed_in HasNoHeader = []
-printed_in (HasBadNumber row column) = []
-printed_in IsNotBuilt = []
-printed_in HasNoRoom = []
+printed_in (Refuses why) = []
+printed_in (HasTooWide query key) = []
 printed_in (Prints text) = text
 
--- the status is none of those that only words or a job's text call for
-abbrev pub IsJudged : Status → Type 0
-IsJudged status.BadWords = ⊥
-IsJudged (status.BadJob place) = ⊥
-IsJudged _ = Unit {0}
+-- how many partitions an input has for a job: none where it is refused
+abbrev pub partitions_of_checked : Checked → ℕ
+partitions_of_checked (Refused why) = 0
+partitions_of_checked (Rows header rows) = partition_count (length rows) part_rows
 
--- after these nothing was written
-abbrev pub WritesNothing : Status → Type 0
-WritesNothing status.Done = ⊥
-WritesNothing status.WriteFault = ⊥
-WritesNothing status.NoMemory = ⊥
-WritesNothing _ = Unit {0}
+abbrev pub partitions_of : Job → List ℕ → ℕ
+partitions_of job bytes = partitions_of_checked (checked job max_rows (rows_of bytes))
 
--- after these a part of the table was written, from the front
-abbrev pub IsCut : Status → Type 0
-IsCut status.WriteFault = Unit {0}
-IsCut status.NoMemory = Unit {0}
-IsCut _ = ⊥
+-- how many rows it has, and 0 where it is refused
+abbrev pub rows_of_checked : Checked → List Fields
+rows_of_checked (Refused why) = []
+rows_of_checked (Rows header rows) = rows
 
--- where the status tells of want of room, P of its three numbers
-abbrev pub IsNoRoom : Status → (ℕ → ℕ → ℕ → Type 0) → Type 0
-IsNoRoom (status.NoRoom asked held floor) P = P asked held floor
-IsNoRoom _ P = Unit {0}
+abbrev pub rows_read : Job → List ℕ → List Fields
+rows_read job bytes = rows_of_checked (checked job max_rows (rows_of bytes))
 
--- after these a pool was made
-abbrev pub MakesPool : Status → Type 0
-MakesPool status.Done = Unit {0}
-MakesPool (status.NoRoom asked held floor) = Unit {0}
-MakesPool status.WriteFault = Unit {0}
-MakesPool _ = ⊥
+-- ---- the same by what the entries of the one query come to
 
--- where a grouping was asked for, P of its pool and its query
-abbrev pub ForGrouping : Asked → (Sizes → Query → Type 0) → Type 0
-ForGrouping NoWords P = Unit {0}
-ForGrouping NoJob P = Unit {0}
-ForGrouping (Grouping pool query) P = P pool query
+-- what the entries of landed rows come to
+abbrev pub totals_of : Plan → List Fields → List Entry
+totals_of plan rows = total (kind_at plan 0) (map (entry_of (kept_at plan 0)) rows)
+
+abbrev pub key_of_total : Option Entry → Option (ℕ × List ℕ)
+key_of_total None = None
+key_of_total (Some entry) = Some (0, entry.key)
+
+abbrev pub ending_of_totals : Plan → List Entry → Ending
+ending_of_totals plan totals = ending_with (table_of plan 0 totals) (key_of_total (wide_total (kept_at plan 0) totals))
+
+-- ---- statuses
+
+-- the status that tells a refusal of the input, or why it couldn't be landed
+abbrev pub status_of : LandFault → Status
+status_of fault.NoHeader = status.NoHeader
+status_of (fault.NoColumn column) = status.NoColumn column
+status_of (fault.Ragged row) = status.Ragged row
+status_of (fault.RowTooLong row) = status.RowTooLong row
+status_of (fault.BadNumber row column) = status.BadNumber row column
+status_of fault.TooManyRows = status.TooManyRows
+status_of fault.ReadFault = status.ReadFault
+status_of (fault.DiskFault disk) = status.DiskFault disk
+status_of fault.NoMemory = status.NoMemory
+
+-- the status tells this ending
+abbrev pub EndsAs : Ending → Status → Type 0
+EndsAs (Refuses why) s = s ≡ status_of why
+EndsAs (HasTooWide query key) s = s ≡ status.SumTooWide query key
+EndsAs (Prints text) s = s ≡ status.Done

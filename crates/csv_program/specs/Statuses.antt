@@ -1,18 +1,78 @@
--- The numbers of statuses.
+-- The numbers of statuses, and what each kind of them says.
 -- This project's own.
-use Rattle.std.specs.Prelude.{ℕ}
+use Rattle.std.specs.Prelude.{ℕ, ⊤}
 use Rattle.csv_program.specs.declared.outcome.Status.{Status}
-use Rattle.csv_program.specs.declared.outcome.Status.TheVariants.{Done, BadWords, BadJob, NoHeader, BadNumber, NoRoom, ReadFault, WriteFault, NoMemory, Unbuilt}
+use Rattle.csv_program.specs.declared.outcome.Status.TheVariants as status
 
 -- the number that a process ends with
 abbrev pub number_of : Status → ℕ
-number_of Done = 0
-number_of BadWords = 2
-number_of (BadJob place) = 3
-number_of NoHeader = 5
-number_of (BadNumber row column) = 9
-number_of (NoRoom asked held floor) = 12
-number_of ReadFault = 13
-number_of WriteFault = 14
-number_of NoMemory = 18
-number_of Unbuilt = 19
+number_of status.Done = 0
+number_of status.BadWords = 2
+number_of (status.BadJob place) = 3
+number_of status.NoHeader = 5
+number_of (status.NoColumn column) = 6
+number_of (status.Ragged row) = 7
+number_of (status.RowTooLong row) = 8
+number_of (status.BadNumber row column) = 9
+number_of status.TooManyRows = 10
+number_of (status.SumTooWide query key) = 11
+number_of (status.NoRoom asked held floor) = 12
+number_of status.ReadFault = 13
+number_of status.WriteFault = 14
+number_of (status.DiskFault post) = 16
+number_of (status.Damaged post file kept found) = 17
+number_of status.NoMemory = 18
+
+-- a fault of the input, the output or a post's disk, want of room in the pool, or want of memory
+abbrev pub IsOutside : Status → Type 0
+IsOutside (status.NoRoom asked held floor) = ⊤
+IsOutside status.ReadFault = ⊤
+IsOutside status.WriteFault = ⊤
+IsOutside (status.DiskFault post) = ⊤
+IsOutside status.NoMemory = ⊤
+IsOutside _ = ⊥
+
+-- the status is none of those that only words or a job's text call for
+abbrev pub IsJudged : Status → Type 0
+IsJudged status.BadWords = ⊥
+IsJudged (status.BadJob place) = ⊥
+IsJudged _ = ⊤
+
+-- after these nothing was written
+abbrev pub WritesNothing : Status → Type 0
+WritesNothing status.Done = ⊥
+WritesNothing status.WriteFault = ⊥
+WritesNothing (status.DiskFault post) = ⊥
+WritesNothing (status.Damaged post file kept found) = ⊥
+WritesNothing status.NoMemory = ⊥
+WritesNothing _ = ⊤
+
+-- after these a part of the output was written, from the front
+abbrev pub IsCut : Status → Type 0
+IsCut status.WriteFault = ⊤
+IsCut (status.DiskFault post) = ⊤
+IsCut status.NoMemory = ⊤
+IsCut _ = ⊥
+
+-- where the status tells of want of room, P of its three numbers
+abbrev pub IsNoRoom : Status → (ℕ → ℕ → ℕ → Type 0) → Type 0
+IsNoRoom (status.NoRoom asked held floor) P = P asked held floor
+IsNoRoom _ P = ⊤
+
+-- where it names the disk of a post, P of that post
+abbrev pub IsDiskFault : Status → (ℕ → Type 0) → Type 0
+IsDiskFault (status.DiskFault post) P = P post
+IsDiskFault _ P = ⊤
+
+-- where it tells damage, P of the entries that were kept, and of those that were found
+abbrev pub IsDamaged : Status → (ℕ → ℕ → Type 0) → Type 0
+IsDamaged (status.Damaged post file kept found) P = P kept found
+IsDamaged _ P = ⊤
+
+-- after these a pool was made
+abbrev pub MakesPool : Status → Type 0
+MakesPool status.Done = ⊤
+MakesPool (status.SumTooWide query key) = ⊤
+MakesPool (status.NoRoom asked held floor) = ⊤
+MakesPool status.WriteFault = ⊤
+MakesPool _ = ⊥

@@ -1,64 +1,45 @@
--- The one task of a run, as its fields show it.
+-- The tasks of a run in its journal.
 -- This project's own.
-use Rattle.std.specs.Prelude.{ℕ, ◌≡◌, ◌≤◌, ◌<◌, ◌+◌, ◌-◌, ◌⊎◌, List, [], Some}
-use Rattle.pool_ledger.specs.History.{History, held}
-use Rattle.pool_ledger.specs.Sizes.{Sizes, floor_of}
+use Rattle.std.specs.Prelude.{◌≡◌, ℕ, ◌%◌, ◌==◌, ◌≤◌, ◌<◌, List, [], ◌∷◌, AllPairs, Option, Some, None, nat_lt, if◌then◌else◌}
+use Rattle.pool_ledger.specs.History.{begins, ends}
 use Rattle.pool_ledger.specs.Journal.{history_of}
+use Rattle.pool_ledger.specs.Sizes.{Sizes}
+use Rattle.pool_ledger.specs.Workers.{entries_of}
 use Rattle.pool_ledger.specs.declared.entry.Entry.{Entry}
-use Rattle.csv_program.specs.OneTask.{FellShort, HasRun, IsRunning, newest_end}
-use Rattle.csv_program.specs.declared.task.LoneTask.{LoneTask}
-use Rattle.csv_program.specs.declared.task.TaskFault.{TaskFault}
-use Rattle.csv_program.specs.declared.task.TaskFault.TheVariants.{NoRoom, NoMemory}
+use Rattle.pool_ledger.specs.declared.entry.Event.{Event}
+use Rattle.pool_ledger.specs.declared.entry.Event.TheVariants.{Begin}
+use Rattle.pool_laws.specs.Owners.{AreOwned}
+use Rattle.task_runner.specs.Works.{ShowsNoRoom}
 
-abbrev pub history_in : LoneTask → History
-history_in task = task.state.history
+-- the worker of a task: partition `p` is of worker `p % workers` and has the number `p`; the final task is of worker 0, and has
+-- the number behind those of the partitions
+abbrev pub owner_of : ℕ → ℕ → ℕ → Option ℕ
+owner_of workers partitions task =
+    if nat_lt task partitions then Some (task % workers) else (if task == partitions then Some 0 else None)
 
-abbrev pub setup_in : LoneTask → Sizes
-setup_in task = task.setup
+-- a task that an event begins, before those of later entries
+abbrev pub begun_by : Event → List ℕ → List ℕ
+begun_by (Begin task) later = task ∷ later
+begun_by _ later = later
 
--- the bytes that the task holds
-abbrev pub held_in : LoneTask → ℕ
-held_in task = held task.state.history 0
+-- the tasks that entries begin, in their order
+unfoldable pub begun_in : List Entry → List ℕ
+begun_in [] = []
+begun_in (entry ∷ entries) = begun_by entry.event (begun_in entries)
 
--- the bytes of these that its groups and its least take
-abbrev pub taken_in : LoneTask → ℕ
-taken_in task = held_in task - task.room
+-- each begin is of a task of the job, by its worker; a worker's tasks ascend; and each task that was begun was ended
+pub record FollowsPlan (workers partitions : ℕ) (journal : List Entry) : Type 0 where
+  pub owned : AreOwned (owner_of workers partitions) (history_of journal)
+  pub ascend : (worker : ℕ) → AllPairs (λ earlier later. earlier < later) (begun_in (entries_of worker journal))
+  pub ended : (task : ℕ) → ends (history_of journal) task ≡ begins (history_of journal) task
 
--- the task runs, it knows what it holds, and there is room in its journal for this many entries beside its end
-pub record IsReady (task : LoneTask) (entries : ℕ) : Type 0 where
-  pub running : IsRunning task.setup task.state.history
-  pub same : task.state.setup ≡ task.setup
-  pub held_is : task.held ≡ held_in task
-  pub spare : entries ≤ task.state.spare
-  pub room_fits : task.room ≤ held_in task
+-- each task was begun
+abbrev pub BeginsAll : ℕ → List Entry → Type 0
+BeginsAll partitions journal = (task : ℕ) → task ≤ partitions → begins (history_of journal) task ≡ 1
 
--- a refusal for want of room tells what was missing, what the task holds and the floor; the newest attempt shows it
-pub record TellsNoRoom (setup : Sizes) (history : History) (asked holds floor : ℕ) : Type 0 where
-  pub holds_is : holds ≡ held history 0
-  pub floor_is : floor ≡ floor_of setup
-  pub passes : setup.maximum < asked + holds
-  pub short : FellShort history asked
-
-abbrev pub IsTold : Sizes → History → TaskFault → Type 0
-IsTold setup history (NoRoom asked holds floor) = TellsNoRoom setup history asked holds floor
-IsTold setup history NoMemory = Unit {0}
-
--- the same after the task's end, which freed what it held
-pub record EndsNoRoom (setup : Sizes) (history : History) (asked holds floor : ℕ) : Type 0 where
-  pub end_is : newest_end history ≡ Some holds
-  pub floor_is : floor ≡ floor_of setup
-  pub passes : setup.maximum < asked + holds
-  pub short : FellShort history asked
-
-abbrev pub EndsTold : Sizes → History → TaskFault → Type 0
-EndsTold setup history (NoRoom asked holds floor) = EndsNoRoom setup history asked holds floor
-EndsTold setup history NoMemory = Unit {0}
-
--- a run's journal: that of the task, from begin to end, or none where it never began
-abbrev pub LeavesJournal : Sizes → List Entry → Type 0
-LeavesJournal setup journal = (journal ≡ []) ⊎ HasRun setup (history_of journal)
-
--- want of room comes only where this many bytes pass what there is
-abbrev pub Passes : ℕ → ℕ → TaskFault → Type 0
-Passes maximum bytes (NoRoom asked holds floor) = maximum < bytes
-Passes maximum bytes NoMemory = Unit {0}
+-- want of room in the pool, by what the journal has of some worker: the last attempt of a task was granted less than it asked,
+-- and less than was asked for; and its end freed what it held
+pub record ShowsShort (pool : Sizes) (journal : List Entry) (asked held floor : ℕ) : Type 0 where
+  pub worker : ℕ
+  pub task : ℕ
+  pub shows : ShowsNoRoom pool (history_of (entries_of worker journal)) task asked held floor

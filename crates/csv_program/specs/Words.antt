@@ -6,7 +6,6 @@ use Rattle.std.specs.List.{list_all}
 use Rattle.std.specs.Str.{bytes_eq}
 use Rattle.std.specs.Str.Parse.{digits_value}
 use Rattle.pool_ledger.specs.Sizes.{Sizes, sizes_of}
-use Rattle.csv_program.specs.Queries.{Query, query_of}
 
 -- the pool of 1 GiB of heap, of which 300 MiB are reserved, and 600 thousandths of the rest, for four workers
 -- (Spark: the reserved memory, spark.memory.fraction and spark.memory.storageFraction)
@@ -28,19 +27,14 @@ is_heap text = is_decimal text && (nat_le 1 (digits_value 10 text) && nat_le (di
 abbrev pub heap_of : List ℕ → Option ℕ
 heap_of text = if is_heap text then Some (digits_value 10 text) else None
 
--- what words ask for
+-- what words ask for: the job of a text, in a pool of these sizes
 pub data Asked : Type 0 where
   NoWords : Asked
-  NoJob : Asked
-  Grouping : (pool : Sizes) (query : Query) → Asked
-
-abbrev pub asked_query : Sizes → Option Query → Asked
-asked_query pool None = NoJob
-asked_query pool (Some query) = Grouping pool query
+  Asks : (pool : Sizes) (text : List ℕ) → Asked
 
 abbrev pub asked_with : Option ℕ → List ℕ → Asked
 asked_with None text = NoWords
-asked_with (Some heap) text = asked_query (pool_with heap) (query_of text)
+asked_with (Some heap) text = Asks (pool_with heap) text
 
 -- the words behind this one
 unfoldable pub behind_word : List ℕ → List (List ℕ) → Option (List (List ℕ))
@@ -78,7 +72,7 @@ only_word (first ∷ second ∷ rest) = None
 
 abbrev pub asked_by : Option (List ℕ) → List (List ℕ) → Asked
 asked_by None words = asked_options (behind_options words)
-asked_by (Some text) words = asked_query default_pool (query_of text)
+asked_by (Some text) words = Asks default_pool text
 
 -- the words behind `run`
 abbrev pub asked_behind : List (List ℕ) → Asked

@@ -1,17 +1,14 @@
-//! Grouping queries over one CSV input, in one task of Spark's unified memory manager.
+//! Grouping and ordering queries over one CSV input, in tasks of Spark's unified memory manager.
 #![tactic(auto)]
 
-mod answer;
-mod grouping;
-mod groups;
-mod kept;
-mod landing;
-mod length;
-mod number;
+mod consumers;
+mod input;
+mod job;
 mod outcome;
+mod pool;
 mod query;
+mod spill;
 mod table;
-mod task;
 #[cfg(test)]
 mod tests;
 mod top;
@@ -19,11 +16,11 @@ mod words;
 
 use byte_io::{StdSink, StdSource};
 use outcome::Status;
-use std::alloc::Global;
+use spill::prepare;
+use std::alloc::{AllocError, Global};
+use std::fmt::Display;
 use std::process::ExitCode;
 use std::rt::Env;
-use std::sync::Wait;
-use std::thread::Threads;
 use std::{env, io};
 use top::run;
 
@@ -40,35 +37,48 @@ fn words_of_call(rt: &(impl Env + AllocGlobal)) -> Result<Vec<String>, Status> {
 }
 
 // The words as texts.
-fn texts<'a>(alloc: Global, words: &'a [String]) -> Result<Vec<&'a str>, Status> {
+fn texts<'a>(alloc: Global, words: &'a [String]) -> Result<Vec<&'a str>, AllocError> {
     let mut texts = Vec::new(alloc);
     for word in words {
-        if texts.push(word.as_str()).is_err() {
-            return Err(Status::NoMemory);
-        }
+        texts.push(word.as_str())?;
     }
     Ok(texts)
 }
 
-// Runs what the process was called with, on its real input and output.
-fn run_process<R: Env + Input + Print + AllocGlobal + Threads + Wait + Sync>(
-    rt: &R,
-) -> Result<Status, Status> {
-    let words = words_of_call(rt)?;
-    let texts = texts(rt.alloc(), &words)?;
-    let mut input = StdSource::new(rt.reader());
-    let mut output = StdSink::new(io::writer(rt));
-    Ok(run(rt, rt.alloc(), &texts, &mut input, &mut output).status)
+// The process' end with a number, and the text that tells it.
+fn end_with(rt: &impl Eprint, number: u8, text: &impl Display) -> ExitCode {
+    if number != 0 {
+        // Where standard error can't be written, the process' status still tells.
+        let _ = eprintln!(rt; "{text}");
+    }
+    ExitCode::from(number)
 }
 
 fn main(rt: HostRuntime) -> ExitCode {
-    let status = match run_process(&rt) {
-        Ok(status) => status,
-        Err(status) => status,
+    let words = match words_of_call(&rt) {
+        Ok(words) => words,
+        Err(status) => return end_with(&rt, status.number(), &status),
     };
-    if status != Status::Done {
-        // Where standard error can't be written, the process' status still tells.
-        let _ = eprintln!(rt; "{status}");
-    }
-    ExitCode::from(status.number())
+    let Ok(texts) = texts(rt.alloc(), &words) else {
+        let status = Status::NoMemory;
+        return end_with(&rt, status.number(), &status);
+    };
+    // The folder is this process' own until its end.
+    let (mut posts, store, _lock) = match prepare(&rt, &texts) {
+        Ok(made) => made,
+        Err(fault) => return end_with(&rt, fault.number(), &fault),
+    };
+    let mut input = StdSource::new(rt.reader());
+    let mut output = StdSink::new(io::writer(&rt));
+    let status = run(
+        &rt,
+        rt.alloc(),
+        &texts,
+        &mut input,
+        &mut output,
+        &mut posts,
+        store,
+    )
+    .status;
+    end_with(&rt, status.number(), &status)
 }

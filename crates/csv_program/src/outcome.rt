@@ -1,43 +1,92 @@
-ghost use Rattle.std.specs.Prelude.{◌≡◌};
+//! How a run ended, and what it leaves.
+
+ghost use Rattle.std.specs.Prelude.{◌≡◌, [], None};
 ghost use Rattle.csv_program.specs.Statuses.{number_of};
 
+use aggregate::Key;
+use item_lists::Name;
 use pool_ledger::{Journal, Setup};
+use std::alloc::Global;
 use thiserror::Error;
 
-/// How a run ended. The texts are those on standard error; after `Done` there is none.
-#[derive(Clone, Copy, Debug, PartialEq, Eq, Error)]
+/// How a run ended. The texts are those on standard error; after `Done` there is none. Rows are numbered from 1, and the header
+/// is row 0; columns and queries are numbered from 0.
+#[derive(Debug, Drop, Error)]
 pub enum Status {
-    /// The source was read to its end, and the table is whole.
+    /// The source was read to its end, and the output is whole.
     #[error("")]
     Done,
-    /// The words are none that `run` takes.
+    /// The words are none that `run` takes, or there are fewer posts than workers.
     #[error("usage: run [options] JOB, plan JOB, audit, trial [options] N")]
     BadWords,
     /// The job isn't in the job language, from this byte on.
     #[error("job: error at byte {place}")]
-    BadJob { place: u32 },
+    BadJob {
+        place: u32,
+    },
     /// The input has no record.
     #[error("input has no header")]
     NoHeader,
-    /// The field of this row, from 1, and column, from 0, is no number.
+    /// The header lacks this column, the first that it lacks in the order of the job's text.
+    #[error("no column {}", column.text())]
+    NoColumn {
+        column: Name,
+    },
+    /// The row hasn't as many fields as the header.
+    #[error("row {row}: wrong number of fields")]
+    Ragged {
+        row: u64,
+    },
+    /// The row has over 1,024 fields, or over 65,536 bytes in its fields.
+    #[error("row {row}: too long")]
+    RowTooLong {
+        row: u64,
+    },
+    /// The field of a number column is no number.
     #[error("row {row} column {column}: not a number")]
-    BadNumber { row: u64, column: u32 },
-    /// The groups pass the pool: what was missing, what the task held, and what it could count on, in
-    /// bytes.
+    BadNumber {
+        row: u64,
+        column: u32,
+    },
+    /// There are more rows than may be.
+    #[error("too many rows")]
+    TooManyRows,
+    /// A number of this query's table leaves 64 bits, first for this key.
+    #[error("query {query}: a sum is too wide")]
+    SumTooWide {
+        query: u32,
+        key: Key,
+    },
+    /// The pool has too little, and nothing is left to spill: what had to be got, what the task held, and what it could count on,
+    /// in bytes.
     #[error("no room: asked {asked}, held {held}, floor {floor}")]
-    NoRoom { asked: u64, held: u64, floor: u64 },
+    NoRoom {
+        asked: u64,
+        held: u64,
+        floor: u64,
+    },
     /// A read of the input failed.
     #[error("input failed")]
     ReadFault,
     /// A write of the output failed.
     #[error("output failed")]
     WriteFault,
+    /// A call of the disk of this post failed.
+    #[error("disk of post {post} failed")]
+    DiskFault {
+        post: u32,
+    },
+    /// Of `kept` entries in a file of this post's disk, the one behind the first `found` isn't what was written.
+    #[error("disk of post {post} file {file}: {kept} entries kept, {found} found")]
+    Damaged {
+        post: u32,
+        file: u64,
+        kept: u64,
+        found: u64,
+    },
     /// There is too little memory.
     #[error("out of memory")]
     NoMemory,
-    /// The job or the input is of a form that isn't built yet.
-    #[error("not built yet")]
-    Unbuilt,
 }
 
 /// What a run leaves.
@@ -61,12 +110,31 @@ impl Status {
             Status::BadWords => 2,
             Status::BadJob { .. } => 3,
             Status::NoHeader => 5,
+            Status::NoColumn { .. } => 6,
+            Status::Ragged { .. } => 7,
+            Status::RowTooLong { .. } => 8,
             Status::BadNumber { .. } => 9,
+            Status::TooManyRows => 10,
+            Status::SumTooWide { .. } => 11,
             Status::NoRoom { .. } => 12,
             Status::ReadFault => 13,
             Status::WriteFault => 14,
+            Status::DiskFault { .. } => 16,
+            Status::Damaged { .. } => 17,
             Status::NoMemory => 18,
-            Status::Unbuilt => 19,
         }
+    }
+}
+
+/// What a run leaves where no pool was made.
+pub fn unpooled(alloc: Global, status: Status) -> Outcome
+    ensures status { result.status ≡ status }
+    ensures setup { result.setup ≡ None }
+    ensures journal { result.journal ≡ [] }
+{
+    Outcome {
+        status,
+        setup: None,
+        journal: Journal::new(alloc),
     }
 }

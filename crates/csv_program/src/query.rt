@@ -1,150 +1,131 @@
-ghost use Rattle.std.specs.Prelude.{◌≡◌, ◌≤◌, length, option_map};
-ghost use Rattle.std.specs.List.{list_all, list_any, prefix_len};
-ghost use Rattle.std.specs.Str.{bytes_eq};
-ghost use Rattle.csv_program.specs.Costs.{aggregate_count};
-ghost use Rattle.csv_program.specs.Queries.{ReadsQueries, in_word, is_column, is_reserved, is_word, query_of, starts_word, summed, told_of};
-ghost use Rattle.csv_program.specs.QueryViews.{query_seen, told_seen};
+//! A job of one query over a landed input.
 
-/// What is told of each group: the number of its rows, the sum of a column over them, or both.
-#[derive(Clone, Copy)]
-pub enum Told<'a> {
-    Count,
-    Sum(&'a [u8]),
-    CountAndSum(&'a [u8]),
-}
+ghost use Rattle.std.specs.Prelude.{◌≡◌, ◌≢◌, ◌⊎◌, ◌≤◌, ◌<◌, ◌+◌, ◌*◌, ◌-◌, ◌^◌, ℕ, All, List, [], None, Some, IfNone, IfSome, length, map};
+ghost use Rattle.std.specs.Io.KnownBytes.{Appends, Keeps};
+ghost use Rattle.byte_io.specs.Sinks.{AppendsPrefix};
+ghost use Rattle.fault_count.specs.Faults.{Rose};
+ghost use Rattle.pool_ledger.specs.Journal.{history_of};
+ghost use Rattle.pool_ledger.specs.Legal.{IsLegal};
+ghost use Rattle.job_plan.specs.Planning.{columns_of};
+ghost use Rattle.job_plan.specs.Plans.{form_in, kept_in, kind_at};
+ghost use Rattle.landing.specs.Landed.{AreChecked, AreLanded};
+ghost use Rattle.task_runner.specs.Consumers.{HasConsumers, KeepsConsumers, place_for};
+ghost use Rattle.task_runner.specs.Pass.{FeedsParts, states_at};
+ghost use Rattle.csv_program.specs.Endings.{EndsAs, ending_of_totals, part_rows, printed_in, totals_of};
+ghost use Rattle.csv_program.specs.Posts.{AllTell, post_faults, post_files};
+ghost use Rattle.csv_program.specs.Statuses.{IsCut, IsDamaged, IsDiskFault, IsJudged, IsNoRoom, IsOutside, MakesPool, WritesNothing};
+ghost use Rattle.csv_program.specs.Tasks.{BeginsAll, FollowsPlan, ShowsShort, owner_of};
+ghost use Rattle.csv_program.specs.Telling.{status_of_work};
 
-impl<'a> Told<'a> {
-    /// The name of the column that is summed.
-    pub fn summed(&self) -> Option<&'a [u8]>
-        ensures { option_map (λ name. name.now) result ≡ summed (told_seen self.now) }
-    {
-        match *self {
-            Told::Count => None,
-            Told::Sum(column) => Some(column),
-            Told::CountAndSum(column) => Some(column),
-        }
+use crate::outcome::{Outcome, Status, unpooled};
+use crate::pool::run_tasks;
+use crate::table::print_answer;
+use byte_io::Sink;
+use consumer_trait::Consumer;
+use job_answer::short_shapes_are_told;
+use job_plan::Plan;
+use memory_lock::Basis;
+use pool_ledger::Setup;
+use run_file::Run;
+use spill_disk::Disk;
+use std::alloc::Global;
+use std::sync::Wait;
+use task_runner::{Post, WorkFault};
+
+// The status that tells a fault of a task.
+fn work_status(fault: WorkFault) -> Status
+    ensures { result ≡ status_of_work fault }
+{
+    match fault {
+        WorkFault::NoRoom { asked, held, floor } => Status::NoRoom { asked, held, floor },
+        WorkFault::DiskFault { post } => Status::DiskFault { post },
+        WorkFault::Damaged {
+            post,
+            file,
+            kept,
+            found,
+        } => Status::Damaged {
+            post,
+            file,
+            kept,
+            found,
+        },
+        WorkFault::NoMemory => Status::NoMemory,
     }
 }
 
-impl Told<'_> {
-    /// How many aggregates are told.
-    pub fn aggregate_count(&self) -> u64
-        ensures { result ≡ aggregate_count (told_seen self.now) }
-    {
-        match self {
-            Told::Count => 1,
-            Told::Sum(_) => 1,
-            Told::CountAndSum(_) => 2,
-        }
-    }
-}
+/// Does the tasks of a plan of one query over landed partitions, in a pool of these sizes, checks the sums, and prints the table.
+pub fn run_query<K: Disk, D: Disk, C: Consumer, W: Sink, B: Basis, R: Wait + Sync>(
+    rt: &R,
+    alloc: Global,
+    pool: Setup,
+    store: K,
+    plan: &Plan,
+    parts: &[Run],
+    posts: &mut Vec<Post<D, C>>,
+    output: &mut W,
+) -> Outcome
+    requires basis { pool ≡ B.sizes }
+    requires owner { (task : ℕ) → B.owner task ≡ owner_of pool.workers (length parts.now) task }
+    requires rows { (dataset part : ℕ) → B.rows dataset part ≡ None }
+    requires some { 1 ≤ pool.workers }
+    requires posts { pool.workers ≤ length posts.old.items }
+    requires few_posts { length posts.old.items < 2 ^ 32 - 1 }
+    requires few { length parts.now ≤ 10000000 }
+    requires short { All (λ run. run.greatest ≤ 36 + 4 * columns_of (form_in plan.now) + 65536) parts.now }
+    requires one { length (kept_in plan.now) ≡ 1 }
+    requires consumers { All (λ post. HasConsumers (map C.state post.consumers.items)) posts.old.items }
+    ensures ending { (rows : List (List (List ℕ))) → AllTell pool.workers (post_files D.files posts.old) →
+        AreLanded (post_files D.files posts.old) part_rows pool.workers parts.now rows → AreChecked (form_in plan.now) rows →
+        IsOutside result.status ⊎ EndsAs (ending_of_totals plan.now (totals_of plan.now rows)) result.status }
 
-/// A grouping query, as it is lent from a job's text.
-#[derive(Clone, Copy)]
-pub struct Query<'a> {
-    pub column: &'a [u8],
-    pub told: Told<'a>,
-}
+    // What is written.
+    ensures done { (rows : List (List (List ℕ))) → AllTell pool.workers (post_files D.files posts.old) →
+        AreLanded (post_files D.files posts.old) part_rows pool.workers parts.now rows → AreChecked (form_in plan.now) rows →
+        result.status ≡ Status.Done →
+        Appends (W.written output.old) (W.written output.new) (printed_in (ending_of_totals plan.now (totals_of plan.now rows))) }
+    ensures prefix { (rows : List (List (List ℕ))) → AllTell pool.workers (post_files D.files posts.old) →
+        AreLanded (post_files D.files posts.old) part_rows pool.workers parts.now rows → AreChecked (form_in plan.now) rows →
+        IsCut result.status →
+        AppendsPrefix (W.written output.old) (W.written output.new) (printed_in (ending_of_totals plan.now (totals_of plan.now rows))) }
+    ensures nothing { WritesNothing result.status → Keeps (W.written output.old) (W.written output.new) }
 
-fn is_word_start(byte: u8) -> bool
-    ensures { result ≡ starts_word byte }
+    // The causes of statuses.
+    ensures read { result.status ≢ Status.ReadFault }
+    ensures write { result.status ≡ Status.WriteFault → Rose (W.faults output.old) (W.faults output.new) }
+    ensures disk { IsDiskFault result.status (λ post. Rose (post_faults D.faults posts.old post) (post_faults D.faults posts.new post)) }
+    ensures damaged { IsDamaged result.status (λ kept found. found < kept) }
+    ensures no_room { IsNoRoom result.status (ShowsShort pool result.journal) }
+    ensures judged { IsJudged result.status }
+
+    // The pool and its journal.
+    ensures made { MakesPool result.status → result.setup ≡ Some pool }
+    ensures setup { IfSome result.setup (λ setup. setup ≡ pool) }
+    ensures none { IfNone result.setup (result.journal ≡ []) }
+    ensures legal { IfSome result.setup (λ setup. IsLegal pool (history_of result.journal)) }
+    ensures tasks { FollowsPlan pool.workers (length parts.now) result.journal }
+    ensures all { result.status ≡ Status.Done → BeginsAll (length parts.now) result.journal }
+
+    // The posts.
+    ensures fed { result.status ≡ Status.Done → (worker : ℕ) → worker < pool.workers → FeedsParts (states_at C.state posts.old.items worker)
+        (states_at C.state posts.new.items worker) (place_for (kind_at plan.now 0)) parts.now pool.workers worker }
+    ensures others { (place : ℕ) → pool.workers ≤ place
+        → states_at C.state posts.new.items place ≡ states_at C.state posts.old.items place }
+    ensures consumers { (place : ℕ) → KeepsConsumers (states_at C.state posts.old.items place) (states_at C.state posts.new.items place) }
+    ensures later { (place : ℕ) → post_faults D.faults posts.old place ≤ post_faults D.faults posts.new place }
 {
-    (65..=90).contains(&byte) || (97..=122).contains(&byte) || byte == 95
-}
-
-fn is_word_byte(byte: u8) -> bool
-    ensures { result ≡ in_word byte }
-{
-    is_word_start(byte) || (48..=57).contains(&byte)
-}
-
-fn are_word_bytes(bytes: &[u8]) -> bool
-    ensures { result ≡ list_all in_word bytes.now }
-{
-    bytes.iter().all(|byte| is_word_byte(*byte))
-}
-
-fn is_among(word: &[u8], names: &[&[u8]]) -> bool
-    ensures { result ≡ list_any (λ name. bytes_eq word.now name.now) names.now }
-{
-    names.iter().any(|name| word == *name)
-}
-
-// Whether a word may name no column, since the job language uses it.
-fn names_no_column(word: &[u8]) -> bool
-    ensures { result ≡ is_reserved word.now }
-{
-    is_among(
-        word,
-        &[
-            b"let", b"where", b"keep", b"memory", b"disk", b"group", b"order", b"count", b"sum",
-            b"min", b"max", b"from", b"number", b"down", b"and", b"or", b"not", b"input",
-        ],
-    )
-}
-
-fn is_column_name(name: &[u8]) -> bool
-    ensures { result ≡ is_column name.now }
-{
-    let Some((first, rest)) = name.split_first() else {
-        return false;
+    short_shapes_are_told();
+    let (answer, journal) = run_tasks::<K, D, C, B, R>(rt, alloc, pool, store, plan, parts, posts);
+    let Some(journal) = journal else {
+        return unpooled(alloc, Status::NoMemory);
     };
-    is_word_start(*first) && are_word_bytes(rest) && name.len() <= 1024 && !names_no_column(name)
-}
-
-// How many bytes of a word come first.
-fn word_len(text: &[u8]) -> usize
-    ensures count { result ≡ prefix_len in_word text.now }
-    ensures within { result ≤ length text.now }
-{
-    for (i, byte) in text.iter().enumerate() {
-        if !is_word_byte(*byte) {
-            return i;
-        }
-    }
-    text.len()
-}
-
-// What is told of each group, by the text behind the column.
-fn told_in(text: &[u8]) -> Option<Told<'_>>
-    ensures { option_map told_seen result ≡ told_of text.now }
-{
-    if let Some(rest) = text.strip_prefix(b"count") {
-        if rest.is_empty() {
-            return Some(Told::Count);
-        }
-        let column = rest.strip_prefix(b", sum ")?;
-        return if is_column_name(column) {
-            Some(Told::CountAndSum(column))
-        } else {
-            None
-        };
-    }
-    let column = text.strip_prefix(b"sum ")?;
-    if is_column_name(column) {
-        Some(Told::Sum(column))
-    } else {
-        None
+    let status = match answer {
+        Ok(answer) => print_answer(alloc, posts, plan, answer.as_ref(), output),
+        Err(fault) => work_status(fault),
+    };
+    Outcome {
+        status,
+        setup: Some(pool),
+        journal,
     }
 }
-
-/// The query of which a text is the printed form.
-pub fn query_in(text: &[u8]) -> Option<Query<'_>>
-    ensures { option_map query_seen result ≡ query_of text.now }
-{
-    let rest = text.strip_prefix(b"group ")?;
-    let size = word_len(rest);
-    let told = told_in(rest[size..].strip_prefix(b": ")?)?;
-    let column = &rest[..size];
-    if is_column_name(column) {
-        Some(Query { column, told })
-    } else {
-        None
-    }
-}
-
-/// The query that is found in a text is the one of which it is the printed form, and no other text has
-/// any.
-pub fn queries_are_read()
-    ensures { ReadsQueries }
-{}

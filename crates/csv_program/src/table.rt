@@ -1,149 +1,176 @@
-ghost use Rattle.std.specs.Prelude.{◌≡◌, ◌++◌, codes, not, false, IfOk, OnErr, OnOk, is_some, map};
-ghost use Rattle.std.specs.Io.KnownBytes.{Appends};
+//! The table of a run's one query.
+
+ghost use Rattle.std.specs.Prelude.{◌≡◌, ◌≢◌, ◌⊎◌, ◌≤◌, ◌<◌, ◌-◌, ◌^◌, ℕ, All, List, None, IfOk, IfSome, is_some, length, map, option_map};
+ghost use Rattle.std.specs.Io.KnownBytes.{Appends, Keeps};
+ghost use Rattle.aggregate.specs.Totals.{Entry};
 ghost use Rattle.byte_io.specs.Sinks.{AppendsPrefix};
-ghost use Rattle.fault_count.specs.Faults.{HasCauseAt};
-ghost use Rattle.aggregate.specs.Partial.{partial_of};
-ghost use Rattle.std.specs.List.{flat_map, list_any};
-ghost use Rattle.csv_program.specs.Numbers.{fits_i64};
-ghost use Rattle.csv_program.specs.Answer.{is_narrow, is_too_wide, table_text, told_numbers};
-ghost use Rattle.csv_program.specs.Groups.{groups_seen};
-ghost use Rattle.csv_program.specs.QueryViews.{query_seen, told_seen};
-ghost use Rattle.csv_program.specs.Tables.{aggregates_of, head_of, put_group};
+ghost use Rattle.fault_count.specs.Faults.{Rose};
+ghost use Rattle.job_answer.specs.Laws.{wide_total};
+ghost use Rattle.job_plan.specs.Plans.{kept_at, kept_in, kind_at};
+ghost use Rattle.job_plan.specs.Telling.{IsTold};
+ghost use Rattle.result_table.specs.Results.{HasResult};
+ghost use Rattle.run_file.specs.Causes.{NotDamaged};
+ghost use Rattle.run_file.specs.Shelved.{LeavesFiles, faults_on, files_on};
+ghost use Rattle.run_merge.specs.Causes.{FindsFewer, HasCauseAmong};
+ghost use Rattle.csv_program.specs.Endings.{EndsAs, ending_of_totals, printed_in};
+ghost use Rattle.csv_program.specs.Posts.{post_faults, post_files};
+ghost use Rattle.csv_program.specs.Telling.{status_of_print, status_of_run};
+ghost use Rattle.csv_program.specs.Statuses.{IsCut, IsDamaged, IsDiskFault, IsJudged, IsNoRoom, IsOutside, WritesNothing};
 
-use crate::groups::{Group, Totals};
-use crate::query::{Query, Told};
-use aggregate::{Agg, AggList, Key, put_field, put_partial};
-use byte_io::{Sink, SinkError};
-use result_table::{print_list, put_rows_are_printable, rows_say_what_was_put};
-use std::alloc::{AllocError, Global};
+use crate::outcome::Status;
+use aggregate::{Key, Kind};
+use byte_io::Sink;
+use consumer_trait::Consumer;
+use job_plan::Plan;
+use result_table::{PrintFault, print_table, too_wide};
+use run_file::{Run, RunFault};
+use spill_disk::{Disk, Shelf};
+use std::alloc::Global;
+use task_runner::{Post, swap_consumers, take_consumers};
 
-// Whether a number is in the range of `i64`.
-fn fits(number: i128) -> bool
-    ensures { result ≡ fits_i64 number }
-{
-    i64::try_from(number).is_ok()
-}
-
-impl Totals {
-    // Whether each number that is told of the group is in the range of `i64`.
-    fn is_narrow(&self, told: &Told<'_>) -> bool
-        ensures { result ≡ is_narrow (told_seen told.now) self.now }
-    {
-        match told {
-            Told::Count => fits(i128::from(self.count)),
-            Told::Sum(_) => fits(self.sum),
-            Told::CountAndSum(_) => fits(i128::from(self.count)) && fits(self.sum),
-        }
-    }
-}
-
-fn any_is_wide(told: &Told<'_>, groups: &[Group]) -> bool
-    ensures { result ≡ list_any (λ group. not (is_narrow (told_seen told.now) group.totals)) groups.now }
-{
-    groups.iter().any(|group| !group.totals.is_narrow(told))
-}
-
-/// Whether some number that is told leaves the range of `i64`.
-pub fn is_wide(told: &Told<'_>, groups: &[Group]) -> bool
-    ensures { result ≡ is_too_wide (told_seen told.now) (groups_seen groups.now) }
-{
-    any_is_wide(told, groups)
-}
-
-// The value of a group: 16 bytes for each number that is told.
-fn value_of(alloc: Global, told: &Told<'_>, totals: &Totals) -> Result<Vec<u8>, AllocError>
-    ensures { IfOk result (λ value. value.items ≡ flat_map partial_of (told_numbers (told_seen told.now) totals.now)) }
-{
-    let mut value = Vec::new(alloc);
-    match told {
-        Told::Count => put_partial(&mut value, i128::from(totals.count))?,
-        Told::Sum(_) => put_partial(&mut value, totals.sum)?,
-        Told::CountAndSum(_) => {
-            put_partial(&mut value, i128::from(totals.count))?;
-            put_partial(&mut value, totals.sum)?;
-        }
-    }
-    Ok(value)
-}
-
-// A group as a key and a value.
-fn row_of(alloc: Global, told: &Told<'_>, group: &Group) -> Result<(Key, Key), AllocError>
-    ensures { IfOk result (λ row. row ≡ put_group (told_seen told.now) (group.now.key.items, group.now.totals)) }
-{
-    let mut key = Vec::new(alloc);
-    put_field(&mut key, &group.key, false)?;
-    let value = value_of(alloc, told, &group.totals)?;
-    Ok((Key::of(key), Key::of(value)))
-}
-
-fn rows_of(alloc: Global, told: &Told<'_>, groups: &[Group]) -> Result<Vec<(Key, Key)>, AllocError>
-    ensures { IfOk result (λ rows. rows.items ≡ map (put_group (told_seen told.now)) (groups_seen groups.now)) }
-{
-    let mut rows = Vec::new(alloc);
-    for group in groups {
-        rows.push(row_of(alloc, told, group)?)?;
-    }
-    Ok(rows)
-}
-
-fn sum_name(alloc: Global, column: &[u8]) -> Result<Key, AllocError>
-    ensures { IfOk result (λ name. name ≡ codes "sum_" ++ column.now) }
-{
-    let mut name = Vec::from_slice(alloc, b"sum_")?;
-    name.extend_from_slice(column)?;
-    Ok(Key::of(name))
-}
-
-// The names of the table's columns.
-fn head(alloc: Global, query: &Query<'_>) -> Result<Vec<Key>, AllocError>
-    ensures { IfOk result (λ names. names.items ≡ head_of (query_seen query.now)) }
-{
-    let mut names = Vec::new(alloc);
-    names.push(Key::of(query.column.to_vec(alloc)?))?;
-    match query.told {
-        Told::Count => names.push(Key::of(b"count".to_vec(alloc)?))?,
-        Told::Sum(column) => names.push(sum_name(alloc, column)?)?,
-        Told::CountAndSum(column) => {
-            names.push(Key::of(b"count".to_vec(alloc)?))?;
-            names.push(sum_name(alloc, column)?)?;
-        }
-    }
-    Ok(names)
-}
-
-fn aggregates(alloc: Global, told: &Told<'_>) -> Result<AggList, AllocError>
-    ensures { IfOk result (λ aggs. aggs ≡ aggregates_of (told_seen told.now)) }
-{
-    match told {
-        Told::Count => AggList::of(alloc, &[Agg::Count]),
-        Told::Sum(_) => AggList::of(alloc, &[Agg::Sum]),
-        Told::CountAndSum(_) => AggList::of(alloc, &[Agg::Count, Agg::Sum]),
-    }
-}
-
-/// Prints the table of a query over these groups. After an `Err` a part of it, from the front, was
-/// written.
-pub fn print_groups<W: Sink>(
+// The key of the first group with a number that leaves 64 bits; an order has none.
+fn find_wide<D: Disk, H: Shelf<D>>(
     alloc: Global,
-    query: &Query<'_>,
-    groups: &[Group],
-    output: &mut W,
-) -> Result<(), SinkError>
-    requires { is_too_wide (query_seen query.now).told (groups_seen groups.now) ≡ false }
-    ensures ok { OnOk result (Appends (W.written output.old) (W.written output.new) (table_text (query_seen query.now) (groups_seen groups.now))) }
-    ensures err { OnErr result (AppendsPrefix (W.written output.old) (W.written output.new) (table_text (query_seen query.now) (groups_seen groups.now))) }
-    ensures cause { HasCauseAt SinkError.Failed (W.faults output.old) (W.faults output.new) result }
+    shelf: &mut H,
+    plan: &Plan,
+    answer: Option<&Run>,
+) -> Result<Option<Key>, RunFault>
+    requires one { length (kept_in plan.now) ≡ 1 }
+    requires there { IfSome (option_map (λ run. run.now) answer) (λ run. run.disk < H.count_of shelf.old) }
+    ensures ok { IfOk result (λ key. (entries : List Entry) →
+        HasResult (files_on H.disk_of D.files shelf.old) (kind_at plan.now 0) (option_map (λ run. run.now) answer.entry) entries →
+        key ≡ option_map (λ entry. entry.key) (wide_total (kept_at plan.now 0) entries)) }
+    ensures undamaged { (entries : List Entry) →
+        HasResult (files_on H.disk_of D.files shelf.old) (kind_at plan.now 0) (option_map (λ run. run.now) answer.entry) entries →
+        NotDamaged result }
+    ensures fewer { FindsFewer result }
+    ensures cause { HasCauseAmong (faults_on H.disk_of D.faults shelf.old) (faults_on H.disk_of D.faults shelf.new) result }
+    ensures shelf { LeavesFiles H.count_of H.named H.disk_of D.files D.faults shelf.old shelf.new }
 {
-    let Ok(head) = head(alloc, query) else {
-        return Err(SinkError::NoMemory);
+    match plan.kind(0) {
+        Kind::Group(aggs) => too_wide(alloc, shelf, answer, aggs),
+        Kind::Order => Ok(None),
+    }
+}
+
+// The status that tells a fault of a run.
+fn run_status(fault: RunFault) -> Status
+    ensures { result ≡ status_of_run fault }
+{
+    match fault {
+        RunFault::DiskFault { disk } => Status::DiskFault { post: disk },
+        RunFault::Damaged {
+            disk,
+            file,
+            kept,
+            found,
+        } => Status::Damaged {
+            post: disk,
+            file,
+            kept,
+            found,
+        },
+        RunFault::NoMemory => Status::NoMemory,
+    }
+}
+
+// The status that tells a fault of a table.
+fn print_status(fault: PrintFault) -> Status
+    ensures { result ≡ status_of_print fault }
+{
+    match fault {
+        PrintFault::WriteFault => Status::WriteFault,
+        PrintFault::DiskFault { disk } => Status::DiskFault { post: disk },
+        PrintFault::Damaged {
+            disk,
+            file,
+            kept,
+            found,
+        } => Status::Damaged {
+            post: disk,
+            file,
+            kept,
+            found,
+        },
+        PrintFault::NoMemory => Status::NoMemory,
+    }
+}
+
+// Checks the sums of the result, and prints the table where none is too wide.
+fn check_and_print<D: Disk, H: Shelf<D>, W: Sink>(
+    alloc: Global,
+    shelf: &mut H,
+    plan: &Plan,
+    answer: Option<&Run>,
+    output: &mut W,
+) -> Status
+    requires one { length (kept_in plan.now) ≡ 1 }
+    requires there { IfSome (option_map (λ run. run.now) answer) (λ run. run.disk < H.count_of shelf.old) }
+    ensures ending { (entries : List Entry) →
+        HasResult (files_on H.disk_of D.files shelf.old) (kind_at plan.now 0) (option_map (λ run. run.now) answer.entry) entries →
+        (wide_total (kept_at plan.now 0) entries ≡ None → All (IsTold (kept_at plan.now 0)) entries) →
+        IsOutside result ⊎ EndsAs (ending_of_totals plan.now entries) result }
+    ensures done { (entries : List Entry) →
+        HasResult (files_on H.disk_of D.files shelf.old) (kind_at plan.now 0) (option_map (λ run. run.now) answer.entry) entries →
+        result ≡ Status.Done → Appends (W.written output.old) (W.written output.new) (printed_in (ending_of_totals plan.now entries)) }
+    ensures prefix { (entries : List Entry) →
+        HasResult (files_on H.disk_of D.files shelf.old) (kind_at plan.now 0) (option_map (λ run. run.now) answer.entry) entries →
+        IsCut result → AppendsPrefix (W.written output.old) (W.written output.new) (printed_in (ending_of_totals plan.now entries)) }
+    ensures nothing { WritesNothing result → Keeps (W.written output.old) (W.written output.new) }
+    ensures read { result ≢ Status.ReadFault }
+    ensures write { result ≡ Status.WriteFault → Rose (W.faults output.old) (W.faults output.new) }
+    ensures disk { IsDiskFault result (λ post. Rose (faults_on H.disk_of D.faults shelf.old post) (faults_on H.disk_of D.faults shelf.new post)) }
+    ensures damaged { IsDamaged result (λ kept found. found < kept) }
+    ensures no_room { IsNoRoom result (λ asked held floor. ⊥) }
+    ensures judged { IsJudged result }
+    ensures shelf { LeavesFiles H.count_of H.named H.disk_of D.files D.faults shelf.old shelf.new }
+{
+    match find_wide(alloc, shelf, plan, answer) {
+        Ok(None) => match print_table(alloc, shelf, answer, plan, 0, output) {
+            Ok(()) => Status::Done,
+            Err(fault) => print_status(fault),
+        },
+        Ok(Some(key)) => Status::SumTooWide { query: 0, key },
+        Err(fault) => run_status(fault),
+    }
+}
+
+/// Checks the sums of a query's result on the disks of posts, and prints its table. Nothing is written before all sums are
+/// checked.
+pub fn print_answer<D: Disk, C: Consumer, W: Sink>(
+    alloc: Global,
+    posts: &mut Vec<Post<D, C>>,
+    plan: &Plan,
+    answer: Option<&Run>,
+    output: &mut W,
+) -> Status
+    requires one { length (kept_in plan.now) ≡ 1 }
+    requires there { IfSome (option_map (λ run. run.now) answer) (λ run. run.disk < length posts.old.items) }
+    requires few_posts { length posts.old.items < 2 ^ 32 - 1 }
+    ensures ending { (entries : List Entry) →
+        HasResult (post_files D.files posts.old) (kind_at plan.now 0) (option_map (λ run. run.now) answer.entry) entries →
+        (wide_total (kept_at plan.now 0) entries ≡ None → All (IsTold (kept_at plan.now 0)) entries) →
+        IsOutside result ⊎ EndsAs (ending_of_totals plan.now entries) result }
+    ensures done { (entries : List Entry) →
+        HasResult (post_files D.files posts.old) (kind_at plan.now 0) (option_map (λ run. run.now) answer.entry) entries →
+        result ≡ Status.Done → Appends (W.written output.old) (W.written output.new) (printed_in (ending_of_totals plan.now entries)) }
+    ensures prefix { (entries : List Entry) →
+        HasResult (post_files D.files posts.old) (kind_at plan.now 0) (option_map (λ run. run.now) answer.entry) entries →
+        IsCut result → AppendsPrefix (W.written output.old) (W.written output.new) (printed_in (ending_of_totals plan.now entries)) }
+    ensures nothing { WritesNothing result → Keeps (W.written output.old) (W.written output.new) }
+    ensures read { result ≢ Status.ReadFault }
+    ensures write { result ≡ Status.WriteFault → Rose (W.faults output.old) (W.faults output.new) }
+    ensures disk { IsDiskFault result (λ post. Rose (post_faults D.faults posts.old post) (post_faults D.faults posts.new post)) }
+    ensures damaged { IsDamaged result (λ kept found. found < kept) }
+    ensures no_room { IsNoRoom result (λ asked held floor. ⊥) }
+    ensures judged { IsJudged result }
+    ensures consumers { map (λ post. post.consumers) posts.new.items ≡ map (λ post. post.consumers) posts.old.items }
+    ensures later { (place : ℕ) → post_faults D.faults posts.old place ≤ post_faults D.faults posts.new place }
+{
+    let Ok(mut aside) = take_consumers(alloc, posts) else {
+        return Status::NoMemory;
     };
-    let Ok(rows) = rows_of(alloc, &query.told, groups) else {
-        return Err(SinkError::NoMemory);
-    };
-    let Ok(aggs) = aggregates(alloc, &query.told) else {
-        return Err(SinkError::NoMemory);
-    };
-    put_rows_are_printable();
-    rows_say_what_was_put();
-    print_list(alloc, &head, &rows, &aggs, output)
+    let status = check_and_print(alloc, posts, plan, answer, output);
+    swap_consumers(posts, &mut aside);
+    status
 }

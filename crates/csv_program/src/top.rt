@@ -1,242 +1,242 @@
-ghost use Rattle.std.specs.Prelude.{◌≡◌, ◌≢◌, ◌⊎◌, ◌≤◌, ◌<◌, ◌↔◌, ◌+◌, [], ℕ, List, None, Some, Err, IfNone, IfOk, IfSome, IsErrOf, IsSome, OnOk, map};
+//! The top call.
+
+ghost use Rattle.std.specs.Prelude.{◌≡◌, ◌≢◌, ◌⊎◌, ◌≤◌, ◌<◌, ◌↔◌, ◌-◌, ◌^◌, ℕ, All, [], List, None, Some, IfNone, IfSome, IsSome, length, map};
 ghost use Rattle.std.specs.Io.KnownBytes.{Appends, IsAtEnd, Keeps};
-ghost use Rattle.byte_io.specs.Rows.{rows_of};
 ghost use Rattle.byte_io.specs.Sinks.{AppendsPrefix};
 ghost use Rattle.fault_count.specs.Faults.{Rose};
-ghost use Rattle.pool_ledger.specs.History.{begins, ends};
+ghost use Rattle.job_text.specs.Jobs.{IsJob};
+ghost use Rattle.landing.specs.declared.fault.LandFault.{LandFault};
 ghost use Rattle.pool_ledger.specs.Journal.{history_of};
 ghost use Rattle.pool_ledger.specs.Legal.{IsLegal};
 ghost use Rattle.pool_laws.specs.SafeJournal.{IsSafeJournal};
-ghost use Rattle.csv_program.specs.Answer.{answer};
-ghost use Rattle.csv_program.specs.AskedViews.{asked_seen};
-ghost use Rattle.csv_program.specs.Endings.{EndsAs, ForGrouping, IsCut, IsJudged, IsNoRoom, IsOutside, MakesPool, WritesNothing, ending_of, ending_of_entries, ending_of_groups, ending_of_refusal, printed_in};
-ghost use Rattle.csv_program.specs.Grouping.{takes};
-ghost use Rattle.csv_program.specs.Groups.{groups_seen};
-ghost use Rattle.csv_program.specs.Kept.{IsWhole, kept_entries};
-ghost use Rattle.csv_program.specs.Landing.{Fields, Refused, Rows, entries_of, landed};
-ghost use Rattle.csv_program.specs.Numbers.{AllFit};
-ghost use Rattle.csv_program.specs.OneTask.{HasRun, IsOneTask};
-ghost use Rattle.csv_program.specs.QueryViews.{query_seen, told_seen};
-ghost use Rattle.csv_program.specs.Tasks.{EndsNoRoom, LeavesJournal};
-ghost use Rattle.csv_program.specs.Words.{NoJob, NoWords, asked};
-ghost use Rattle.csv_program.specs.declared.landing.Columns.{Columns};
-ghost use Rattle.csv_program.specs.declared.landing.Refusal.{Refusal};
+ghost use Rattle.task_runner.specs.Consumers.{HasConsumers, KeepsConsumers};
+ghost use Rattle.task_runner.specs.Pass.{states_at};
+ghost use Rattle.csv_program.specs.Calls.{ForJob, NoCall, NoJob, call_of};
+ghost use Rattle.csv_program.specs.Complete.{FailsNothing, GrantsAll, HasTasks};
+ghost use Rattle.csv_program.specs.Endings.{EndsAs, Prints, Refuses, ending_of, partitions_of, printed_in, rows_read, status_of};
+ghost use Rattle.csv_program.specs.Posts.{AllTell, FeedsRows, place_in, post_faults, post_files};
+ghost use Rattle.csv_program.specs.Statuses.{IsCut, IsDamaged, IsDiskFault, IsJudged, IsNoRoom, IsOutside, MakesPool, WritesNothing};
+ghost use Rattle.csv_program.specs.Tasks.{BeginsAll, FollowsPlan, ShowsShort};
 
-use crate::answer::answer_rows;
-use crate::groups::Group;
-use crate::kept::KeptRows;
-use crate::landing::{LandFault, Refusal, land};
-use crate::outcome::{Outcome, Status};
-use crate::query::Query;
-use crate::table::{is_wide, print_groups};
-use crate::task::TaskFault;
+use crate::input::land_on;
+use crate::job::read_job;
+use crate::outcome::{Outcome, Status, unpooled};
+use crate::query::run_query;
 use crate::words::{Asked, read_words};
-use byte_io::{Sink, SinkError, Source};
+use byte_io::{Sink, Source};
+use consumer_trait::Consumer;
+use job_answer::totals_tell_answers;
+use job_text::Job;
+use landing::LandFault;
 use pool_laws::legal_journals_are_safe;
-use pool_ledger::{Journal, Setup};
+use pool_ledger::Setup;
+use spill_disk::Disk;
 use std::alloc::Global;
 use std::marker::Brand;
 use std::sync::Wait;
 use std::thread::Threads;
+use task_runner::Post;
 
-// Reads the whole input of a query.
-fn read_rows<S: Source>(
-    alloc: Global,
-    query: &Query<'_>,
-    input: &mut S,
-) -> Result<KeptRows, LandFault>
-    ensures ok { IfOk result (λ kept. IfSome (S.left input.old) (λ bytes. (columns : Columns) × (rows : List Fields)
-        × (landed (query_seen query.now) (rows_of bytes) ≡ Rows columns rows) × (kept_entries kept ≡ entries_of columns rows))) }
-    ensures whole { IfOk result IsWhole }
-    ensures refused { (why : Refusal) → IsErrOf result (LandFault.Refused why) → IfSome (S.left input.old) (λ bytes. landed (query_seen query.now) (rows_of bytes) ≡ Refused why) }
-    ensures end { OnOk result (IsAtEnd (S.left input.new)) }
-    ensures fault { IsErrOf result LandFault.ReadFault → Rose (S.faults input.old) (S.faults input.new) }
+// The status that tells why an input couldn't be landed.
+fn land_status(fault: LandFault) -> Status
+    ensures { result ≡ status_of fault }
 {
-    let (kept, _last) = land::<&mut S, Brand>(alloc, input, query);
-    kept
-}
-
-// The status that tells a refusal of the input.
-fn refusal_status(why: Refusal) -> Status
-    ensures ending { EndsAs (ending_of_refusal why) result }
-    ensures nothing { WritesNothing result }
-    ensures judged { IsJudged result }
-{
-    match why {
-        Refusal::NoHeader => Status::NoHeader,
-        Refusal::BadNumber { row, column } => Status::BadNumber { row, column },
-        Refusal::NoColumn => Status::Unbuilt,
-        Refusal::TooManyRows => Status::Unbuilt,
-        Refusal::RowTooLong { .. } => Status::Unbuilt,
-        Refusal::Ragged { .. } => Status::Unbuilt,
+    match fault {
+        LandFault::NoHeader => Status::NoHeader,
+        LandFault::NoColumn { column } => Status::NoColumn { column },
+        LandFault::Ragged { row } => Status::Ragged { row },
+        LandFault::RowTooLong { row } => Status::RowTooLong { row },
+        LandFault::BadNumber { row, column } => Status::BadNumber { row, column },
+        LandFault::TooManyRows => Status::TooManyRows,
+        LandFault::ReadFault => Status::ReadFault,
+        LandFault::DiskFault { disk } => Status::DiskFault { post: disk },
+        LandFault::NoMemory => Status::NoMemory,
     }
 }
 
-// Prints the table of these groups, where their numbers fit.
-fn print_answer<W: Sink>(
-    alloc: Global,
-    query: &Query<'_>,
-    groups: &[Group],
-    output: &mut W,
-) -> Status
-    ensures ending { IsOutside result ⊎ EndsAs (ending_of_groups (query_seen query.now) (groups_seen groups.now)) result }
-    ensures done { result ≡ Status.Done → Appends (W.written output.old) (W.written output.new) (printed_in (ending_of_groups (query_seen query.now) (groups_seen groups.now))) }
-    ensures nothing { WritesNothing result → Keeps (W.written output.old) (W.written output.new) }
-    ensures prefix { IsCut result → AppendsPrefix (W.written output.old) (W.written output.new) (printed_in (ending_of_groups (query_seen query.now) (groups_seen groups.now))) }
-    ensures write { result ≡ Status.WriteFault → Rose (W.faults output.old) (W.faults output.new) }
-    ensures read { result ≢ Status.ReadFault }
-    ensures judged { IsJudged result }
-{
-    if is_wide(&query.told, groups) {
-        return Status::Unbuilt;
-    }
-    match print_groups(alloc, query, groups, output) {
-        Ok(()) => Status::Done,
-        Err(SinkError::Failed) => Status::WriteFault,
-        Err(SinkError::NoMemory) => Status::NoMemory,
-    }
-}
-
-// The status and the journal of a query over these rows, in one task. The task ends before its table is
-// printed.
-fn run_pool<W: Sink>(
-    alloc: Global,
-    pool: &Setup,
-    query: &Query<'_>,
-    kept: &KeptRows,
-    output: &mut W,
-) -> (Status, Journal)
-    requires { IsWhole kept.now }
-    ensures ending { AllFit (kept_entries kept.now) → IsOutside result.0 ⊎ EndsAs (ending_of_entries pool.now.maximum (query_seen query.now) (kept_entries kept.now)) result.0 }
-    ensures done { AllFit (kept_entries kept.now) → result.0 ≡ Status.Done
-        → Appends (W.written output.old) (W.written output.new) (printed_in (ending_of_entries pool.now.maximum (query_seen query.now) (kept_entries kept.now))) }
-    ensures nothing { WritesNothing result.0 → Keeps (W.written output.old) (W.written output.new) }
-    ensures prefix { AllFit (kept_entries kept.now) → IsCut result.0
-        → AppendsPrefix (W.written output.old) (W.written output.new) (printed_in (ending_of_entries pool.now.maximum (query_seen query.now) (kept_entries kept.now))) }
-    ensures write { result.0 ≡ Status.WriteFault → Rose (W.faults output.old) (W.faults output.new) }
-    ensures read { result.0 ≢ Status.ReadFault }
-    ensures judged { IsJudged result.0 }
-    ensures no_room { IsNoRoom result.0 (EndsNoRoom pool.now (history_of result.1)) }
-    ensures run { result.0 ≡ Status.Done → HasRun pool.now (history_of result.1) }
-    ensures journal { LeavesJournal pool.now result.1 }
-{
-    let (answer, journal) = answer_rows(alloc, pool, &query.told, kept);
-    match answer {
-        Ok(groups) => (print_answer(alloc, query, &groups, output), journal),
-        Err(TaskFault::NoRoom { asked, held, floor }) => {
-            (Status::NoRoom { asked, held, floor }, journal)
-        }
-        Err(TaskFault::NoMemory) => (Status::NoMemory, journal),
-    }
-}
-
-// What a run leaves where no pool was made.
-fn unpooled(alloc: Global, status: Status) -> Outcome
-    ensures status { result.status ≡ status }
-    ensures setup { result.setup ≡ None }
-    ensures journal { result.journal ≡ [] }
-{
-    Outcome {
-        status,
-        setup: None,
-        journal: Journal::new(alloc),
-    }
-}
-
-// Runs a query in a pool of these sizes.
-fn run_query<S: Source, W: Sink>(
+// Runs a job in a pool of these sizes.
+fn run_job<X: Threads + Wait + Sync, S: Source, W: Sink, D: Disk, C: Consumer>(
+    rt: &X,
     alloc: Global,
     pool: Setup,
-    query: &Query<'_>,
+    job: &Job,
     input: &mut S,
     output: &mut W,
+    posts: &mut Vec<Post<D, C>>,
+    store: D,
 ) -> Outcome
-    ensures ending { IfSome (S.left input.old) (λ bytes. IsOutside result.status ⊎ EndsAs (ending_of pool (query_seen query.now) bytes) result.status) }
-    ensures done { result.status ≡ Status.Done → IfSome (S.left input.old) (λ bytes.
-        IsAtEnd (S.left input.new) × Appends (W.written output.old) (W.written output.new) (printed_in (ending_of pool (query_seen query.now) bytes))) }
+    requires job { IsJob job.now }
+    requires plain { job.now.datasets ≡ [] }
+    requires one { length job.now.queries ≡ 1 }
+    requires some { 1 ≤ pool.workers }
+    requires posts { pool.workers ≤ length posts.old.items }
+    requires few_posts { length posts.old.items < 2 ^ 32 - 1 }
+    requires consumers { All (λ post. HasConsumers (map C.state post.consumers.items)) posts.old.items }
+    ensures ending { IfSome (S.left input.old) (λ bytes. AllTell pool.workers (post_files D.files posts.old) →
+        IsOutside result.status ⊎ EndsAs (ending_of job.now bytes) result.status) }
+    ensures refused { IfSome (S.left input.old) (λ bytes. (why : LandFault) → ending_of job.now bytes ≡ Refuses why →
+        IsOutside result.status ⊎ (result.status ≡ status_of why)) }
+
+    // What is written.
+    ensures end { result.status ≡ Status.Done → IsAtEnd (S.left input.new) }
+    ensures done { result.status ≡ Status.Done → IfSome (S.left input.old) (λ bytes. AllTell pool.workers (post_files D.files posts.old) →
+        Appends (W.written output.old) (W.written output.new) (printed_in (ending_of job.now bytes))) }
+    ensures prefix { IsCut result.status → IfSome (S.left input.old) (λ bytes. AllTell pool.workers (post_files D.files posts.old) →
+        AppendsPrefix (W.written output.old) (W.written output.new) (printed_in (ending_of job.now bytes))) }
     ensures nothing { WritesNothing result.status → Keeps (W.written output.old) (W.written output.new) }
-    ensures prefix { IsCut result.status → IfSome (S.left input.old) (λ bytes.
-        AppendsPrefix (W.written output.old) (W.written output.new) (printed_in (ending_of pool (query_seen query.now) bytes))) }
+
+    // The causes of statuses.
     ensures read { result.status ≡ Status.ReadFault → Rose (S.faults input.old) (S.faults input.new) }
     ensures write { result.status ≡ Status.WriteFault → Rose (W.faults output.old) (W.faults output.new) }
+    ensures disk { IsDiskFault result.status (λ post. Rose (post_faults D.faults posts.old post) (post_faults D.faults posts.new post)) }
+    ensures damaged { IsDamaged result.status (λ kept found. found < kept) }
+    ensures undamaged { AllTell pool.workers (post_files D.files posts.old) → IsDamaged result.status (λ kept found. ⊥) }
+    ensures no_room { IsNoRoom result.status (ShowsShort pool result.journal) }
     ensures judged { IsJudged result.status }
-    ensures no_room { IsNoRoom result.status (EndsNoRoom pool (history_of result.journal)) }
+
+    // The pool and its journal.
     ensures made { MakesPool result.status → result.setup ≡ Some pool }
     ensures setup { IfSome result.setup (λ setup. setup ≡ pool) }
     ensures none { IfNone result.setup (result.journal ≡ []) }
-    ensures run { result.status ≡ Status.Done → HasRun pool (history_of result.journal) }
-    ensures journal { LeavesJournal pool result.journal }
+    ensures legal { IfSome result.setup (λ setup. IsLegal pool (history_of result.journal)) }
+    ensures tasks { IfSome result.setup (λ setup. (partitions : ℕ) × HasTasks pool.workers partitions result.status result.journal
+        × IfSome (S.left input.old) (λ bytes. partitions ≡ partitions_of job.now bytes)) }
+
+    // The posts.
+    ensures fed { result.status ≡ Status.Done → IfSome (S.left input.old) (λ bytes. AllTell pool.workers (post_files D.files posts.old) →
+        (worker : ℕ) → worker < pool.workers → FeedsRows (states_at C.state posts.old.items worker)
+        (states_at C.state posts.new.items worker) (place_in job.now) (rows_read job.now bytes) pool.workers worker) }
+    ensures others { (place : ℕ) → pool.workers ≤ place
+        → states_at C.state posts.new.items place ≡ states_at C.state posts.old.items place }
+    ensures consumers { (place : ℕ) → KeepsConsumers (states_at C.state posts.old.items place) (states_at C.state posts.new.items place) }
 {
-    match read_rows(alloc, query, input) {
-        Ok(kept) => {
-            let (status, journal) = run_pool(alloc, &pool, query, &kept, output);
-            Outcome {
-                status,
-                setup: Some(pool),
-                journal,
+    totals_tell_answers();
+    match land_on(alloc, input, job, pool.workers() as u32, posts) {
+        Ok(landed) => {
+            // A job's plan has its one query.
+            if landed.plan.query_count() != 1 {
+                return unpooled(alloc, Status::NoMemory);
             }
+            run_query::<D, D, C, W, Brand, X>(
+                rt,
+                alloc,
+                pool,
+                store,
+                &landed.plan,
+                &landed.parts,
+                posts,
+                output,
+            )
         }
-        Err(LandFault::Refused(why)) => unpooled(alloc, refusal_status(why)),
-        Err(LandFault::ReadFault) => unpooled(alloc, Status::ReadFault),
-        Err(LandFault::NoMemory) => unpooled(alloc, Status::NoMemory),
+        Err(fault) => unpooled(alloc, land_status(fault)),
     }
 }
 
-/// Runs the job that the words ask for: reads the whole input, groups its rows in one task on this
-/// thread, and prints the table. Words are `run JOB`, or
-/// `run --workers 1 --reserved 0 --fraction 1000 --heap N JOB`; a job is the printed form of
-/// `group C: count`, `group C: sum V` or `group C: count, sum V`.
+/// Runs the job that the words ask for: lands the input on the disks of the workers' posts in partitions of 10,000 rows, groups or
+/// orders each partition in a task of its worker, merges what the tasks spilled, and prints the table. The tasks run worker after
+/// worker on this thread, and take turns in one memory pool. Words are `run JOB`, or
+/// `run --workers 1 --reserved 0 --fraction 1000 --heap N JOB`; a job is the printed form of one query that groups or orders.
 ///
-/// The journal is after Spark's unified memory manager; the job language and the statuses are this
-/// project's own. Want of memory has no clause; a test shows that a run with ample memory answers.
-pub fn run<X: Threads + Wait + Sync, S: Source, W: Sink>(
-    _rt: &X,
+/// Worker `w` uses the post at place `w`, whose disk gets its partitions and its runs; all of these stay. Each post has sixteen
+/// consumers, of which the first eight serve group queries and the others order queries. No block is cached yet, so the store
+/// disk isn't called.
+///
+/// The pool and its journal are after Spark's unified memory manager, and the spills after its TaskMemoryManager; the job language
+/// and the statuses are this project's own. Want of memory has no clause; a test shows that a run with ample memory answers.
+pub fn run<X: Threads + Wait + Sync, S: Source, W: Sink, D: Disk + Send, C: Consumer>(
+    rt: &X,
     alloc: Global,
     words: &[&str],
     input: &mut S,
     output: &mut W,
+    posts: &mut Vec<Post<D, C>>,
+    store_disk: D,
 ) -> Outcome
-    // The output is the plain answer over all that the input had left.
-    ensures done { result.status ≡ Status.Done → ForGrouping (asked (map (λ word. word.now) words.now)) (λ pool query. IfSome (S.left input.old) (λ bytes.
-        IsAtEnd (S.left input.new) × Appends (W.written output.old) (W.written output.new) (printed_in (ending_of pool query bytes)))) }
+    requires consumers { All (λ post. HasConsumers (map C.state post.consumers.items)) posts.old.items }
 
-    // The status is the one that the words and the input call for, unless something outside fails or there
-    // is too little memory.
-    ensures words { (result.status ≡ Status.BadWords) ↔ (asked (map (λ word. word.now) words.now) ≡ NoWords) }
-    ensures job { (result.status ≡ Status.BadJob 0) ↔ (asked (map (λ word. word.now) words.now) ≡ NoJob) }
-    ensures place { (place : ℕ) → result.status ≡ Status.BadJob place → place ≡ 0 }
-    ensures ending { ForGrouping (asked (map (λ word. word.now) words.now)) (λ pool query. IfSome (S.left input.old) (λ bytes.
-        IsOutside result.status ⊎ EndsAs (ending_of pool query bytes) result.status)) }
+    // The output is the plain answer over all that the input had left.
+    ensures end { result.status ≡ Status.Done → IsAtEnd (S.left input.new) }
+    ensures done { result.status ≡ Status.Done →
+        ForJob (call_of (length posts.old.items) (map (λ word. word.now) words.now)) (λ pool job.
+        IfSome (S.left input.old) (λ bytes. AllTell pool.workers (post_files D.files posts.old) →
+        Appends (W.written output.old) (W.written output.new) (printed_in (ending_of job bytes)))) }
+
+    // The status is the one that the words and the input call for, unless something outside fails or there is too little room or
+    // memory.
+    ensures words { (result.status ≡ Status.BadWords) ↔ (call_of (length posts.old.items) (map (λ word. word.now) words.now) ≡ NoCall) }
+    ensures job { (place : ℕ) → result.status ≡ Status.BadJob place →
+        (place ≡ 0) × (call_of (length posts.old.items) (map (λ word. word.now) words.now) ≡ NoJob) }
+    ensures no_job { call_of (length posts.old.items) (map (λ word. word.now) words.now) ≡ NoJob →
+        (result.status ≡ Status.BadJob 0) ⊎ (result.status ≡ Status.NoMemory) }
+    ensures ending { ForJob (call_of (length posts.old.items) (map (λ word. word.now) words.now)) (λ pool job.
+        IfSome (S.left input.old) (λ bytes. AllTell pool.workers (post_files D.files posts.old) →
+        IsOutside result.status ⊎ EndsAs (ending_of job bytes) result.status)) }
+    ensures refused { ForJob (call_of (length posts.old.items) (map (λ word. word.now) words.now)) (λ pool job.
+        IfSome (S.left input.old) (λ bytes. (why : LandFault) → ending_of job bytes ≡ Refuses why →
+        IsOutside result.status ⊎ (result.status ≡ status_of why))) }
+    ensures complete { ForJob (call_of (length posts.old.items) (map (λ word. word.now) words.now)) (λ pool job.
+        IfSome (S.left input.old) (λ bytes. AllTell pool.workers (post_files D.files posts.old) → (text : List ℕ) →
+        ending_of job bytes ≡ Prints text →
+        FailsNothing (S.faults input.old) (S.faults input.new) (W.faults output.old) (W.faults output.new)
+        (post_faults D.faults posts.old) (post_faults D.faults posts.new) →
+        GrantsAll result.journal → (result.status ≡ Status.Done) ⊎ (result.status ≡ Status.NoMemory))) }
 
     // The causes of the other statuses.
     ensures read { result.status ≡ Status.ReadFault → Rose (S.faults input.old) (S.faults input.new) }
     ensures write { result.status ≡ Status.WriteFault → Rose (W.faults output.old) (W.faults output.new) }
-    ensures no_room { IfSome result.setup (λ pool. IsNoRoom result.status (EndsNoRoom pool (history_of result.journal))) }
+    ensures disk { IsDiskFault result.status (λ post. Rose (post_faults D.faults posts.old post) (post_faults D.faults posts.new post)) }
+    ensures damaged { IsDamaged result.status (λ kept found. found < kept) }
+    ensures undamaged { ForJob (call_of (length posts.old.items) (map (λ word. word.now) words.now)) (λ pool job.
+        AllTell pool.workers (post_files D.files posts.old) → IsDamaged result.status (λ kept found. ⊥)) }
+    ensures no_room { IfSome result.setup (λ pool. IsNoRoom result.status (ShowsShort pool result.journal)) }
 
     // What was written.
     ensures nothing { WritesNothing result.status → Keeps (W.written output.old) (W.written output.new) }
-    ensures prefix { IsCut result.status → ForGrouping (asked (map (λ word. word.now) words.now)) (λ pool query. IfSome (S.left input.old) (λ bytes.
-        AppendsPrefix (W.written output.old) (W.written output.new) (printed_in (ending_of pool query bytes)))) }
+    ensures prefix { IsCut result.status →
+        ForJob (call_of (length posts.old.items) (map (λ word. word.now) words.now)) (λ pool job.
+        IfSome (S.left input.old) (λ bytes. AllTell pool.workers (post_files D.files posts.old) →
+        AppendsPrefix (W.written output.old) (W.written output.new) (printed_in (ending_of job bytes)))) }
 
     // The pool, and its journal.
     ensures made { MakesPool result.status → IsSome result.setup }
-    ensures setup { ForGrouping (asked (map (λ word. word.now) words.now)) (λ pool query. IfSome result.setup (λ setup. setup ≡ pool)) }
+    ensures setup { ForJob (call_of (length posts.old.items) (map (λ word. word.now) words.now)) (λ pool job.
+        IfSome result.setup (λ setup. setup ≡ pool)) }
     ensures none { IfNone result.setup (result.journal ≡ []) }
     ensures legal { IfSome result.setup (λ pool. IsLegal pool (history_of result.journal)) }
     ensures safe { IfSome result.setup (λ pool. IsSafeJournal pool result.journal) }
+    ensures tasks { ForJob (call_of (length posts.old.items) (map (λ word. word.now) words.now)) (λ pool job.
+        IfSome result.setup (λ setup. (partitions : ℕ) × HasTasks pool.workers partitions result.status result.journal
+        × IfSome (S.left input.old) (λ bytes. partitions ≡ partitions_of job bytes))) }
 
-    // Its one task, number 0 of worker 0.
-    ensures tasks { IsOneTask (history_of result.journal) }
-    ensures begun { result.status ≡ Status.Done → begins (history_of result.journal) 0 ≡ 1 }
-    ensures ended { ends (history_of result.journal) 0 ≡ begins (history_of result.journal) 0 }
+    // The posts' consumers.
+    ensures fed { result.status ≡ Status.Done →
+        ForJob (call_of (length posts.old.items) (map (λ word. word.now) words.now)) (λ pool job.
+        IfSome (S.left input.old) (λ bytes. AllTell pool.workers (post_files D.files posts.old) →
+        (worker : ℕ) → worker < pool.workers → FeedsRows (states_at C.state posts.old.items worker)
+        (states_at C.state posts.new.items worker) (place_in job) (rows_read job bytes) pool.workers worker)) }
+    ensures others { ForJob (call_of (length posts.old.items) (map (λ word. word.now) words.now)) (λ pool job.
+        (place : ℕ) → pool.workers ≤ place → states_at C.state posts.new.items place ≡ states_at C.state posts.old.items place) }
+    ensures consumers { (place : ℕ) → KeepsConsumers (states_at C.state posts.old.items place) (states_at C.state posts.new.items place) }
 {
     legal_journals_are_safe();
     match read_words(words) {
         Asked::NoWords => unpooled(alloc, Status::BadWords),
-        Asked::NoJob => unpooled(alloc, Status::BadJob { place: 0 }),
-        Asked::Grouping(pool, query) => {
+        Asked::Job(pool, text) => {
             let _range = pool.max();
-            run_query(alloc, pool, &query, input, output)
+            if (posts.len() as u64) < pool.workers() {
+                return unpooled(alloc, Status::BadWords);
+            }
+            // A shelf numbers its disks with 32 bits.
+            if posts.len() >= u32::MAX as usize {
+                return unpooled(alloc, Status::NoMemory);
+            }
+            match read_job(alloc, text) {
+                Ok(Some(job)) => {
+                    run_job(rt, alloc, pool, &job, input, output, posts, store_disk)
+                }
+                Ok(None) => unpooled(alloc, Status::BadJob { place: 0 }),
+                Err(_) => unpooled(alloc, Status::NoMemory),
+            }
         }
     }
 }

@@ -2,20 +2,16 @@ ghost use Rattle.std.specs.Prelude.{◌≡◌, ◌≤◌, ◌^◌, IfSome, map, 
 ghost use Rattle.std.specs.Char.{is_ascii_digit};
 ghost use Rattle.std.specs.List.{list_all};
 ghost use Rattle.csv_program.specs.AskedViews.{asked_seen};
-ghost use Rattle.csv_program.specs.Words.{asked, asked_behind, asked_heap, asked_query, asked_with, behind_option, behind_options, behind_word, default_pool, heap_of, is_decimal, only_word, pool_with};
-ghost use Rattle.csv_program.specs.Queries.{query_of};
+ghost use Rattle.csv_program.specs.Words.{asked, asked_behind, asked_heap, asked_with, behind_option, behind_options, behind_word, default_pool, heap_of, is_decimal, only_word, pool_with};
 
-use crate::query::{Query, query_in};
 use pool_ledger::Setup;
 
 /// What the words of a call ask for.
 pub enum Asked<'a> {
     /// They are none that `run` takes.
     NoWords,
-    /// The last word is no job.
-    NoJob,
-    /// A grouping query, in a pool of these sizes.
-    Grouping(Setup, Query<'a>),
+    /// The job of a text, in a pool of these sizes.
+    Job(Setup, &'a str),
 }
 
 // The pool of 1 GiB of heap.
@@ -99,20 +95,11 @@ fn behind_options<'a, 'b>(words: &'b [&'a str]) -> Option<&'b [&'a str]>
     behind_word(three, "--heap")
 }
 
-fn query_asked<'a>(pool: Setup, text: &'a str) -> Asked<'a>
-    ensures { asked_seen result ≡ asked_query pool (query_of text.now) }
-{
-    match query_in(text.as_bytes()) {
-        Some(query) => Asked::Grouping(pool, query),
-        None => Asked::NoJob,
-    }
-}
-
 fn asked_with_heap<'a>(heap: &str, text: &'a str) -> Asked<'a>
     ensures { asked_seen result ≡ asked_with (heap_of heap.now) text.now }
 {
     match heap_in(heap) {
-        Some(heap) => query_asked(pool_with(heap), text),
+        Some(heap) => Asked::Job(pool_with(heap), text),
         None => Asked::NoWords,
     }
 }
@@ -142,7 +129,7 @@ fn words_behind<'a>(words: &[&'a str]) -> Asked<'a>
     ensures { asked_seen result ≡ asked_behind (map (λ word. word.now) words.now) }
 {
     if let Some(text) = only_word(words) {
-        return query_asked(default_pool(), text);
+        return Asked::Job(default_pool(), text);
     }
     match behind_options(words) {
         Some(rest) => heap_asked(rest),

@@ -1,0 +1,52 @@
+-- Posts whose disks are those of other posts: what holds of the ones holds of the others.
+use Rattle.std.proofs.Common.{◌≡◌, ◌∙◌, ℕ, ◌≤◌, List, [], ◌∷◌, Option, Some, None, Result, Ok, Err, map, sym, ap, subst, arith}
+use Rattle.std.specs.Prelude.{slice_get}
+use Rattle.std.specs.Global.{Vec}
+use Rattle.std.specs.Option.{option_map, option_map_or, option_and_then}
+use Rattle.std.proofs.lemmas.Option.{slice_get-map}
+use Rattle.aggregate.specs.Totals.{Entry, total}
+use Rattle.aggregate.specs.declared.kind.Kind.{Kind}
+use Rattle.spill_disk.specs.Files.{Files}
+use Rattle.run_file.specs.declared.run.Run.{Run}
+use Rattle.run_merge.specs.Runs.{HasEntries, HaveEntries, concatenated}
+use Rattle.task_runner.specs.Answers.{HasCauseAmong, MergesTotal}
+use Rattle.task_runner.specs.declared.post.Post.{Post}
+use Rattle.task_runner.specs.declared.work_fault.WorkFault.{WorkFault}
+use Rattle.task_runner.specs.declared.work_fault.WorkFault.TheVariants.{NoRoom, DiskFault, Damaged, NoMemory}
+use Rattle.csv_program.specs.Posts.{post_faults, post_files}
+
+-- what is at a place of two lists that are alike in a part
+pub part_alike : {P X : Type 0} (own : P → X) (xs ys : List P) → map own xs ≡ map own ys → (i : ℕ) → option_map own (slice_get xs i) ≡ option_map own (slice_get ys i)
+part_alike {P = P} {X = X} own xs ys same i = sym (slice_get-map own xs i) ∙ ap (λ (zs : List X). slice_get zs i) same ∙ slice_get-map own ys i
+
+pub files_alike : {D C : Type 0} (files : D → Option Files) (some other : Vec (Post D C)) → map (λ post. post.disk) some.items ≡ map (λ post. post.disk) other.items → (i : ℕ) → post_files files some i ≡ post_files files other i
+files_alike {D = D} {C = C} files some other same i = ap (λ (disk : Option D). option_and_then files disk) (part_alike (λ post. post.disk) some.items other.items same i)
+
+pub faults_alike : {D C : Type 0} (faults : D → ℕ) (some other : Vec (Post D C)) → map (λ post. post.disk) some.items ≡ map (λ post. post.disk) other.items → (i : ℕ) → post_faults faults some i ≡ post_faults faults other i
+faults_alike {D = D} {C = C} faults some other same i = ap (λ (disk : Option D). option_map_or faults disk 0) (part_alike (λ post. post.disk) some.items other.items same i)
+
+-- ---- files that are the same
+
+pub have_alike : (files files' : ℕ → Option Files) (kind : Kind) (runs : List Run) (lists : List (List Entry)) → ((i : ℕ) → files' i ≡ files i) → HaveEntries files kind runs lists → HaveEntries files' kind runs lists
+have_alike files files' kind [] [] same have = tt
+have_alike files files' kind (run ∷ runs) (entries ∷ lists) same have =
+    (subst (λ (f : Option Files). HasEntries f kind run entries) (sym (same run.disk)) have.0, have_alike files files' kind runs lists same have.1)
+have_alike files files' kind [] (entries ∷ lists) same have = absurd have
+have_alike files files' kind (run ∷ runs) [] same have = absurd have
+
+pub merges_alike : (files files' : ℕ → Option Files) (kind : Kind) (lists : List (List Entry)) (answer : Result (Option Run) WorkFault) → ((i : ℕ) → files' i ≡ files i) → MergesTotal files kind lists answer → MergesTotal files' kind lists answer
+merges_alike files files' kind lists (Ok None) same merges = merges
+merges_alike files files' kind lists (Ok (Some run)) same merges = subst (λ (f : Option Files). HasEntries f kind run (total kind (concatenated lists))) (sym (same run.disk)) merges
+merges_alike files files' kind lists (Err (NoRoom asked held floor)) same merges = tt
+merges_alike files files' kind lists (Err (DiskFault post)) same merges = tt
+merges_alike files files' kind lists (Err (Damaged post file kept found)) same merges = merges
+merges_alike files files' kind lists (Err NoMemory) same merges = tt
+
+-- ---- why a call gave up
+
+pub cause_around : {T : Type 0} (before mid mid' after : ℕ → ℕ) (answer : Result T WorkFault) → ((i : ℕ) → before i ≤ mid i) → ((i : ℕ) → mid' i ≤ after i) → HasCauseAmong mid mid' answer → HasCauseAmong before after answer
+cause_around before mid mid' after (Ok x) first last cause = tt
+cause_around before mid mid' after (Err (NoRoom asked held floor)) first last cause = tt
+cause_around before mid mid' after (Err (DiskFault post)) first last cause = let low = first post in let high = last post in omega (arith, low, high, cause)
+cause_around before mid mid' after (Err (Damaged post file kept found)) first last cause = cause
+cause_around before mid mid' after (Err NoMemory) first last cause = tt

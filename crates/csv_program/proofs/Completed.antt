@@ -1,0 +1,96 @@
+-- A valid run with whole grants, in which nothing fails, prints its table.
+use Rattle.std.proofs.Common.{◌≡◌, ◌≤◌, ◌∷◌, ◌∙◌, [], ℕ, List, Option, Some, None, refl, sym, ap, subst, inl, inr, arith}
+use Rattle.std.specs.Prelude.{◌⊎◌, ◌==◌, IfSome}
+use Rattle.std.specs.Global.{Vec}
+use Rattle.std.specs.List.{AllByRecursion}
+use Rattle.std.proofs.lemmas.Bool.{cases_Bool, le-ltb}
+use Rattle.fault_count.specs.Faults.{Rose}
+use Rattle.spill_disk.specs.Files.{Files}
+use Rattle.job_text.specs.declared.job.Job.{Job}
+use Rattle.task_runner.specs.declared.post.Post.{Post}
+use Rattle.pool_ledger.specs.History.{History}
+use Rattle.pool_ledger.specs.Journal.{history_of}
+use Rattle.pool_ledger.specs.Sizes.{Sizes}
+use Rattle.pool_ledger.specs.Workers.{entries_of}
+use Rattle.pool_ledger.specs.declared.entry.Entry.{Entry}
+use Rattle.pool_ledger.specs.declared.entry.Event.{Event}
+use Rattle.pool_ledger.specs.declared.entry.Event.TheVariants.{Attempt}
+use Rattle.spill_stack.specs.Attempts.{Answered, last_after, last_attempt}
+use Rattle.csv_program.specs.Calls.{Call, ForJob, Runs, call_by, call_of, call_with, job_of}
+use Rattle.csv_program.specs.Complete.{FailsNothing, GrantsAll, IsWhole}
+use Rattle.csv_program.specs.Endings.{EndsAs, Ending, Prints, ending_of}
+use Rattle.csv_program.specs.Posts.{AllTell, post_files}
+use Rattle.csv_program.specs.Statuses.{IsDiskFault, IsNoRoom, IsOutside}
+use Rattle.csv_program.specs.Tasks.{ShowsShort}
+use Rattle.csv_program.specs.Words.{Asks, asked}
+use Rattle.csv_program.specs.declared.outcome.Status.{Status}
+use Rattle.csv_program.specs.declared.outcome.Status.TheVariants as status
+use Rattle.csv_program.proofs.Journals.{all_reverse}
+
+-- ---- the call
+
+pub call_is : (posts : ℕ) (words : List (List ℕ)) (pool : Sizes) (text : List ℕ) (job : Job) → asked words ≡ Asks pool text → pool.workers ≤ posts → job_of text ≡ Some job → call_of posts words ≡ Runs pool job
+call_is posts words pool text job asks enough is =
+    ap (call_by posts) asks ∙ (rw (le-ltb posts pool.workers enough) (ap (call_with pool) is))
+
+pub for_job : (call : Call) (pool : Sizes) (job : Job) (P : Sizes → Job → Type 0) → call ≡ Runs pool job → P pool job → ForJob call P
+for_job call pool job P is holds = subst (λ (c : Call). ForJob c P) (sym is) holds
+
+-- ---- whole grants
+
+own_whole : (worker : ℕ) (journal : List Entry) → GrantsAll journal → GrantsAll (entries_of worker journal)
+own_whole worker [] all = tt
+own_whole worker (entry ∷ journal) all = elim (cases_Bool (entry.worker == worker)) [
+  | inl mine ↦ rw mine (all.0, own_whole worker journal all.1)
+  | inr other ↦ rw other (own_whole worker journal all.1)
+]
+
+after_whole : (task : ℕ) (event : Event) (was : Answered) → IsWhole event → was.asked ≤ was.got → (last_after task event was).asked ≤ (last_after task event was).got
+after_whole task (Attempt t asked moved evictions got) was whole before = elim (cases_Bool (t == task)) [
+  | inl same ↦ rw same whole
+  | inr other ↦ rw other before
+]
+after_whole task _ was whole before = before
+
+last_whole : (task : ℕ) (history : History) → AllByRecursion (λ entry. IsWhole entry.event) history → (last_attempt history task).asked ≤ (last_attempt history task).got
+last_whole task [] all = omega arith
+last_whole task (entry ∷ before) all = after_whole task entry.event (last_attempt before task) all.0 (last_whole task before all.1)
+
+not_short : (pool : Sizes) (journal : List Entry) (asked held floor : ℕ) → GrantsAll journal → ShowsShort pool journal asked held floor → ⊥
+not_short pool journal asked held floor all shows =
+    let whole = last_whole shows.task (history_of (entries_of shows.worker journal)) (all_reverse (λ entry. IsWhole entry.event) (entries_of shows.worker journal) (own_whole shows.worker journal all)) in
+    let short = shows.shows.short in
+    absurd (omega (arith, whole, short))
+
+-- ---- the status
+
+by_status : (ended : Status) (pool : Sizes) (journal : List Entry) (reads writes : Type 0) (disks : ℕ → Type 0) → (reads → ⊥) → (writes → ⊥) → ((post : ℕ) → disks post → ⊥) → GrantsAll journal
+    → (ended ≡ status.ReadFault → reads) → (ended ≡ status.WriteFault → writes) → IsDiskFault ended disks → IsNoRoom ended (ShowsShort pool journal) → IsOutside ended → ended ≡ status.NoMemory
+by_status (status.NoRoom asked held floor) pool journal reads writes disks no_reads no_writes no_disks all read write disk no_room outside = absurd (not_short pool journal asked held floor all no_room)
+by_status status.ReadFault pool journal reads writes disks no_reads no_writes no_disks all read write disk no_room outside = absurd (no_reads (read refl))
+by_status status.WriteFault pool journal reads writes disks no_reads no_writes no_disks all read write disk no_room outside = absurd (no_writes (write refl))
+by_status (status.DiskFault post) pool journal reads writes disks no_reads no_writes no_disks all read write disk no_room outside = absurd (no_disks post disk)
+by_status status.NoMemory pool journal reads writes disks no_reads no_writes no_disks all read write disk no_room outside = refl
+by_status _ pool journal reads writes disks no_reads no_writes no_disks all read write disk no_room outside = absurd outside
+
+pub completes : (ended : Status) (ending : Ending) (text : List ℕ) (pool : Sizes) (journal : List Entry) (input input' output output' : ℕ) (posts posts' : ℕ → ℕ) → ending ≡ Prints text
+    → FailsNothing input input' output output' posts posts' → GrantsAll journal → (ended ≡ status.ReadFault → Rose input input') → (ended ≡ status.WriteFault → Rose output output')
+    → IsDiskFault ended (λ post. Rose (posts post) (posts' post)) → IsNoRoom ended (ShowsShort pool journal) → IsOutside ended ⊎ EndsAs ending ended → (ended ≡ status.Done) ⊎ (ended ≡ status.NoMemory)
+completes ended ending text pool journal input input' output output' posts posts' prints nothing all read write disk no_room (inl outside) =
+    inr (by_status ended pool journal (Rose input input') (Rose output output') (λ post. Rose (posts post) (posts' post)) nothing.reads nothing.writes nothing.disks all read write disk no_room outside)
+completes ended ending text pool journal input input' output output' posts posts' prints nothing all read write disk no_room (inr ends) =
+    inl (subst (λ (e : Ending). EndsAs e ended) prints ends)
+
+-- of a call of a job
+pub completes_call : {D C : Type 0} (files : D → Option Files) (posts : Vec (Post D C)) (left : Option (List ℕ)) (call : Call) (pool : Sizes) (job : Job) (ended : Status) (journal : List Entry) (input input' output output' : ℕ) (faults faults' : ℕ → ℕ)
+    → call ≡ Runs pool job → (ended ≡ status.ReadFault → Rose input input') → (ended ≡ status.WriteFault → Rose output output')
+    → IsDiskFault ended (λ post. Rose (faults post) (faults' post)) → IsNoRoom ended (ShowsShort pool journal)
+    → IfSome left (λ bytes. AllTell pool.workers (post_files files posts) → IsOutside ended ⊎ EndsAs (ending_of job bytes) ended)
+    → ForJob call (λ pool job. IfSome left (λ bytes. AllTell pool.workers (post_files files posts) → (text : List ℕ) → ending_of job bytes ≡ Prints text
+    → FailsNothing input input' output output' faults faults' → GrantsAll journal → (ended ≡ status.Done) ⊎ (ended ≡ status.NoMemory)))
+completes_call files posts None call pool job ended journal input input' output output' faults faults' is read write disk no_room ends = for_job call pool job _ is _
+completes_call files posts (Some bytes) call pool job ended journal input input' output output' faults faults' is read write disk no_room ends =
+    for_job call pool job
+    (λ pool job. AllTell pool.workers (post_files files posts) → (text : List ℕ) → ending_of job bytes ≡ Prints text
+    → FailsNothing input input' output output' faults faults' → GrantsAll journal → (ended ≡ status.Done) ⊎ (ended ≡ status.NoMemory))
+    is (λ tell text prints nothing all. completes ended (ending_of job bytes) text pool journal input input' output output' faults faults' prints nothing all read write disk no_room (ends tell))

@@ -1,0 +1,65 @@
+-- What is known of a run's status by its tasks' answer.
+use Rattle.std.proofs.Common.{◌≡◌, ◌<◌, ◌∙◌, [], ℕ, List, Option, Some, None, Result, Ok, Err, append-nil, refl, sym, subst, arith}
+use Rattle.std.specs.Prelude.{AllPairs, OnOk}
+use Rattle.pool_ledger.specs.Workers.{entries_of}
+use Rattle.pool_ledger.specs.declared.entry.Entry.{Entry}
+use Rattle.csv_program.specs.Tasks.{FollowsPlan, begun_in}
+use Rattle.std.specs.Io.KnownBytes.{Appends}
+use Rattle.byte_io.specs.Sinks.{AppendsPrefix}
+use Rattle.task_runner.specs.Workers.{IfSound}
+use Rattle.task_runner.specs.declared.work_fault.WorkFault.{WorkFault}
+use Rattle.task_runner.specs.declared.work_fault.WorkFault.TheVariants.{NoRoom, DiskFault, Damaged, NoMemory}
+use Rattle.csv_program.specs.Statuses.{IsOutside}
+use Rattle.csv_program.specs.Telling.{status_of_work}
+use Rattle.csv_program.specs.declared.outcome.Status.{Status}
+use Rattle.csv_program.specs.declared.outcome.Status.TheVariants as status
+
+outside_by : {T : Type 0} (says : T → Type 0) (fault : WorkFault) → IfSound says (Err fault) → IsOutside (status_of_work fault)
+outside_by says (NoRoom asked held floor) sound = _
+outside_by says (DiskFault post) sound = _
+outside_by says (Damaged post file kept found) sound = absurd sound
+outside_by says NoMemory sound = _
+
+pub outside_work : {T : Type 0} (says : T → Type 0) (result : Result T WorkFault) (fault : WorkFault) (ended : Status) → result ≡ Err fault → IfSound says result → ended ≡ status_of_work fault → IsOutside ended
+outside_work says result fault ended is sound tells = subst IsOutside (sym tells) (outside_by says fault (subst (IfSound says) is sound))
+
+not_done : (fault : WorkFault) → status_of_work fault ≡ status.Done → ⊥
+not_done (NoRoom asked held floor) e = cc e
+not_done (DiskFault post) e = cc e
+not_done (Damaged post file kept found) e = cc e
+not_done NoMemory e = cc e
+
+-- a fault isn't the end of a whole run
+pub fault_not_done : (fault : WorkFault) (ended : Status) → ended ≡ status_of_work fault → ended ≡ status.Done → ⊥
+fault_not_done fault ended tells done = not_done fault (sym tells ∙ done)
+
+pub sound_ok : {T : Type 0} (says : T → Type 0) (result : Result T WorkFault) (x : T) → result ≡ Ok x → IfSound says result → says x
+sound_ok says result x is sound = subst (IfSound says) is sound
+
+appends_nothing : (written : Option (List ℕ)) → Appends written written []
+appends_nothing None = tt
+appends_nothing (Some xs) = sym (append-nil xs)
+
+-- what wasn't touched grew by nothing
+pub prefix_of_nothing : {A : Type 0} (written : A → Option (List ℕ)) (before after : A) (text : List ℕ) → after ≡ before → AppendsPrefix (written before) (written after) text
+prefix_of_nothing written before after text same = (0, subst (λ now. Appends (written before) (written now) []) (sym same) (appends_nothing (written before)))
+
+-- what holds after an answer
+pub ok_holds : {T E P : Type 0} (result : Result T E) (x : T) → result ≡ Ok x → OnOk result P → P
+ok_holds (Ok y) x is holds = holds
+ok_holds (Err e) x is holds = cc is
+
+no_begins : (worker : ℕ) → begun_in (entries_of worker []) ≡ []
+unfolding begun_in
+no_begins worker = refl
+
+none_ascend : AllPairs (λ (earlier later : ℕ). earlier < later) []
+none_ascend = λ i j d lt within. absurd (omega arith)
+
+-- a journal without an entry has no task
+pub follows_none : (workers partitions : ℕ) (journal : List Entry) → journal ≡ [] → FollowsPlan workers partitions journal
+follows_none workers partitions journal none = subst (FollowsPlan workers partitions) (sym none) record {
+  owned = tt;
+  ascend = λ worker. subst (λ (tasks : List ℕ). AllPairs (λ earlier later. earlier < later) tasks) (sym (no_begins worker)) none_ascend;
+  ended = λ task. refl;
+}

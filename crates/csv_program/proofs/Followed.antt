@@ -1,0 +1,91 @@
+-- What a whole journal tells of a run, by what each of its workers did.
+use Rattle.std.proofs.Common.{◌≡◌, ◌∙◌, ℕ, ◌<◌, ◌≤◌, ◌%◌, List, Some, None, Result, Ok, Err, get_or, refl, sym, ap, subst, inl, inr, arith}
+use Rattle.std.specs.Prelude.{◌==◌, Bool, OnOk, if◌then◌else◌}
+use Rattle.std.specs.List.{AllByRecursion}
+use Rattle.std.proofs.Math.Nat.{mod-lt}
+use Rattle.std.proofs.lemmas.Bool.{cases_lt, lt-ltb}
+use Rattle.pool_ledger.specs.History.{begins}
+use Rattle.pool_ledger.specs.Journal.{history_of}
+use Rattle.pool_ledger.specs.Legal.{IsLegal}
+use Rattle.pool_ledger.specs.Sizes.{Sizes}
+use Rattle.pool_ledger.specs.Workers.{entries_of}
+use Rattle.pool_ledger.specs.declared.entry.Entry.{Entry}
+use Rattle.pool_laws.specs.SafeJournal.{IsSafeJournal}
+use Rattle.turn_lock.specs.Passes.{LockId, PassState}
+use Rattle.memory_lock.specs.Crew.{AreWorkers, HasAll, new_worker}
+use Rattle.memory_lock.specs.Workers.{own_entries, own_of}
+use Rattle.task_runner.specs.Works.{IfNoRoom, ShowsNoRoom}
+use Rattle.task_runner.specs.declared.work_fault.WorkFault.{WorkFault}
+use Rattle.task_runner.specs.declared.work_fault.WorkFault.TheVariants.{NoRoom, DiskFault, Damaged, NoMemory}
+use Rattle.csv_program.specs.Doing.{BeginsOwn, HasDone}
+use Rattle.csv_program.specs.Tasks.{BeginsAll, FollowsPlan, ShowsShort, owner_of}
+use Rattle.csv_program.proofs.Deeds.{done_ascends, done_balanced, done_owned, none_ascend, owner_final}
+use Rattle.csv_program.proofs.Journals.{all_known, begun_least, ended_all, none_of, owned_all}
+
+-- a worker's own entries are those that the journal has of it
+whole_of : (lock : LockId) (workers : ℕ) (news : List PassState) (journal : List Entry) → AreWorkers lock workers news → HasAll news journal → (w : ℕ) (any : PassState) → w < workers → entries_of w journal ≡ own_entries (get_or news w any)
+whole_of lock workers news journal are whole w any below =
+    (whole w any (omega (arith, below, are.0))).own w (0, omega arith, refl) ∙ ap (λ (n : ℕ). entries_of n (get_or news w any).seen) (sym (are.1 w any below).number_is)
+
+-- what each worker did makes a journal of the plan
+pub follows : (setup : Sizes) (lock : LockId) (workers partitions : ℕ) (news : List PassState) (journal : List Entry) → workers ≡ setup.workers → 0 < workers → AreWorkers lock workers news → HasAll news journal → IsLegal setup (history_of journal)
+    → ((w : ℕ) (any : PassState) → w < workers → HasDone workers partitions w (own_entries (get_or news w any))) → FollowsPlan workers partitions journal
+follows setup lock workers partitions news journal size some are whole legal did =
+    let known : AllByRecursion (λ entry. entry.worker < workers) journal = subst (λ (n : ℕ). AllByRecursion (λ entry. entry.worker < n) journal) (sym size) (all_known setup journal legal) in
+    let any = new_worker lock 0 0 in
+    let done : (w : ℕ) → w < workers → HasDone workers partitions w (entries_of w journal) = λ w below. subst (HasDone workers partitions w) (sym (whole_of lock workers news journal are whole w any below)) (did w any below) in
+    record {
+      owned = owned_all (owner_of workers partitions) workers journal known (λ w below. done_owned workers partitions w (entries_of w journal) below (done w below));
+      ascend = λ w. elim (cases_lt w workers) [
+        | inl low ↦ done_ascends workers partitions w (entries_of w journal) some (done w low)
+        | inr high ↦ none_ascend (entries_of w journal) (none_of workers w journal known high)
+      ];
+      ended = λ task. ended_all workers task journal known (λ w below. done_balanced workers partitions w task (entries_of w journal) (done w below));
+    }
+
+-- each task of a partition, and the final one, is of some worker
+has_owner : (workers partitions task : ℕ) → 0 < workers → task ≤ partitions → (w : ℕ) × (w < workers) × (owner_of workers partitions task ≡ Some w)
+has_owner workers partitions task some within = elim (cases_lt task partitions) [
+  | inl low ↦ (
+    task % workers,
+    mod-lt task some,
+    ap (λ (b : Bool). if b then Some (task % workers) else (if task == partitions then Some 0 else None)) (lt-ltb task partitions low),
+  )
+  | inr high ↦ let same : partitions ≡ task = omega (arith, high, within) in (0, some, subst (λ (t : ℕ). owner_of workers partitions t ≡ Some 0) same (owner_final workers partitions))
+]
+
+-- where each worker began all of its own, each task was begun once
+pub begins_all : (setup : Sizes) (lock : LockId) (workers partitions : ℕ) (news : List PassState) (journal : List Entry) → 0 < workers → AreWorkers lock workers news → HasAll news journal → IsSafeJournal setup journal
+    → ((w : ℕ) (any : PassState) → w < workers → BeginsOwn workers partitions w (own_entries (get_or news w any))) → BeginsAll partitions journal
+begins_all setup lock workers partitions news journal some are whole safe began task within =
+    let mine = has_owner workers partitions task some within in
+    let w = mine.0 in
+    let any = new_worker lock 0 0 in
+    let own : 1 ≤ begins (history_of (entries_of w journal)) task = subst (λ (es : List Entry). 1 ≤ begins (history_of es) task) (sym (whole_of lock workers news journal are whole w any mine.1)) (began w any mine.1 task mine.2) in
+    let least = begun_least w task journal in
+    let most = safe.begun_once task in
+    omega (arith, own, least, most)
+
+pub on_ok_more : {T : Type 0} (answer : Result T WorkFault) (P Q : Type 0) → (P → Q) → OnOk answer P → OnOk answer Q
+on_ok_more (Ok x) P Q more holds = more holds
+on_ok_more (Err e) P Q more holds = tt
+
+pub room_more : {T : Type 0} (says tells : ℕ → ℕ → ℕ → Type 0) (answer : Result T WorkFault) → ((asked held floor : ℕ) → says asked held floor → tells asked held floor) → IfNoRoom answer says → IfNoRoom answer tells
+room_more says tells (Ok x) more room = tt
+room_more says tells (Err (NoRoom asked held floor)) more room = more asked held floor room
+room_more says tells (Err (DiskFault post)) more room = tt
+room_more says tells (Err (Damaged post file kept found)) more room = tt
+room_more says tells (Err NoMemory) more room = tt
+
+-- want of room that a worker's own entries show is in the journal
+pub shows_short : (sizes setup : Sizes) (lock : LockId) (workers : ℕ) (news : List PassState) (journal : List Entry) → setup ≡ sizes → AreWorkers lock workers news → HasAll news journal
+    → (asked held floor : ℕ) → ((w task : ℕ) × (w < workers) × ((any : PassState) → ShowsNoRoom sizes (own_of (get_or news w any)) task asked held floor)) → ShowsShort setup journal asked held floor
+shows_short sizes setup lock workers news journal same are whole asked held floor shows =
+    let any = new_worker lock 0 0 in
+    let is = whole_of lock workers news journal are whole shows.0 any shows.2 in
+    record {
+      worker = shows.0;
+      task = shows.1;
+      shows = subst (λ (es : List Entry). ShowsNoRoom setup (history_of es) shows.1 asked held floor) (sym is)
+          (subst (λ (s : Sizes). ShowsNoRoom s (own_of (get_or news shows.0 any)) shows.1 asked held floor) (sym same) (shows.3 any));
+    }

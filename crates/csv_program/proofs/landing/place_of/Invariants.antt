@@ -1,9 +1,0 @@
-use Rattle.std.proofs.Common.{◌≡◌, drop}
-use Rattle.std.specs.List.{position_from}
-use Rattle.std.specs.Str.{bytes_eq}
-use Rattle.csv.specs.Records.{fields_of}
-use Rattle.csv_program.specs.Landing.{place}
-use Rattle.csv_program.proofs.landing.place_of.Given as goal
-
-abbrev pub invariant-loop-i : goal.invariant-loop-i
-invariant-loop-i l = place l.name (fields_of l.header) ≡ position_from (λ f. bytes_eq f l.name) l.i (drop l.i (fields_of l.header))

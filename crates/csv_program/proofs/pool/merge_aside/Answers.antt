@@ -1,0 +1,32 @@
+use Rattle.std.proofs.Common.{sym, subst, arith}
+use Rattle.std.specs.Prelude.{IsSome}
+use Rattle.csv_program.specs.Posts.{post_faults, post_files}
+use Rattle.csv_program.proofs.Aside.{cause_around, faults_alike, files_alike, have_alike, merges_alike}
+use Rattle.csv_program.proofs.pool.merge_aside.Goals as goal
+
+pub returns-clause-answer : goal.returns-clause-answer
+returns-clause-answer g c =
+    let files = g.D.Disk.files in
+    let taken = files_alike files c.take_consumers.new.posts c.args.posts.now c.take_consumers.ensures.disks in
+    let given = files_alike files c.swap_consumers.new.posts c.run_final-answer.new.shelf c.swap_consumers.ensures.disks in
+    λ lists tells have apart.
+    merges_alike (post_files files c.run_final-answer.new.shelf) (post_files files c.swap_consumers.new.posts) c.args.kind.now lists c.run_final-answer.result given
+    (c.run_final-answer.ensures.answer lists (subst IsSome (sym (taken 0)) tells)
+    (have_alike (post_files files c.args.posts.now) (post_files files c.take_consumers.new.posts) c.args.kind.now c.args.runs.items lists taken have) apart)
+
+pub returns-clause-later : goal.returns-clause-later
+returns-clause-later g c =
+    let faults = g.D.Disk.faults in
+    λ place.
+    let taken = faults_alike faults c.take_consumers.new.posts c.args.posts.now c.take_consumers.ensures.disks place in
+    let given = faults_alike faults c.swap_consumers.new.posts c.run_final-answer.new.shelf c.swap_consumers.ensures.disks place in
+    let later = c.run_final-answer.ensures.shelf.later place in
+    omega (arith, taken, given, later)
+
+pub returns-clause-cause : goal.returns-clause-cause
+returns-clause-cause g c =
+    let faults = g.D.Disk.faults in
+    let taken = faults_alike faults c.take_consumers.new.posts c.args.posts.now c.take_consumers.ensures.disks in
+    let given = faults_alike faults c.swap_consumers.new.posts c.run_final-answer.new.shelf c.swap_consumers.ensures.disks in
+    cause_around (post_faults faults c.args.posts.now) (post_faults faults c.take_consumers.new.posts) (post_faults faults c.run_final-answer.new.shelf) (post_faults faults c.swap_consumers.new.posts) c.run_final-answer.result
+    (λ place. let same = taken place in omega (arith, same)) (λ place. let same = given place in omega (arith, same)) c.run_final-answer.ensures.cause

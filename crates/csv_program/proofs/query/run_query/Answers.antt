@@ -1,0 +1,115 @@
+use Rattle.std.proofs.Common.{◌≡◌, ◌∙◌, ℕ, List, Option, Ok, length, ap, subst, inl, sym}
+use Rattle.std.specs.Prelude.{◌⊎◌, IfSome, OnOk}
+use Rattle.std.specs.Io.KnownBytes.{Appends}
+use Rattle.byte_io.specs.Sinks.{AppendsPrefix}
+use Rattle.pool_ledger.specs.declared.entry.Entry.{Entry as JournalEntry}
+use Rattle.aggregate.specs.Totals.{Entry}
+use Rattle.job_plan.specs.Columns.{Fields}
+use Rattle.job_plan.specs.Plans.{form_in, kind_at}
+use Rattle.landing.specs.Landed.{AreChecked, AreLanded, partition_of}
+use Rattle.result_table.specs.Results.{HasResult}
+use Rattle.run_file.specs.declared.run.Run.{Run}
+use Rattle.task_runner.specs.Workers.{IfSound}
+use Rattle.std.specs.Global.{Vec}
+use Rattle.consumer_trait.specs.States.{State}
+use Rattle.task_runner.specs.Consumers.{KeepsConsumers, place_for}
+use Rattle.task_runner.specs.Pass.{FeedsParts, states_at}
+use Rattle.task_runner.specs.declared.post.Post.{Post}
+use Rattle.csv_program.proofs.PostDisks.{states_same}
+use Rattle.csv_program.specs.Endings.{EndsAs, ending_of_totals, part_rows, printed_in, totals_of}
+use Rattle.csv_program.specs.Posts.{AllTell, post_files}
+use Rattle.csv_program.specs.Statuses.{IsCut, IsOutside}
+use Rattle.csv_program.specs.Tasks.{BeginsAll}
+use Rattle.csv_program.specs.declared.outcome.Status.{Status}
+use Rattle.csv_program.proofs.ToldTotals.{holds_parts, told_plan}
+use Rattle.csv_program.proofs.Wholes.{whole_totals}
+use Rattle.csv_program.proofs.EndedRuns.{fault_not_done, follows_none, ok_holds, outside_work, prefix_of_nothing, sound_ok}
+use Rattle.csv_program.proofs.query.run_query.Goals.{in-Ok, in-Err}
+use Rattle.csv_program.proofs.query.run_query.Given as given
+use Rattle.csv_program.proofs.query.run_query.Goals as goal
+
+pub returns-in_default-clause-tasks : goal.returns-in_default-clause-tasks
+returns-in_default-clause-tasks g c = follows_none c.args.pool.workers (length c.args.parts.now) c.unpooled.result.journal c.unpooled.ensures.journal
+
+-- the answer of the tasks is a run of what all entries come to
+sound : (g : given.Over) (c : goal.Joined-answer g) (rows : List Fields) → AllTell c.args.pool.workers (post_files g.D.Disk.files c.args.posts.now)
+    → AreLanded (post_files g.D.Disk.files c.args.posts.now) part_rows c.args.pool.workers c.args.parts.now rows → AreChecked (form_in c.args.plan.now) rows
+    → IfSound (λ answer. HasResult (post_files g.D.Disk.files c.run_tasks-answer.new.posts) (kind_at c.args.plan.now 0) answer (totals_of c.args.plan.now rows)) c.run_tasks-answer.result.0
+sound g c rows tell landed checked =
+    let plan = c.args.plan.now in
+    let files = post_files g.D.Disk.files c.args.posts.now in
+    subst (λ (entries : List Entry). IfSound (λ answer. HasResult (post_files g.D.Disk.files c.run_tasks-answer.new.posts) (kind_at plan 0) answer entries) c.run_tasks-answer.result.0)
+    (whole_totals plan rows _ landed.count)
+    (c.run_tasks-answer.ensures.answer (λ part. partition_of part_rows part rows) (holds_parts files plan c.args.pool.workers c.args.parts.now rows c.requires.some tell landed checked))
+
+-- the result that is printed
+printed : (g : given.Over) (c : goal.Joined-answer g) (rows : List Fields) (answer seen : Option Run) → c.run_tasks-answer.result.0 ≡ Ok answer → seen ≡ answer
+    → IfSound (λ answer. HasResult (post_files g.D.Disk.files c.run_tasks-answer.new.posts) (kind_at c.args.plan.now 0) answer (totals_of c.args.plan.now rows)) c.run_tasks-answer.result.0
+    → HasResult (post_files g.D.Disk.files c.run_tasks-answer.new.posts) (kind_at c.args.plan.now 0) seen (totals_of c.args.plan.now rows)
+printed g c rows answer seen is same known =
+    let says = λ (answer : Option Run). HasResult (post_files g.D.Disk.files c.run_tasks-answer.new.posts) (kind_at c.args.plan.now 0) answer (totals_of c.args.plan.now rows) in
+    subst says (sym same) (sound_ok says c.run_tasks-answer.result.0 answer is known)
+
+pub returns-clause-ending : goal.returns-clause-ending
+returns-clause-ending g c rows tell landed checked =
+    let plan = c.args.plan.now in
+    let says = λ (answer : Option Run). HasResult (post_files g.D.Disk.files c.run_tasks-answer.new.posts) (kind_at plan 0) answer (totals_of plan rows) in
+    let known = sound g c rows tell landed checked in
+    elim c.match-answer.branch [
+      | in-Ok w ↦
+          subst (λ (ended : Status). IsOutside ended ⊎ EndsAs (ending_of_totals plan (totals_of plan rows)) ended) (sym w.status-is)
+          (w.print_answer-status.ensures.ending (totals_of plan rows) (printed g c rows w.in-Ok.answer _ w.in-Ok.is w.as_ref.ensures.value known) (told_plan plan rows c.short_shapes_are_told.ensures c.requires.one checked))
+      | in-Err w ↦ inl (outside_work says c.run_tasks-answer.result.0 w.in-Err.fault c.match-answer.status w.in-Err.is known (w.status-is ∙ w.work_status-status.ensures))
+    ]
+
+pub returns-clause-done : goal.returns-clause-done
+returns-clause-done g c rows tell landed checked done =
+    let plan = c.args.plan.now in
+    let known = sound g c rows tell landed checked in
+    elim c.match-answer.branch [
+      | in-Ok w ↦
+          subst (λ (output : g.row.W.Denot). Appends (g.W.Sink.written c.args.output.now) (g.W.Sink.written output) (printed_in (ending_of_totals plan (totals_of plan rows)))) (sym w.output-is)
+          (w.print_answer-status.ensures.done (totals_of plan rows) (printed g c rows w.in-Ok.answer _ w.in-Ok.is w.as_ref.ensures.value known) (sym w.status-is ∙ done))
+      | in-Err w ↦ absurd (fault_not_done w.in-Err.fault c.match-answer.status (w.status-is ∙ w.work_status-status.ensures) done)
+    ]
+
+pub returns-clause-prefix : goal.returns-clause-prefix
+returns-clause-prefix g c rows tell landed checked cut =
+    let plan = c.args.plan.now in
+    let known = sound g c rows tell landed checked in
+    elim c.match-answer.branch [
+      | in-Ok w ↦
+          subst (λ (output : g.row.W.Denot). AppendsPrefix (g.W.Sink.written c.args.output.now) (g.W.Sink.written output) (printed_in (ending_of_totals plan (totals_of plan rows)))) (sym w.output-is)
+          (w.print_answer-status.ensures.prefix (totals_of plan rows) (printed g c rows w.in-Ok.answer _ w.in-Ok.is w.as_ref.ensures.value known) (subst IsCut w.status-is cut))
+      | in-Err w ↦ prefix_of_nothing g.W.Sink.written c.args.output.now c.match-answer.output _ w.output-is
+    ]
+
+pub returns-clause-all : goal.returns-clause-all
+returns-clause-all g c done = elim c.match-answer.branch [
+  | in-Ok w ↦ ok_holds c.run_tasks-answer.result.0 w.in-Ok.answer w.in-Ok.is (subst (λ (journal : Option (List JournalEntry)). OnOk c.run_tasks-answer.result.0 (IfSome journal (BeginsAll (length c.args.parts.now)))) c.in-Some.is c.run_tasks-answer.ensures.all)
+  | in-Err w ↦ absurd (fault_not_done w.in-Err.fault c.match-answer.status (w.status-is ∙ w.work_status-status.ensures) done)
+]
+
+-- printing leaves the consumers
+states_stay : (g : given.Over) (c : goal.Joined-answer g) (place : ℕ) → states_at g.C.Consumer.state c.match-answer.posts.items place ≡ states_at g.C.Consumer.state c.run_tasks-answer.new.posts.items place
+states_stay g c place = elim c.match-answer.branch [
+  | in-Ok w ↦
+      ap (λ (posts : Vec (Post g.row.D.Denot g.row.C.Denot)). states_at g.C.Consumer.state posts.items place) w.posts-is
+      ∙ states_same g.C.Consumer.state c.run_tasks-answer.new.posts.items w.print_answer-status.new.posts.items w.print_answer-status.ensures.consumers place
+  | in-Err w ↦ ap (λ (posts : Vec (Post g.row.D.Denot g.row.C.Denot)). states_at g.C.Consumer.state posts.items place) w.posts-is
+]
+
+pub returns-clause-fed : goal.returns-clause-fed
+returns-clause-fed g c done worker below = elim c.match-answer.branch [
+  | in-Ok w ↦
+      subst (λ (states : List State). FeedsParts (states_at g.C.Consumer.state c.args.posts.now.items worker) states (place_for (kind_at c.args.plan.now 0)) c.args.parts.now c.args.pool.workers worker) (sym (states_stay g c worker))
+      (ok_holds c.run_tasks-answer.result.0 w.in-Ok.answer w.in-Ok.is c.run_tasks-answer.ensures.fed worker below)
+  | in-Err w ↦ absurd (fault_not_done w.in-Err.fault c.match-answer.status (w.status-is ∙ w.work_status-status.ensures) done)
+]
+
+pub returns-clause-others : goal.returns-clause-others
+returns-clause-others g c place beyond = states_stay g c place ∙ c.run_tasks-answer.ensures.others place beyond
+
+pub returns-clause-consumers : goal.returns-clause-consumers
+returns-clause-consumers g c place =
+    subst (λ (states : List State). KeepsConsumers (states_at g.C.Consumer.state c.args.posts.now.items place) states) (sym (states_stay g c place)) (c.run_tasks-answer.ensures.consumers place)

@@ -1,0 +1,40 @@
+use Rattle.std.proofs.Common.{sym, arith}
+use Rattle.fault_count.specs.Faults.{Rose}
+use Rattle.job_plan.specs.Plans.{kind_at}
+use Rattle.csv_program.specs.Posts.{post_faults, post_files}
+use Rattle.csv_program.proofs.PostDisks.{disk_fault_as, faults_same, files_same, rose_as}
+use Rattle.csv_program.proofs.Printed.{result_kept}
+use Rattle.csv_program.proofs.table.print_answer.Goals as goal
+
+pub returns-clause-ending : goal.returns-clause-ending
+returns-clause-ending g c entries has told =
+    let same = files_same c.args.posts.now c.take_consumers.new.posts c.take_consumers.ensures.disks g.D.Disk.files in
+    c.check_and_print-status.ensures.ending entries (result_kept (post_files g.D.Disk.files c.args.posts.now) (post_files g.D.Disk.files c.take_consumers.new.posts) (kind_at c.args.plan.now 0) _ entries same has) told
+
+pub returns-clause-done : goal.returns-clause-done
+returns-clause-done g c entries has done =
+    let same = files_same c.args.posts.now c.take_consumers.new.posts c.take_consumers.ensures.disks g.D.Disk.files in
+    c.check_and_print-status.ensures.done entries (result_kept (post_files g.D.Disk.files c.args.posts.now) (post_files g.D.Disk.files c.take_consumers.new.posts) (kind_at c.args.plan.now 0) _ entries same has) done
+
+pub returns-clause-prefix : goal.returns-clause-prefix
+returns-clause-prefix g c entries has cut =
+    let same = files_same c.args.posts.now c.take_consumers.new.posts c.take_consumers.ensures.disks g.D.Disk.files in
+    c.check_and_print-status.ensures.prefix entries (result_kept (post_files g.D.Disk.files c.args.posts.now) (post_files g.D.Disk.files c.take_consumers.new.posts) (kind_at c.args.plan.now 0) _ entries same has) cut
+
+pub returns-clause-disk : goal.returns-clause-disk
+returns-clause-disk g c =
+    let faults = g.D.Disk.faults in
+    let first = faults_same c.args.posts.now c.take_consumers.new.posts c.take_consumers.ensures.disks faults in
+    let last = faults_same c.check_and_print-status.new.shelf c.swap_consumers.new.posts c.swap_consumers.ensures.disks faults in
+    disk_fault_as c.check_and_print-status.result
+    (λ post. Rose (post_faults faults c.take_consumers.new.posts post) (post_faults faults c.check_and_print-status.new.shelf post))
+    (λ post. Rose (post_faults faults c.args.posts.now post) (post_faults faults c.swap_consumers.new.posts post))
+    (λ post rose. rose_as _ _ _ _ (first post) (sym (last post)) rose) c.check_and_print-status.ensures.disk
+
+pub returns-clause-later : goal.returns-clause-later
+returns-clause-later g c place =
+    let faults = g.D.Disk.faults in
+    let first = faults_same c.args.posts.now c.take_consumers.new.posts c.take_consumers.ensures.disks faults place in
+    let last = faults_same c.check_and_print-status.new.shelf c.swap_consumers.new.posts c.swap_consumers.ensures.disks faults place in
+    let later = c.check_and_print-status.ensures.shelf.later place in
+    omega (arith, first, last, later)

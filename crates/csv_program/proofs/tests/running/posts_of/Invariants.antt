@@ -1,0 +1,8 @@
+use Rattle.std.proofs.Common.{All, map}
+use Rattle.task_runner.specs.Consumers.{HasConsumers}
+use Rattle.csv_program.specs.QueryConsumers.{state_in}
+use Rattle.csv_program.proofs.tests.running.posts_of.Given as goal
+
+abbrev pub invariant-loop-place : goal.invariant-loop-place
+invariant-loop-place l =
+    All (λ post. HasConsumers (map state_in post.consumers.items)) l.posts.items

@@ -1,0 +1,31 @@
+-- When a run prints its table: the input is valid, nothing outside fails, and no attempt is granted short.
+-- This project's own.
+use Rattle.std.specs.Prelude.{◌≡◌, ℕ, ◌≤◌, List, unwrap_or, ⊤}
+use Rattle.std.specs.List.{AllByRecursion}
+use Rattle.fault_count.specs.Faults.{Rose}
+use Rattle.pool_ledger.specs.declared.entry.Entry.{Entry}
+use Rattle.pool_ledger.specs.declared.entry.Event.{Event}
+use Rattle.pool_ledger.specs.declared.entry.Event.TheVariants.{Attempt}
+use Rattle.csv_program.specs.Tasks.{BeginsAll, FollowsPlan}
+use Rattle.csv_program.specs.declared.outcome.Status.{Status}
+use Rattle.csv_program.specs.declared.outcome.Status.TheVariants as status
+
+-- no count of faults rose: neither the input's nor the output's, nor that of a post's disk
+pub record FailsNothing (input input' output output' : ℕ) (posts posts' : ℕ → ℕ) : Type 0 where
+  pub reads : Rose input input' → ⊥
+  pub writes : Rose output output' → ⊥
+  pub disks : (post : ℕ) → Rose (posts post) (posts' post) → ⊥
+
+-- an attempt is granted all that it asks; a wait is granted nothing
+abbrev pub IsWhole : Event → Type 0
+IsWhole (Attempt task asked moved evictions got) = asked ≤ unwrap_or got 0
+IsWhole _ = ⊤
+
+-- each attempt is
+abbrev pub GrantsAll : List Entry → Type 0
+GrantsAll journal = AllByRecursion (λ entry. IsWhole entry.event) journal
+
+-- the journal has the tasks of so many partitions, and all of them after `Done`
+pub record HasTasks (workers partitions : ℕ) (ended : Status) (journal : List Entry) : Type 0 where
+  pub follows : FollowsPlan workers partitions journal
+  pub all : ended ≡ status.Done → BeginsAll partitions journal

@@ -1,0 +1,177 @@
+//! The folder `spill/`, in which a process keeps what it lands and spills.
+
+ghost use Rattle.std.specs.Prelude.{◌≡◌, All, IfOk, map};
+ghost use Rattle.task_runner.specs.Consumers.{HasConsumers};
+ghost use Rattle.csv_program.specs.QueryConsumers.{state_in};
+
+use crate::consumers::{QueryConsumer, make_consumers};
+use spill_disk::FolderDisk;
+use std::alloc::{AllocError, Global};
+use std::fs::{File, TryLockError};
+use std::rt::Files;
+use std::{fs, io};
+use task_runner::Post;
+use thiserror::Error;
+
+// How many posts there are: the most workers.
+const POSTS: usize = 16;
+
+/// Why a process can't use the folder.
+#[derive(Debug, Drop, Error)]
+pub enum SpillFault {
+    /// Another process holds the lock.
+    #[error("spill: another run is using it")]
+    InUse,
+    /// The folder, its lock or an earlier run's files can't be had.
+    #[error("spill: a call failed")]
+    Failed,
+    /// There is too little memory.
+    #[error("out of memory")]
+    NoMemory,
+}
+
+impl SpillFault {
+    /// The number that the process ends with.
+    pub fn number(&self) -> u8 {
+        match self {
+            SpillFault::InUse | SpillFault::Failed => 16,
+            SpillFault::NoMemory => 18,
+        }
+    }
+}
+
+impl From<AllocError> for SpillFault {
+    fn from(_failed: AllocError) -> SpillFault {
+        SpillFault::NoMemory
+    }
+}
+
+impl From<io::Error> for SpillFault {
+    fn from(failed: io::Error) -> SpillFault {
+        if failed.kind() == io::ErrorKind::OutOfMemory {
+            SpillFault::NoMemory
+        } else {
+            SpillFault::Failed
+        }
+    }
+}
+
+// Makes the folder; one that is there already serves.
+fn make_folder<R: Files>(rt: &R) -> io::Result<()> {
+    match fs::create_dir(rt, "spill") {
+        Err(failed) if failed.kind() != io::ErrorKind::AlreadyExists => Err(failed),
+        _ => Ok(()),
+    }
+}
+
+// Whether a file has a name that a disk gives.
+fn is_numbered(name: &str) -> bool {
+    !name.is_empty() && name.bytes().all(|byte| byte.is_ascii_digit())
+}
+
+// Removes the numbered files of a folder, where it is there.
+fn clear_folder<R: Files + AllocGlobal + Clone + Drop>(rt: &R, folder: &str) -> io::Result<()> {
+    let entries = match fs::read_dir(rt, folder) {
+        Ok(entries) => entries,
+        Err(failed) if failed.kind() == io::ErrorKind::NotFound => return Ok(()),
+        Err(failed) => return Err(failed),
+    };
+    for entry in entries {
+        let entry = entry?;
+        if is_numbered(entry.file_name()) {
+            fs::remove_file(rt, entry.path())?;
+        }
+    }
+    Ok(())
+}
+
+// Makes the folder, takes its lock, and removes the files that an earlier run left there. Another process can't do so until the
+// answer is dropped.
+fn take_folder<R: Files<File = File> + AllocGlobal + Clone + Drop>(
+    rt: &R,
+) -> Result<File, SpillFault> {
+    make_folder(rt)?;
+    let lock = File::options()
+        .write(true)
+        .create(true)
+        .open(rt, "spill/lock")?;
+    match lock.try_lock() {
+        Ok(()) => {}
+        Err(TryLockError::WouldBlock) => return Err(SpillFault::InUse),
+        Err(TryLockError::Error(failed)) => return Err(SpillFault::from(failed)),
+    }
+    for place in 0..POSTS {
+        let folder = format!(in rt.alloc(); "spill/post{place}")?;
+        clear_folder(rt, folder.as_str())?;
+    }
+    clear_folder(rt, "spill/store")?;
+    Ok(lock)
+}
+
+// The disk of a folder in the folder. Nothing is made yet.
+fn disk_in<R: Files + AllocGlobal + Clone + Drop>(
+    rt: &R,
+    folder: String,
+) -> Result<FolderDisk<R>, AllocError> {
+    Ok(FolderDisk::new(rt.clone()?, folder))
+}
+
+// A post with this disk.
+fn make_post<R: Files + Drop>(
+    alloc: Global,
+    disk: FolderDisk<R>,
+) -> Result<Post<FolderDisk<R>, QueryConsumer>, AllocError>
+    ensures { IfOk result (λ post. HasConsumers (map state_in post.consumers.items)) }
+{
+    Ok(Post {
+        disk,
+        consumers: make_consumers(alloc)?,
+    })
+}
+
+// Sixteen posts with disks in `spill/post0` to `spill/post15`. No file is made yet.
+fn make_posts<R: Files + AllocGlobal + Clone + Drop>(
+    rt: &R,
+) -> Result<Vec<Post<FolderDisk<R>, QueryConsumer>>, AllocError>
+    ensures { IfOk result (λ posts. All (λ post. HasConsumers (map state_in post.consumers.items)) posts.items) }
+{
+    let mut posts = Vec::new(rt.alloc());
+    for place in 0..POSTS {
+        let folder = format!(in rt.alloc(); "spill/post{place}")?;
+        posts.push(make_post(rt.alloc(), disk_in(rt, folder)?)?)?;
+    }
+    Ok(posts)
+}
+
+// Whether words may be those of a run: others make no file.
+fn may_run(words: &[&str]) -> bool {
+    match words.split_first() {
+        Some((first, rest)) => *first == "run" && !rest.is_empty(),
+        None => false,
+    }
+}
+
+/// Sixteen posts with disks in the folder, and a disk for copies of cached blocks. Where the words may be those of a run, the
+/// folder is made and cleared, and is this process' own until the lock is dropped; else nothing is made.
+pub fn prepare<R: Files<File = File> + AllocGlobal + Clone + Drop>(
+    rt: &R,
+    words: &[&str],
+) -> Result<
+    (
+        Vec<Post<FolderDisk<R>, QueryConsumer>>,
+        FolderDisk<R>,
+        Option<File>,
+    ),
+    SpillFault,
+>
+    ensures { IfOk result (λ made. All (λ post. HasConsumers (map state_in post.consumers.items)) made.0.items) }
+{
+    let lock = if may_run(words) {
+        Some(take_folder(rt)?)
+    } else {
+        None
+    };
+    let posts = make_posts(rt)?;
+    let store = disk_in(rt, String::from_str(rt.alloc(), "spill/store")?)?;
+    Ok((posts, store, lock))
+}

@@ -1,0 +1,124 @@
+// Small inputs against a slow program beside it.
+use crate::tests::running::{call_of, run_with, told, words_with};
+use std::alloc::{AllocError, Global};
+use std::test::Fail;
+
+const KEYS: [&str; 5] = ["a", "ab", "b", "", "zz"];
+
+// A row: the place of its key among the keys, and its number.
+type Row = (usize, i64);
+
+// The next generated number, and a number below a bound.
+fn next(x: &mut u64, bound: u64) -> u64 {
+    *x = x
+        .wrapping_mul(6364136223846793005)
+        .wrapping_add(1442695040888963407);
+    (*x >> 33).checked_rem(bound).unwrap_or(0)
+}
+
+fn rows_of(alloc: Global, x: &mut u64) -> Result<Vec<Row>, AllocError> {
+    let mut rows = Vec::new(alloc);
+    for _ in 0..next(x, 40) {
+        let key = next(x, 5) as usize;
+        let number = i64::try_from(next(x, 21)).unwrap_or(0).wrapping_sub(10);
+        rows.push((key, number))?;
+    }
+    Ok(rows)
+}
+
+fn key_of(key: usize) -> &'static str {
+    KEYS.get(key).copied().unwrap_or("")
+}
+
+fn input_of(alloc: Global, rows: &[Row]) -> Result<String, AllocError> {
+    let mut input = String::from_str(alloc, "k,n\n")?;
+    for (key, number) in rows {
+        let line = format!(in alloc; "{},{number}\n", key_of(*key))?;
+        input.push_str(line.as_str())?;
+    }
+    Ok(input)
+}
+
+// The table of `group k: count, sum n, min n, max n`: each key's rows are picked out of all.
+fn groups_of(alloc: Global, rows: &[Row]) -> Result<String, AllocError> {
+    let mut table = String::from_str(alloc, "k,count,sum_n,min_n,max_n\n")?;
+    // The keys ascend in this order.
+    for key in [3usize, 0, 1, 2, 4] {
+        let (mut count, mut sum, mut least, mut most) = (0u64, 0i64, 10i64, -10i64);
+        for (other, number) in rows {
+            if *other == key {
+                count = count.wrapping_add(1);
+                sum = sum.wrapping_add(*number);
+                least = least.min(*number);
+                most = most.max(*number);
+            }
+        }
+        if count > 0 {
+            let line = format!(in alloc; "{},{count},{sum},{least},{most}\n", key_of(key))?;
+            table.push_str(line.as_str())?;
+        }
+    }
+    Ok(table)
+}
+
+// The table of `order number n down: k, n`: from the greatest number to the least, those rows that have it.
+fn down_of(alloc: Global, rows: &[Row]) -> Result<String, AllocError> {
+    let mut table = String::from_str(alloc, "k,n\n")?;
+    for step in 0..21i64 {
+        let wanted = 10i64.wrapping_sub(step);
+        for (key, number) in rows {
+            if *number == wanted {
+                let line = format!(in alloc; "{},{number}\n", key_of(*key))?;
+                table.push_str(line.as_str())?;
+            }
+        }
+    }
+    Ok(table)
+}
+
+// The table of `order k, number n: n, k`.
+fn up_of(alloc: Global, rows: &[Row]) -> Result<String, AllocError> {
+    let mut table = String::from_str(alloc, "n,k\n")?;
+    for wanted_key in [3usize, 0, 1, 2, 4] {
+        for wanted in -10..11i64 {
+            for (key, number) in rows {
+                if *key == wanted_key && *number == wanted {
+                    let line = format!(in alloc; "{number},{}\n", key_of(*key))?;
+                    table.push_str(line.as_str())?;
+                }
+            }
+        }
+    }
+    Ok(table)
+}
+
+#[test]
+fn small_inputs_have_their_plain_answers(rt: HostRuntime) -> Result<(), Fail> {
+    let alloc = rt.alloc();
+    let mut x = 7u64;
+    for _ in 0..24 {
+        let rows = rows_of(alloc, &mut x)?;
+        let input = input_of(alloc, &rows)?;
+        let cases = [
+            (
+                "group k: count, sum n, min n, max n",
+                groups_of(alloc, &rows)?,
+            ),
+            ("order number n down: k, n", down_of(alloc, &rows)?),
+            ("order k, number n: n, k", up_of(alloc, &rows)?),
+        ];
+        for (job, wanted) in &cases {
+            for heap in ["2048", "1048576"] {
+                let words = words_with(heap, job);
+                let ran = run_with(&rt, alloc, 1, call_of(&words, input.as_bytes()))?;
+                assert_eq!(rt;
+                    told(alloc, &ran.outcome.status)?.as_str(),
+                    "0 ",
+                    "{job} {input}"
+                );
+                assert_eq!(rt; ran.written.as_slice(), wanted.as_bytes(), "{job} {input}");
+            }
+        }
+    }
+    Ok(())
+}
