@@ -7,12 +7,13 @@ The jobs: `few` groups by 1,000 keys, `many` by about half as many keys as rows,
 downwards. The inputs are by a fixed generator, made once under --dir. The program (luvenashil, built by its
 launcher), mawk (groups), GNU sort (orders), sqlite3 and Python's csv module (groups of few keys) do the same
 in turn, --reps times each. Their answers have to agree: those of groups as sets of rows, since other tools
-don't order them. A pool of 0 MiB stands for the default one, of 450 MiB; in a small one GNU sort gets as
+don't order them. A pool of 0 MiB stands for the default one, of 434 MiB; in another one GNU sort gets as
 much (-S), sqlite3 as much cache, and tools that can't be held to it don't run. `--rust` is a folder with
 programs by hand, `rust_group`, `rust_order` and `spec_shape`, which are taken where they are there.
 
 Printed are the least wall clock and processor seconds, the program's processor seconds over each tool's,
-and the greatest resident memory. In place of a table the program's spilled files go to a folder of their own.
+and the greatest resident memory, which is never below that of this script. What the program spills goes to a
+folder under --dir.
 """
 
 import argparse
