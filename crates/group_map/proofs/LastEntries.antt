@@ -24,7 +24,7 @@ last_group aggs e (x ∷ xs) = last_group_at aggs (key_cmp e.key x.key) e x xs (
 pub same_key : (a b : List ℕ) → key_cmp a b ≡ Equal → a ≡ b
 same_key a b e = slice_cmp-IsAntisymmetric nat_cmp-IsAntisymmetric a b e
 
-turn : (a b : List ℕ) (o : Ordering) → key_cmp a b ≡ o → key_cmp b a ≡ ordering_reverse o
+pub turn : (a b : List ℕ) (o : Ordering) → key_cmp a b ≡ o → key_cmp b a ≡ ordering_reverse o
 turn a b o e = nat_list_cmp_total.antisymm b a ∙ ap ordering_reverse e
 
 -- an earlier and a later entry come in either order

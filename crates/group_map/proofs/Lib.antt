@@ -1,4 +1,5 @@
 pub mod LastEntries
+pub mod Distinct
 pub mod Grouping
 pub mod Charging
 pub mod Moving

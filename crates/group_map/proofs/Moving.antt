@@ -1,27 +1,37 @@
--- Pairs that go from the front of a map to a page.
-use Rattle.std.proofs.Common.{◌≡◌, ℕ, ◌+◌, ◌<◌, ◌≤◌, List, [], ◌∷◌, ◌++◌, length, sym, ap, subst, ◌∙◌, arith, append_assoc, Option, Some, None}
-use Rattle.std.specs.Prelude.{IsSome, IfSome}
+-- Pairs of a map that go to a page, from a place on.
+use Rattle.std.proofs.Common.{◌≡◌, ℕ, suc, zero, ◌+◌, ◌<◌, ◌≤◌, List, [], ◌∷◌, ◌++◌, length, drop, sym, ap, subst, ◌∙◌, arith, append_assoc, Some}
 use Rattle.std.specs.Global.{Vec}
 use Rattle.std.specs.List.{All, slice_get}
+use Rattle.std.specs.List.Sorted.{IsStrictlySortedBy}
+use Rattle.std.proofs.Math.Seq.{drop-cons}
+use Rattle.std.proofs.lemmas.Option.{get_or_from_slice_get, slice_get_within}
 use Rattle.std.proofs.lemmas.List.{map-append}
 use Rattle.std.proofs.lemmas.List.Elements.{All-head, All-tail}
 use Rattle.std.proofs.lemmas.List.Sums.{sum_by-cons}
 use Rattle.aggregate.specs.Rows.{entry_of, entries_of}
 use Rattle.aggregate.specs.Totals.{Entry, cost, costs}
 use Rattle.row_page.specs.Spelling.{page_length, row_length}
-use Rattle.group_map.specs.Pairs.{entry_of_pair, entries_of_pairs, Fits}
+use Rattle.group_map.specs.Pairs.{entry_of_pair, entries_of_pairs, Fits, IsInOrder}
 use Rattle.group_map.proofs.Grouping.{Pairs}
 
--- the first of entries that have room has room
-pub first_fits : (pairs : Pairs) (k v : Vec ℕ) → slice_get pairs 0 ≡ Some (k, v) → All Fits (entries_of_pairs pairs) → Fits (entry_of_pair (k, v))
-first_fits [] k v first fits = absurd (cc)
-first_fits (p ∷ pairs) k v first fits = let same : p ≡ (k, v) = cc in subst (λ (q : Vec ℕ × Vec ℕ). Fits (entry_of_pair q)) same (All-head Fits (entry_of_pair p) (entries_of_pairs pairs) fits)
+-- the pairs from a place on are the one at it and those behind it
+pub first_from : (at : ℕ) (pairs : Pairs) (p : Vec ℕ × Vec ℕ) → slice_get pairs at ≡ Some p → drop at pairs ≡ p ∷ drop (at + 1) pairs
+first_from at pairs p there =
+    let next : suc at ≡ at + 1 = omega arith in
+    drop-cons pairs at p (slice_get_within pairs at p there)
+    ∙ ap (λ (q : Vec ℕ × Vec ℕ). q ∷ drop (suc at) pairs) (get_or_from_slice_get pairs at p p there)
+    ∙ ap (λ (n : ℕ). p ∷ drop n pairs) next
 
--- the pair that is taken out is the one that was seen first
-pub taken_out : (pairs more : Pairs) (k v : Vec ℕ) (taken : Option (Vec ℕ × Vec ℕ)) → slice_get pairs 0 ≡ Some (k, v) → (0 < length pairs → IsSome taken) → IfSome taken (λ p. pairs ≡ p ∷ more) → pairs ≡ (k, v) ∷ more
-taken_out [] more k v taken first some removal = absurd (cc)
-taken_out (p ∷ pairs) more k v None first some removal = absurd (let there = some (omega arith) in cc there)
-taken_out (p ∷ pairs) more k v (Some q) first some removal = cc
+-- pairs in order are so from each place on
+pub order_from : (at : ℕ) (pairs : Pairs) → IsInOrder pairs → IsInOrder (drop at pairs)
+unfolding IsStrictlySortedBy
+order_from zero pairs h = h
+order_from (suc at) [] h = tt
+order_from (suc at) (p ∷ pairs) h = order_from at pairs h.1
+
+-- the first of entries that have room has room
+pub first_fits : (pairs more : Pairs) (p : Vec ℕ × Vec ℕ) → pairs ≡ p ∷ more → All Fits (entries_of_pairs pairs) → Fits (entry_of_pair p)
+first_fits pairs more p is fits = All-head Fits (entry_of_pair p) (entries_of_pairs more) (subst (λ (ps : Pairs). All Fits (entries_of_pairs ps)) is fits)
 
 -- a row more on the page, and a pair less in the map
 pub moved_more : (all pairs more : Pairs) (rows : List (List (List ℕ))) (k v : Vec ℕ) (key value : List ℕ) → pairs ≡ (k, v) ∷ more → key ≡ k.items → value ≡ v.items → entries_of_pairs all ≡ entries_of rows ++ entries_of_pairs pairs → entries_of_pairs all ≡ entries_of (rows ++ (key ∷ (value ∷ [])) ∷ []) ++ entries_of_pairs more

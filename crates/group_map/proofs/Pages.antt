@@ -1,13 +1,14 @@
 -- A page that a spill wrote: its rows are entries of the kind, and ascend with what is left.
-use Rattle.std.proofs.Common.{◌≡◌, ℕ, List, [], ◌∷◌, ◌++◌, length, Option, Some, None}
+use Rattle.std.proofs.Common.{◌≡◌, ◌≢◌, ℕ, ◌≤◌, List, [], ◌∷◌, ◌++◌, length, Option, Some, None, refl, arith}
 use Rattle.std.specs.Prelude.{IsSome}
 use Rattle.std.specs.List.{All}
+use Rattle.std.proofs.lemmas.List.Sums.{sum_by-cons}
 use Rattle.std.proofs.lemmas.List.Elements.{All-nil, All-cons, All-head, All-tail}
 use Rattle.aggregate.specs.declared.agg_list.Agg.{Agg}
 use Rattle.aggregate.specs.declared.kind.Kind.TheVariants.{Group}
 use Rattle.aggregate.specs.Rows.{Ascends, entry_of, entries_of}
-use Rattle.aggregate.specs.Totals.{Entry}
-use Rattle.consumer_trait.specs.States.{IsEntryBy}
+use Rattle.aggregate.specs.Totals.{Entry, cost, costs, total}
+use Rattle.consumer_trait.specs.States.{IsEntryBy, total_by}
 use Rattle.consumer_trait.specs.Calls.{IsEntryRow}
 use Rattle.group_map.specs.Pairs.{Fits, HasLength, width_of}
 use Rattle.group_map.specs.GroupMaps.{kind_by}
@@ -40,3 +41,17 @@ formed aggs (row ∷ rows) fields fits widths =
 pub ascends_by : (aggs : Option (List Agg)) (entries : List Entry) → IsSome (kind_by aggs) → ((each : List Agg) → Ascends (Some (Group each)) entries) → Ascends (kind_by aggs) entries
 ascends_by None entries begun ascends = absurd (cc begun)
 ascends_by (Some aggs) entries begun ascends = ascends aggs
+
+-- what comes to the same under each group's kind does so under the one that was begun
+pub total_sorted_by : (aggs : Option (List Agg)) (new old : List Entry) → IsSome (kind_by aggs) → ((each : List Agg) → total (Group each) new ≡ total (Group each) old) → total_by (kind_by aggs) new ≡ total_by (kind_by aggs) old
+total_sorted_by None new old begun same = absurd (cc begun)
+total_sorted_by (Some aggs) new old begun same = same aggs
+
+-- some entries take bytes
+pub some_costs : (entries : List Entry) → entries ≢ [] → 1 ≤ costs entries
+some_costs [] h = absurd (h refl)
+some_costs (entry ∷ entries) h = let e = sum_by-cons cost entry entries in omega (arith, e)
+
+pub none_where_short : (entries : List Entry) → length entries ≡ 0 → entries ≡ []
+none_where_short [] h = refl
+none_where_short (entry ∷ entries) h = absurd (omega (arith, h))

@@ -7,7 +7,7 @@ use Rattle.aggregate.specs.declared.kind.Kind.TheVariants.{Group, Order}
 use Rattle.aggregate.specs.Totals.{Entry}
 use Rattle.consumer_trait.specs.States.{State, Stage, Rest, Spill}
 use Rattle.group_map.specs.declared.map.GroupMap.{GroupMap}
-use Rattle.group_map.specs.Pairs.{entries_of_pairs}
+use Rattle.group_map.specs.Pairs.{entries_from}
 
 -- whether values of one key are combined
 abbrev pub is_group : Kind → Bool
@@ -24,13 +24,13 @@ abbrev pub stage_by : Bool → Bool → Bool → ℕ → List Entry → Stage
 stage_by true wrote freed mark left = Spill (record { asked = false; wrote = wrote; freed = freed; mark = mark; left = left })
 stage_by false wrote freed mark left = Rest
 
--- what callers know of it; a spill has still to write what is in the map
+-- what callers know of it; a spill has still to write what is in the map from its place on
 abbrev pub state_of : GroupMap → State
 state_of groups = record {
   kind = kind_by groups.aggs;
-  entries = entries_of_pairs groups.map.entries;
+  entries = entries_from groups.at groups.map.entries;
   fed = groups.fed;
-  stage = stage_by groups.spilling groups.wrote groups.freed groups.mark (entries_of_pairs groups.map.entries);
+  stage = stage_by groups.spilling groups.wrote groups.freed groups.mark (entries_from groups.at groups.map.entries);
   used = groups.used;
   least = 1024;
   serves = is_group;

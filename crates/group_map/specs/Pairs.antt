@@ -1,10 +1,12 @@
--- The pairs of an ordered map as entries.
+-- The pairs of a map as entries.
 -- This project's own.
-use Rattle.std.specs.Prelude.{◌≡◌, ℕ, ◌+◌, ◌*◌, ◌≤◌, List, [], ◌∷◌, ◌++◌, Option, Some, None, length, map, All}
+use Rattle.std.specs.Prelude.{◌≡◌, ℕ, ◌+◌, ◌*◌, ◌≤◌, List, [], ◌∷◌, ◌++◌, Option, Some, None, length, map, drop, All}
+use Rattle.std.specs.List.Sorted.{IsStrictlySortedBy}
+use Rattle.std.specs.Map.{keys_of}
 use Rattle.std.specs.Global.{Vec}
 use Rattle.aggregate.specs.declared.agg_list.Agg.{Agg}
 use Rattle.aggregate.specs.declared.kind.Kind.TheVariants.{Group}
-use Rattle.aggregate.specs.Totals.{Entry, costs, total}
+use Rattle.aggregate.specs.Totals.{Entry, costs, key_cmp, total}
 
 -- the entry that a pair is
 abbrev pub entry_of_pair : (Vec ℕ × Vec ℕ) → Entry
@@ -13,6 +15,14 @@ entry_of_pair pair = record { key = pair.0.items; value = pair.1.items }
 -- the entries that a map's pairs are
 abbrev pub entries_of_pairs : List (Vec ℕ × Vec ℕ) → List Entry
 entries_of_pairs pairs = map entry_of_pair pairs
+
+-- the same from a place on
+abbrev pub entries_from : ℕ → List (Vec ℕ × Vec ℕ) → List Entry
+entries_from at pairs = entries_of_pairs (drop at pairs)
+
+-- the keys ascend, each once
+abbrev pub IsInOrder : List (Vec ℕ × Vec ℕ) → Type 0
+IsInOrder pairs = IsStrictlySortedBy (λ a b. key_cmp a.items b.items) (keys_of pairs)
 
 -- an entry that has room on an empty page
 pub record Fits (entry : Entry) : Type 0 where

@@ -6,11 +6,11 @@ ghost use Rattle.aggregate.specs.declared.kind.Kind.TheVariants.{Group};
 ghost use Rattle.aggregate.specs.Rows.{Ascends, entries_of};
 ghost use Rattle.aggregate.specs.Totals.{costs as costs_of};
 ghost use Rattle.row_page.specs.Spelling.{page_length, row_length};
-ghost use Rattle.group_map.specs.Pairs.{entries_of_pairs, Fits};
+ghost use Rattle.group_map.specs.Pairs.{entries_from, entries_of_pairs, Fits, IsInOrder};
 
+use indexmap::IndexMap;
 use row_page::{Page, PageFault, RowBuf};
 use std::alloc::AllocError;
-use std::collections::BTreeMap;
 
 /// Puts a row of these two fields on the page. After an `Err` the page is as it was.
 fn put_row(row: &mut RowBuf, key: &[u8], value: &[u8], out: &mut Page) -> Result<(), PageFault>
@@ -27,35 +27,37 @@ fn put_row(row: &mut RowBuf, key: &[u8], value: &[u8], out: &mut Page) -> Result
     out.push(row.view())
 }
 
-/// Moves pairs from the front of the map to the page, as many as it has room for. `costs` are those
-/// of the map's pairs. The row is any; it is used again for each pair.
+/// Puts pairs on the page from a place on, as many as it has room for, and moves the place on. `costs` are
+/// those of the pairs from the place on. The row is any; it is used again for each pair.
 pub fn fill(
-    map: &mut BTreeMap<Vec<u8>, Vec<u8>>,
+    map: &IndexMap<Vec<u8>, Vec<u8>>,
+    at: &mut usize,
     costs: &mut u64,
     row: &mut RowBuf,
     out: &mut Page,
 ) -> Result<(), AllocError>
-    requires fits { All Fits (entries_of_pairs map.old.entries) }
-    requires charged { costs.old ≡ costs_of (entries_of_pairs map.old.entries) }
+    requires order { IsInOrder map.now.entries }
+    requires fits { All Fits (entries_from at.old map.now.entries) }
+    requires charged { costs.old ≡ costs_of (entries_from at.old map.now.entries) }
     requires page { out.old ≡ record { rows = []; room = 262144 } }
-    ensures moved { entries_of_pairs map.old.entries
-        ≡ entries_of out.new.rows ++ entries_of_pairs map.new.entries }
+    ensures moved { entries_from at.old map.now.entries
+        ≡ entries_of out.new.rows ++ entries_from at.new map.now.entries }
     ensures fields { All (λ fields. length fields ≡ 2) out.new.rows }
-    ensures some { OnOk result (map.old.entries ≢ [] → 1 ≤ length out.new.rows) }
+    ensures some { OnOk result (entries_from at.old map.now.entries ≢ [] → 1 ≤ length out.new.rows) }
     ensures ascends { (aggs : List Agg)
-        → Ascends (Some (Group aggs)) (entries_of_pairs map.old.entries) }
-    ensures charged { costs.new ≡ costs_of (entries_of_pairs map.new.entries) }
+        → Ascends (Some (Group aggs)) (entries_from at.old map.now.entries) }
+    ensures charged { costs.new ≡ costs_of (entries_from at.new map.now.entries) }
     ensures less { costs.new ≤ costs.old }
     ensures room { out.new.room ≡ out.old.room }
 {
-    for _number in 0..map.len() {
-        let Some((key, value)) = map.first_key_value() else {
+    for _number in *at..map.len() {
+        let Some((key, value)) = map.get_index(*at) else {
             return Ok(());
         };
         let cost = 32 + key.len() as u64 + value.len() as u64;
         match put_row(row, key, value, out) {
             Ok(()) => {
-                map.pop_first();
+                *at += 1;
                 *costs -= cost;
             }
             Err(PageFault::Full) => return Ok(()),

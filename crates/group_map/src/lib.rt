@@ -1,4 +1,4 @@
-//! The consumer of queries that group: it keeps one value a key, in the order of the keys.
+//! The consumer of queries that group: it keeps one value a key, and sorts the keys when it spills.
 #![tactic(auto)]
 
 mod filling;
