@@ -1,4 +1,5 @@
 pub mod Files
 pub mod Kept
 pub mod Memory
+pub mod Folder
 pub mod Shelves

@@ -1,6 +1,6 @@
 -- What contracts see of a disk in memory.
 -- This project's own.
-use Rattle.std.specs.Prelude.{ℕ, Bool, List, ◌==◌, vec_len}
+use Rattle.std.specs.Prelude.{◌≡◌, ℕ, ◌+◌, ◌-◌, ◌^◌, Bool, List, ◌==◌, min, vec_len}
 use Rattle.std.specs.List.{list_any}
 use Rattle.spill_disk.specs.Files.{Files}
 use Rattle.spill_disk.specs.Kept.{files_from}
@@ -22,6 +22,15 @@ fails_of disk = disk.fails.items
 abbrev pub calls_of : MemoryDisk → ℕ
 calls_of disk = disk.calls
 
+-- how many of them failed, as far as a `u64` counts
+abbrev pub faults_of : MemoryDisk → ℕ
+faults_of disk = disk.faults
+
 -- the next call is one of those that fail
 abbrev pub next_fails : MemoryDisk → Bool
 next_fails disk = list_any (λ call. call == disk.calls) disk.fails.items
+
+-- there was one call more, as far as a `u64` counts, and the calls that fail are the same
+pub record CountsCall (before after : MemoryDisk) : Type 0 where
+  pub calls : calls_of after ≡ min (calls_of before + 1) (2 ^ 64 - 1)
+  pub fails : fails_of after ≡ fails_of before

@@ -2,6 +2,7 @@
 
 ghost use Rattle.std.specs.Prelude.{◌≡◌, ◌<◌, ◌≤◌, ◌+◌, None, length, vec_len, IfOk, OnOk};
 ghost use Rattle.fault_count.specs.Faults.{HasCauseAt};
+ghost use Rattle.spill_disk.specs.Folder.{folder_faults, folder_next};
 
 use crate::opened::Opened;
 use crate::{Disk, DiskError};
@@ -30,7 +31,10 @@ pub struct FolderDisk<R: Files + Drop> {
 
 impl<R: Files + Drop> FolderDisk<R> {
     /// A disk in this folder, which has no file of a number's name. Nothing is made yet.
-    pub fn new(rt: R, folder: String) -> FolderDisk<R> {
+    pub fn new(rt: R, folder: String) -> FolderDisk<R>
+        ensures next { folder_next result ≡ 0 }
+        ensures faults { folder_faults result ≡ 0 }
+    {
         let alloc = *folder.allocator();
         FolderDisk {
             rt,

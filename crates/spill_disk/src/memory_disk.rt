@@ -1,9 +1,10 @@
 //! A disk in memory, which tells.
 
-ghost use Rattle.std.specs.Prelude.{◌≡◌, ◌<◌, ◌≤◌, ◌-◌, ◌+◌, ◌^◌, min, Some, is_err, length, is_some, vec_len, Err, IfOk, OnOk, OnErr, IsErrOf, IsTrue};
+ghost use Rattle.std.specs.Prelude.{◌≡◌, ◌<◌, ◌≤◌, ◌↔◌, ◌-◌, ◌+◌, ◌^◌, min, Some, is_err, length, is_some, vec_len, Err, IfOk, OnOk, OnErr, IsErrOf, IsTrue};
 ghost use Rattle.std.specs.FinMap as map;
 ghost use Rattle.fault_count.specs.Faults.{HasCauseAt};
-ghost use Rattle.spill_disk.specs.Memory.{memory_files, created_of, fails_of, calls_of, next_fails};
+ghost use Rattle.spill_disk.specs.Files.{IsThere, Creates, Appends, AppendsPart, Reads, Removes};
+ghost use Rattle.spill_disk.specs.Memory.{memory_files, created_of, fails_of, calls_of, faults_of, next_fails, CountsCall};
 
 use crate::slots::{add_bytes, add_slot, bytes_at, clear_slot, fill};
 use crate::{Disk, DiskError};
@@ -36,6 +37,7 @@ impl MemoryDisk {
         ensures fails { fails_of result ≡ fails.items }
         ensures calls { calls_of result ≡ 0 }
         ensures created { created_of result ≡ 0 }
+        ensures faults { faults_of result ≡ 0 }
     {
         let alloc = *fails.allocator();
         MemoryDisk {
@@ -76,18 +78,46 @@ impl MemoryDisk {
 impl Disk for MemoryDisk {
     ghost files = { λ disk. Some (memory_files disk) };
 
-    ghost faults = { λ disk. disk.faults };
+    ghost faults = { faults_of };
 
     ghost next_number = { created_of };
 
-    fn create(&mut self) -> Result<u64, DiskError> {
+    fn create(&mut self) -> Result<u64, DiskError>
+        ensures ok { IfOk result
+            (Creates (Some (memory_files self.old)) (Some (memory_files self.new))) }
+        ensures there { IfOk result (IsThere (Some (memory_files self.new))) }
+        ensures fresh { IfOk result (λ file. created_of self.old ≤ file) }
+        ensures given { IfOk result (λ file. file < created_of self.new) }
+        ensures err { OnErr result (Some (memory_files self.new) ≡ Some (memory_files self.old)) }
+        ensures later { created_of self.old ≤ created_of self.new }
+        ensures tells { is_some (Some (memory_files self.new)) ≡ is_some (Some (memory_files self.old)) }
+        ensures cause { HasCauseAt DiskError.Failed (faults_of self.old) (faults_of self.new) result }
+
+        // It fails exactly at the calls that are listed.
+        ensures listed { IsErrOf result DiskError.Failed ↔ IsTrue (next_fails self.old) }
+        ensures counts { CountsCall self.old self.new }
+    {
         self.begin_call()?;
         let number = self.slots.len() as u64;
         add_slot(self.alloc, &mut self.slots)?;
         Ok(number)
     }
 
-    fn append(&mut self, file: u64, bytes: &[u8]) -> Result<(), DiskError> {
+    fn append(&mut self, file: u64, bytes: &[u8]) -> Result<(), DiskError>
+        requires there { IsThere (Some (memory_files self.old)) file }
+        ensures ok { OnOk result
+            (Appends (Some (memory_files self.old)) (Some (memory_files self.new)) file bytes.now) }
+        ensures err { OnErr result
+            (AppendsPart (Some (memory_files self.old)) (Some (memory_files self.new)) file bytes.now) }
+        ensures there { IsThere (Some (memory_files self.new)) file }
+        ensures same { created_of self.new ≡ created_of self.old }
+        ensures tells { is_some (Some (memory_files self.new)) ≡ is_some (Some (memory_files self.old)) }
+        ensures cause { HasCauseAt DiskError.Failed (faults_of self.old) (faults_of self.new) result }
+
+        // It fails exactly at the calls that are listed.
+        ensures listed { IsErrOf result DiskError.Failed ↔ IsTrue (next_fails self.old) }
+        ensures counts { CountsCall self.old self.new }
+    {
         if let Err(failed) = self.begin_call() {
             let _ = add_bytes(&mut self.slots, file, &bytes[..bytes.len() / 2]);
             return Err(failed);
@@ -96,12 +126,33 @@ impl Disk for MemoryDisk {
         Ok(())
     }
 
-    fn read_at(&mut self, file: u64, place: u64, buf: &mut [u8]) -> Result<usize, DiskError> {
+    fn read_at(&mut self, file: u64, place: u64, buf: &mut [u8]) -> Result<usize, DiskError>
+        ensures ok { IfOk result (Reads (Some (memory_files self.old)) file place buf.old buf.new) }
+        ensures bound { IfOk result (λ count. count ≤ length buf.old) }
+        ensures same { Some (memory_files self.new) ≡ Some (memory_files self.old) }
+        ensures numbers { created_of self.new ≡ created_of self.old }
+        ensures cause { HasCauseAt DiskError.Failed (faults_of self.old) (faults_of self.new) result }
+
+        // It fails exactly at the calls that are listed.
+        ensures listed { IsErrOf result DiskError.Failed ↔ IsTrue (next_fails self.old) }
+        ensures counts { CountsCall self.old self.new }
+    {
         self.begin_call()?;
         Ok(fill(bytes_at(&self.slots, file), place, buf))
     }
 
-    fn remove(&mut self, file: u64) -> Result<(), DiskError> {
+    fn remove(&mut self, file: u64) -> Result<(), DiskError>
+        ensures ok { OnOk result
+            (Removes (Some (memory_files self.old)) (Some (memory_files self.new)) file) }
+        ensures err { OnErr result (Some (memory_files self.new) ≡ Some (memory_files self.old)) }
+        ensures same { created_of self.new ≡ created_of self.old }
+        ensures tells { is_some (Some (memory_files self.new)) ≡ is_some (Some (memory_files self.old)) }
+        ensures cause { HasCauseAt DiskError.Failed (faults_of self.old) (faults_of self.new) result }
+
+        // It fails exactly at the calls that are listed.
+        ensures listed { IsErrOf result DiskError.Failed ↔ IsTrue (next_fails self.old) }
+        ensures counts { CountsCall self.old self.new }
+    {
         self.begin_call()?;
         clear_slot(self.alloc, &mut self.slots, file);
         Ok(())
