@@ -1,5 +1,6 @@
 pub mod Sources
 pub mod Sinks
 pub mod Memory
+pub mod Streams
 pub mod Rows
 pub mod Records

@@ -1,6 +1,6 @@
 -- What a source and a sink in memory hold.
 -- This project's own.
-use Rattle.std.specs.Prelude.{ℕ, ◌-◌, List, drop, length}
+use Rattle.std.specs.Prelude.{◌≡◌, ℕ, ◌+◌, ◌-◌, ◌^◌, List, drop, length, min}
 use Rattle.byte_io.specs.declared.memory.MemorySource.{MemorySource}
 use Rattle.byte_io.specs.declared.memory.MemorySink.{MemorySink}
 
@@ -24,6 +24,11 @@ source_calls source = source.calls
 abbrev pub source_faults : MemorySource → ℕ
 source_faults source = source.faults
 
+-- there was one call more, and the calls that fail are the same
+pub record CountsRead (before after : MemorySource) : Type 0 where
+  pub calls : source_calls after ≡ min (source_calls before + 1) (2 ^ 64 - 1)
+  pub fails : source_fails after ≡ source_fails before
+
 -- the bytes that the sink has taken
 abbrev pub sink_bytes : MemorySink → List ℕ
 sink_bytes sink = sink.bytes.items
@@ -39,3 +44,8 @@ sink_calls sink = sink.calls
 -- how many of them failed, as far as a `u64` counts
 abbrev pub sink_faults : MemorySink → ℕ
 sink_faults sink = sink.faults
+
+-- there was one call more, and the calls that fail are the same
+pub record CountsWrite (before after : MemorySink) : Type 0 where
+  pub calls : sink_calls after ≡ min (sink_calls before + 1) (2 ^ 64 - 1)
+  pub fails : sink_fails after ≡ sink_fails before

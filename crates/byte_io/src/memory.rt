@@ -51,7 +51,7 @@ impl Source for MemorySource {
     ghost use Rattle.std.specs.Io.KnownBytes.{ReadConsumes};
     ghost use Rattle.fault_count.specs.Faults.{HasCause};
     ghost use Rattle.byte_io.specs.Sources.{TakesTurn};
-    ghost use Rattle.byte_io.specs.Memory.{source_calls, source_fails, source_faults, source_left, source_turns};
+    ghost use Rattle.byte_io.specs.Memory.{CountsRead, source_calls, source_fails, source_faults, source_left, source_turns};
 
     ghost left = { λ s. Some (source_left s) };
 
@@ -68,6 +68,7 @@ impl Source for MemorySource {
 
         // It fails exactly at the calls that are listed.
         ensures listed { IsErr result ↔ Contains (source_fails self.old) (source_calls self.old) }
+        ensures counts { CountsRead self.old self.new }
     {
         let call = self.calls;
         self.calls = call.saturating_add(1);
@@ -117,11 +118,27 @@ impl MemorySink {
 }
 
 impl Sink for MemorySink {
-    ghost written = { λ s. Some s.bytes.items };
+    ghost use Rattle.std.specs.Prelude.{◌≡◌, ◌<◌, ◌≤◌, ◌↔◌, Some, Contains, IfOk, IsErrOf, is_some, length};
+    ghost use Rattle.std.specs.Io.KnownBytes.{WriteAppends};
+    ghost use Rattle.fault_count.specs.Faults.{HasCauseAt};
+    ghost use Rattle.byte_io.specs.Memory.{CountsWrite, sink_bytes, sink_calls, sink_fails, sink_faults};
 
-    ghost faults = { λ s. s.faults };
+    ghost written = { λ s. Some (sink_bytes s) };
 
-    fn write(&mut self, piece: &[u8]) -> Result<usize, SinkError> {
+    ghost faults = { sink_faults };
+
+    fn write(&mut self, piece: &[u8]) -> Result<usize, SinkError>
+        requires some { 0 < length piece.now }
+        ensures some { IfOk result (λ n. 0 < n) }
+        ensures bound { IfOk result (λ n. n ≤ length piece.now) }
+        ensures bytes { WriteAppends (Some (sink_bytes self.old)) (Some (sink_bytes self.new)) result piece.now }
+        ensures tells { is_some (Some (sink_bytes self.new)) ≡ is_some (Some (sink_bytes self.old)) }
+        ensures cause { HasCauseAt SinkError.Failed (sink_faults self.old) (sink_faults self.new) result }
+
+        // It fails exactly at the calls that are listed.
+        ensures listed { IsErrOf result SinkError.Failed ↔ Contains (sink_fails self.old) (sink_calls self.old) }
+        ensures counts { CountsWrite self.old self.new }
+    {
         let call = self.calls;
         self.calls = call.saturating_add(1);
         if self.fails.contains(&call) {

@@ -1,4 +1,9 @@
-ghost use Rattle.std.specs.Prelude.{None};
+ghost use Rattle.std.specs.Prelude.{◌≡◌, ◌<◌, ◌≤◌, ◌^◌, IfOk, is_some, length};
+ghost use Rattle.std.specs.Io.{ReadsAtMost};
+ghost use Rattle.std.specs.Io.KnownBytes.{ReadConsumes, WriteAppends};
+ghost use Rattle.fault_count.specs.Faults.{HasCause, HasCauseAt};
+ghost use Rattle.byte_io.specs.Sources.{TakesTurn};
+ghost use Rattle.byte_io.specs.Streams.{reader_faults, reader_of, sink_tells, source_tells, turns_of, writer_faults, writer_of};
 
 use crate::sink::{Sink, SinkError};
 use crate::source::{Failed, Source};
@@ -18,7 +23,11 @@ pub struct StdSource<R> {
 
 impl<R: Read> StdSource<R> {
     /// A source of which no byte was read.
-    pub fn new(reader: R) -> StdSource<R> {
+    pub fn new(reader: R) -> StdSource<R>
+        ensures reader { reader_of result ≡ reader }
+        ensures turns { turns_of result ≡ 2 ^ 62 }
+        ensures faults { reader_faults result ≡ 0 }
+    {
         StdSource {
             reader,
             turns: MAX_TURNS,
@@ -28,13 +37,23 @@ impl<R: Read> StdSource<R> {
 }
 
 impl<R: Read> Source for StdSource<R> {
-    ghost left = { λ _. None };
+    ghost left = { source_tells };
 
-    ghost turns = { λ s. s.turns };
+    ghost turns = { turns_of };
 
-    ghost faults = { λ s. s.faults };
+    ghost faults = { reader_faults };
 
-    fn read(&mut self, buf: &mut [u8]) -> Result<usize, Failed> {
+    fn read(&mut self, buf: &mut [u8]) -> Result<usize, Failed>
+        ensures bound { ReadsAtMost result buf.new }
+        ensures bytes { ReadConsumes (source_tells self.old) (source_tells self.new) result buf.new }
+        ensures tells { is_some (source_tells self.new) ≡ is_some (source_tells self.old) }
+        ensures turns { TakesTurn (turns_of self.old) (turns_of self.new) result }
+        ensures cause { HasCause (reader_faults self.old) (reader_faults self.new) result }
+
+        // It gives the bytes that its reader gives, where these are known.
+        ensures through { ReadConsumes (R.remaining (reader_of self.old))
+            (R.remaining (reader_of self.new)) result buf.new }
+    {
         if self.turns == 0 {
             self.faults = self.faults.saturating_add(1);
             return Err(Failed);
@@ -60,17 +79,30 @@ pub struct StdSink<W> {
 
 impl<W: Write> StdSink<W> {
     /// A sink that was given no byte.
-    pub fn new(writer: W) -> StdSink<W> {
+    pub fn new(writer: W) -> StdSink<W>
+        ensures writer { writer_of result ≡ writer }
+        ensures faults { writer_faults result ≡ 0 }
+    {
         StdSink { writer, faults: 0 }
     }
 }
 
 impl<W: Write> Sink for StdSink<W> {
-    ghost written = { λ _. None };
+    ghost written = { sink_tells };
 
-    ghost faults = { λ s. s.faults };
+    ghost faults = { writer_faults };
 
-    fn write(&mut self, piece: &[u8]) -> Result<usize, SinkError> {
+    fn write(&mut self, piece: &[u8]) -> Result<usize, SinkError>
+        ensures some { IfOk result (λ n. 0 < n) }
+        ensures bound { IfOk result (λ n. n ≤ length piece.now) }
+        ensures bytes { WriteAppends (sink_tells self.old) (sink_tells self.new) result piece.now }
+        ensures tells { is_some (sink_tells self.new) ≡ is_some (sink_tells self.old) }
+        ensures cause { HasCauseAt SinkError.Failed (writer_faults self.old) (writer_faults self.new) result }
+
+        // Its writer takes the bytes that it takes, where these are known.
+        ensures through { WriteAppends (W.contents (writer_of self.old))
+            (W.contents (writer_of self.new)) result piece.now }
+    {
         match self.writer.write(piece) {
             Ok(0) => {}
             Ok(count) => return Ok(count),
