@@ -12,7 +12,7 @@ use Rattle.run_file.specs.declared.run_reader.RunReader.{RunReader}
 use Rattle.run_file.specs.declared.run.Run.{Run}
 use Rattle.run_file.specs.Causes.{HasCauseOn, NoDiskFault}
 use Rattle.run_file.specs.Forms.{IsWellFormed}
-use Rattle.run_file.specs.Reading.{rest_of, IsAtRow, HasRead, GoesOn, GivesFirst, GivesFormed, TellsDamage, TakesRow, Moves}
+use Rattle.run_file.specs.Reading.{rest_of, IsAtRow, HasBytes, HasRead, GoesOn, StaysAhead, GivesFirst, GivesFormed, TellsDamage, TakesRow, Moves}
 
 -- bytes are what stands before a piece's end, and what stands behind it
 parts : (bytes piece behind : List ℕ) → IsPieceThen bytes piece behind → (front : List ℕ) × (bytes ≡ front ++ behind)
@@ -72,6 +72,20 @@ goes_on files before middle after (row ∷ rows) (Err NoMemory) one kept left so
 goes_on files before middle after (row ∷ rows) (Err (Damaged disk file kept_count found)) one kept left some moved told page count formed =
     let here : rest_of after ≡ rest_of middle = ap (λ (n : ℕ). drop n after.bytes.items) moved.0 ∙ ap (λ b. drop middle.at b.items) kept.bytes in
     told.6 row page.0 page.1 (subst (λ (t : List ℕ). IsPieceThen t page.0 page.1) (sym here) page.2) page.3 (rw (kept.form, kept.run) formed.0)
+
+-- rows that are ahead still are where a step took none
+pub stays_ahead : (old new : Option Files) (before middle after : RunReader) (r : Result Bool RunFault) → Keeps before middle after → Moves middle after r
+    → ((rows : List (List (List ℕ))) → HasBytes old before rows → IsPage (rest_of middle) rows) → StaysAhead old new before after r
+stays_ahead old new before middle after (Ok more) kept moved page = tt
+stays_ahead old new before middle after (Err fault) kept moved page = λ rows ahead.
+    let here : rest_of after ≡ rest_of middle = ap (λ (n : ℕ). drop n after.bytes.items) moved.0 ∙ ap (λ b. drop middle.at b.items) kept.bytes in
+    let run_count : after.run.count ≡ before.run.count = ap (λ (run : Run). run.count) kept.run in
+    let left_page : IsPage (rest_of after) rows = subst (λ (t : List ℕ). IsPage t rows) (sym here) (page rows ahead.bytes) in
+    record {
+      count = omega (arith, moved.1, kept.found, ahead.count, run_count);
+      formed = rw (kept.form, kept.run) ahead.formed;
+      bytes = rw kept.read left_page;
+    }
 
 -- the row that a reader went on to is the first of those that were ahead
 pub first_given : (files : Option Files) (after : RunReader) (rows : List (List (List ℕ))) (given : RowView) → ((row : List (List ℕ)) → IsAtRow after row → fields_in given ≡ row) → GoesOn files after rows (Ok true) → GivesFirst rows (Ok (Some given))

@@ -67,6 +67,11 @@ GoesOn files after (row ∷ rows) (Ok true) = IsAtRow after row × IsAhead files
 GoesOn files after (row ∷ rows) (Ok false) = ⊥
 GoesOn files after (row ∷ rows) (Err fault) = NotDamaged {T = Bool} (Err fault)
 
+-- an `Err` passes no row: those that were ahead still are
+abbrev pub StaysAhead : Option Files → Option Files → RunReader → RunReader → Result Bool RunFault → Type 0
+StaysAhead old new before after (Ok more) = ⊤
+StaysAhead old new before after (Err fault) = (rows : List (List (List ℕ))) → IsAhead old before rows → IsAhead new after rows
+
 -- these bytes don't begin with a row that is well formed for the form, its cost at most the greatest
 abbrev pub BeginsDamaged : Form → ℕ → List ℕ → Type 0
 BeginsDamaged form greatest bytes =

@@ -8,7 +8,7 @@ ghost use Rattle.row_page.specs.Views.{fields_in};
 ghost use Rattle.spill_disk.specs.Files.{Files};
 ghost use Rattle.run_file.specs.Shelved.{files_on, faults_on, LeavesFiles};
 ghost use Rattle.run_file.specs.Causes.{HasCauseOn, NotDamaged, NoDiskFault};
-ghost use Rattle.run_file.specs.Reading.{run_of, form_of, found_of, IsAtRow, HasRead, IsAhead, Begins, GoesOn, GivesFirst, TellsDamage, TellsPlace, TakesRow, CountsRow, GivesFormed, Moves, HasBytes, ReadsRun, rest_of};
+ghost use Rattle.run_file.specs.Reading.{run_of, form_of, found_of, IsAtRow, HasRead, IsAhead, Begins, GoesOn, StaysAhead, GivesFirst, TellsDamage, TellsPlace, TakesRow, CountsRow, GivesFormed, Moves, HasBytes, ReadsRun, rest_of};
 ghost use Rattle.run_file.specs.Damage.{known_bytes, known_ahead, ExplainsDamage, ReadsAhead};
 ghost use Rattle.run_file.specs.Lending.{StandsAfter};
 ghost use Rattle.run_file.specs.contracts.run_reader.RunReader.{the_row};
@@ -66,12 +66,16 @@ impl RunReader {
     }
 
     /// Goes on to the next row, at which the reader then stands; `false` comes exactly after the run's
-    /// count of rows. All files of the shelf stay. A row that isn't well formed is damage.
+    /// count of rows. All files of the shelf stay. A row that isn't well formed is damage. After an
+    /// `Err` the same rows are ahead.
     pub fn advance<D: Disk, H: Shelf<D>>(&mut self, shelf: &mut H) -> Result<bool, RunFault>
         requires there { (run_of self.old).disk < H.count_of shelf.old }
         ensures gives { (rows : List (List (List ℕ))) →
             IsAhead (files_on H.disk_of D.files shelf.old (run_of self.old).disk) self.old rows →
             GoesOn (files_on H.disk_of D.files shelf.new (run_of self.old).disk) self.new rows result }
+        ensures stays { StaysAhead
+            (files_on H.disk_of D.files shelf.old (run_of self.old).disk)
+            (files_on H.disk_of D.files shelf.new (run_of self.old).disk) self.old self.new result }
         ensures end { (result ≡ Ok false) ↔ ((run_of self.old).count ≤ found_of self.old) }
         ensures damaged { TellsDamage self.old self.new result }
         ensures why { ExplainsDamage
@@ -131,6 +135,7 @@ impl RunReader {
             IsPage (rest_of self.new) rows) }
         ensures ahead { OnOk result (ReadsAhead
             (files_on H.disk_of D.files shelf.old self.old.run.disk) self.old self.new) }
+        ensures unread { OnErr result (self.new ≡ self.old) }
         ensures run { self.new.run ≡ self.old.run }
         ensures form { self.new.form ≡ self.old.form }
         ensures found { self.new.found ≡ self.old.found }
@@ -185,6 +190,7 @@ impl RunReader {
 /// Reads the first bytes of a run's file, as many as it has.
 fn load<D: Disk>(disk: &mut D, run: &Run, bytes: &mut Vec<u8>) -> Result<(), RunFault>
     ensures ok { OnOk result (ReadsRun (D.files disk.old) run.now bytes.new.items) }
+    ensures unread { OnErr result (bytes.new ≡ bytes.old) }
     ensures same { D.files disk.new ≡ D.files disk.old }
     ensures later { D.faults disk.old ≤ D.faults disk.new }
     ensures cause { HasCauseOn run.now.disk (D.faults disk.old) (D.faults disk.new) result }

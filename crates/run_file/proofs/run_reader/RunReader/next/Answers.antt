@@ -16,6 +16,7 @@ returns-then-branch g c =
         λ _. tt,
         record {
           gives = λ rows ahead. rw c.if-branch.true at (went.gives rows ahead);
+          stays = tt;
           damaged = tt;
           lent = at_lent after given c.row.ensures took;
           found = rw c.if-branch.true at went.found;
