@@ -137,9 +137,9 @@ fn run_job<X: Threads + Wait + Sync, S: Source, W: Sink, D: Disk, C: Consumer>(
 /// worker on this thread, and take turns in one memory pool. Words are `run JOB`, or
 /// `run --workers 1 --reserved 0 --fraction 1000 --heap N JOB`; a job is the printed form of one query that groups or orders.
 ///
-/// Worker `w` uses the post at place `w`, whose disk gets its partitions and its runs; all of these stay. Each post has sixteen
-/// consumers, of which the first eight serve group queries and the others order queries. No block is cached yet, so the store
-/// disk isn't called.
+/// Worker `w` uses the post at place `w`, whose disk gets its partitions and its runs. Partitions stay, runs that were merged are
+/// removed, and the run that the table is printed from stays. Each post has sixteen consumers, of which the first eight serve
+/// group queries and the others order queries. No block is cached yet, so the store disk isn't called.
 ///
 /// The pool and its journal are after Spark's unified memory manager, and the spills after its TaskMemoryManager; the job language
 /// and the statuses are this project's own. Want of memory has no clause; a test shows that a run with ample memory answers.
