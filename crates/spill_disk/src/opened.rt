@@ -1,6 +1,7 @@
 //! An open file of a folder disk, with what is collected for its end and what was read ahead.
 
-ghost use Rattle.std.specs.Prelude.{◌≤◌, length, IfOk};
+ghost use Rattle.std.specs.Prelude.{◌≡◌, ◌≤◌, [], length, IfOk, OnOk};
+ghost use Rattle.spill_disk.specs.Folder.{collected_with};
 
 use crate::DiskError;
 use std::alloc::Global;
@@ -20,7 +21,11 @@ pub struct Opened<F: Read + Write + Seek + Drop> {
 }
 
 impl<F: Read + Write + Seek + Drop> Opened<F> {
-    pub fn new(alloc: Global, number: u64, file: F) -> Opened<F> {
+    pub fn new(alloc: Global, number: u64, file: F) -> Opened<F>
+        ensures number { result.number ≡ number }
+        ensures collected { result.collected.items ≡ [] }
+        ensures ahead { result.ahead.items ≡ [] }
+    {
         Opened {
             number,
             file,
@@ -31,7 +36,12 @@ impl<F: Read + Write + Seek + Drop> Opened<F> {
     }
 
     /// Writes what is collected. After an `Err` what wasn't written is lost.
-    pub fn flush(&mut self) -> Result<(), DiskError> {
+    pub fn flush(&mut self) -> Result<(), DiskError>
+        ensures collected { self.new.collected.items ≡ [] }
+        ensures number { self.new.number ≡ self.old.number }
+        ensures ahead { self.new.ahead.items ≡ self.old.ahead.items }
+        ensures ahead_at { self.new.ahead_at ≡ self.old.ahead_at }
+    {
         if self.collected.is_empty() {
             return Ok(());
         }
@@ -41,7 +51,11 @@ impl<F: Read + Write + Seek + Drop> Opened<F> {
     }
 
     /// Adds bytes at the end: small ones are collected.
-    pub fn append(&mut self, bytes: &[u8]) -> Result<(), DiskError> {
+    pub fn append(&mut self, bytes: &[u8]) -> Result<(), DiskError>
+        ensures collected { OnOk result
+            (self.new.collected.items ≡ collected_with self.old.collected.items bytes.now) }
+        ensures number { self.new.number ≡ self.old.number }
+    {
         if bytes.len() >= BUFFER_BYTES || self.collected.len() >= BUFFER_BYTES - bytes.len() {
             self.flush()?;
         }
@@ -54,7 +68,9 @@ impl<F: Read + Write + Seek + Drop> Opened<F> {
 
     /// Fills the front of `buf` from a place on, through what was read ahead where that has it all.
     pub fn read_at(&mut self, place: u64, buf: &mut [u8]) -> Result<usize, DiskError>
-        ensures { IfOk result (λ count. count ≤ length buf.old) }
+        ensures bound { IfOk result (λ count. count ≤ length buf.old) }
+        ensures collected { self.new.collected.items ≡ [] }
+        ensures number { self.new.number ≡ self.old.number }
     {
         self.flush()?;
         if buf.len() >= BUFFER_BYTES {
@@ -67,7 +83,11 @@ impl<F: Read + Write + Seek + Drop> Opened<F> {
     }
 
     /// Reads a buffer ahead, from a place on.
-    fn read_ahead(&mut self, place: u64) -> Result<(), DiskError> {
+    fn read_ahead(&mut self, place: u64) -> Result<(), DiskError>
+        ensures place { OnOk result (self.new.ahead_at ≡ place) }
+        ensures collected { self.new.collected.items ≡ self.old.collected.items }
+        ensures number { self.new.number ≡ self.old.number }
+    {
         self.ahead.resize(BUFFER_BYTES, 0)?;
         self.ahead_at = place;
         match read_from(&mut self.file, place, &mut self.ahead) {
@@ -83,7 +103,10 @@ impl<F: Read + Write + Seek + Drop> Opened<F> {
     }
 
     /// Forgets what is collected, of a file that is taken away.
-    pub fn forget(&mut self) {
+    pub fn forget(&mut self)
+        ensures collected { self.new.collected.items ≡ [] }
+        ensures number { self.new.number ≡ self.old.number }
+    {
         self.collected.clear();
     }
 }
