@@ -134,11 +134,11 @@ fn room_is_kept_for_what_was_reserved(rt: HostRuntime) -> Result<(), Fail> {
     let alloc = rt.alloc();
     let mut store = Store::new(alloc, MemoryDisk::new(Vec::new(alloc)));
     assert_eq!(rt; store.room(), 0);
-    assert!(rt; store.reserve(2).is_ok());
+    store.reserve(2)?;
     assert_eq!(rt; store.room(), 2);
     put(&mut store, block(alloc, 1, 0, Level::Disk, "first")?)?;
     assert_eq!(rt; store.room(), 1);
-    assert!(rt; store.reserve(1).is_ok(), "there is room");
+    store.reserve(1)?;
     assert_eq!(rt; store.room(), 1);
     assert!(rt; store.reserve(u64::MAX).is_err(), "no memory is so large");
     assert_eq!(rt; store.list().len(), 1);

@@ -184,8 +184,8 @@ fn assert_reads(
                 most,
             };
             let reading = reading_of(alloc, &mut source, by_value)?;
-            assert_eq!(rt; reading.shown.as_slice(), wanted, "{about}, by {most}");
             assert_eq!(rt; reading.last, Ok(()), "{about}, by {most}");
+            assert_eq!(rt; reading.shown.as_slice(), wanted, "{about}, by {most}");
             assert!(rt; reading.live, "{about}, by {most}");
         }
     }
@@ -269,10 +269,10 @@ fn assert_faults(
             most: most.max(1),
         };
         let reading = reading_of(alloc, &mut source, by_value)?;
-        let wanted = &b"<abc>;<def>;<ghi>;"[..len.min(18)];
-        assert_eq!(rt; reading.shown.as_slice(), wanted, "call {call} by {most}");
         let fault = Err(RecordFault::ReadFault);
         assert_eq!(rt; reading.last, fault, "call {call} by {most}");
+        let wanted = &b"<abc>;<def>;<ghi>;"[..len.min(18)];
+        assert_eq!(rt; reading.shown.as_slice(), wanted, "call {call} by {most}");
         assert!(rt; !reading.live, "call {call} by {most}");
     }
     Ok(())
@@ -355,14 +355,14 @@ fn a_std_reader_is_a_source(rt: HostRuntime) -> Result<(), Fail> {
 
     let mut source = StdSource::new(b"a,\"b\nc\"\nd".as_slice());
     let reading = reading_of(alloc, &mut source, true)?;
-    assert_eq!(rt; reading.shown.as_slice(), b"<a><b\nc>;<d>;".as_slice());
     assert_eq!(rt; reading.last, Ok(()));
+    assert_eq!(rt; reading.shown.as_slice(), b"<a><b\nc>;<d>;".as_slice());
 
     // The text, and then an `Err` where its end would be.
     let mut source = StdSource::new(b"a\nb".as_slice().chain(Broken));
     let reading = reading_of(alloc, &mut source, false)?;
-    assert_eq!(rt; reading.shown.as_slice(), b"<a>;".as_slice());
     assert_eq!(rt; reading.last, Err(RecordFault::ReadFault));
+    assert_eq!(rt; reading.shown.as_slice(), b"<a>;".as_slice());
     assert!(rt; !reading.live);
     Ok(())
 }

@@ -3,14 +3,12 @@ use crate::{JobFault, print, read};
 use std::alloc::Global;
 use std::test::Fail;
 
-const NO_MEMORY: u32 = 99_999;
-
 /// The place at which a text is refused; None where it is read.
-fn refused_at(alloc: Global, text: &str) -> Option<u32> {
+fn refused_at(alloc: Global, text: &str) -> Result<Option<u32>, JobFault> {
     match read(alloc, text) {
-        Ok(_job) => None,
-        Err(JobFault::BadJob { place }) => Some(place),
-        Err(JobFault::NoMemory) => Some(NO_MEMORY),
+        Ok(_job) => Ok(None),
+        Err(JobFault::BadJob { place }) => Ok(Some(place)),
+        Err(JobFault::NoMemory) => Err(JobFault::NoMemory),
     }
 }
 
@@ -18,12 +16,15 @@ fn refused_at(alloc: Global, text: &str) -> Option<u32> {
 fn printed(alloc: Global, text: &str) -> Result<Option<String>, Fail> {
     match read(alloc, text) {
         Ok(job) => Ok(Some(print(alloc, &job)?)),
-        Err(_fault) => Ok(None),
+        Err(JobFault::BadJob { .. }) => Ok(None),
+        Err(JobFault::NoMemory) => Err(JobFault::NoMemory.into()),
     }
 }
 
 #[test]
-fn a_text_is_refused_at_the_first_token_that_no_job_goes_on_with(rt: HostRuntime) {
+fn a_text_is_refused_at_the_first_token_that_no_job_goes_on_with(
+    rt: HostRuntime,
+) -> Result<(), Fail> {
     for (text, place) in [
         ("", 0),
         ("group", 5),
@@ -50,15 +51,16 @@ fn a_text_is_refused_at_the_first_token_that_no_job_goes_on_with(rt: HostRuntime
         ("group k, \"k\": count", 9),
     ] {
         assert_eq!(rt;
-            refused_at(rt.alloc(), text),
+            refused_at(rt.alloc(), text)?,
             Some(place),
             "the text {text}"
         );
     }
+    Ok(())
 }
 
 #[test]
-fn a_query_of_either_kind_is_read(rt: HostRuntime) {
+fn a_query_of_either_kind_is_read(rt: HostRuntime) -> Result<(), Fail> {
     for text in [
         "group key: count",
         "group a: count; order k: v from input",
@@ -66,8 +68,9 @@ fn a_query_of_either_kind_is_read(rt: HostRuntime) {
         "group \"\": min \"\", max \"\"",
         "order number x down, y: z, x",
     ] {
-        assert_eq!(rt; refused_at(rt.alloc(), text), None, "the text {text}");
+        assert_eq!(rt; refused_at(rt.alloc(), text)?, None, "the text {text}");
     }
+    Ok(())
 }
 
 #[test]
@@ -113,11 +116,11 @@ fn a_text_has_at_most_16384_bytes(rt: HostRuntime) -> Result<(), Fail> {
     }
     assert_eq!(rt; text.len(), 16_384);
     assert_eq!(rt;
-        refused_at(rt.alloc(), &text),
+        refused_at(rt.alloc(), &text)?,
         None,
         "a job of 16,384 bytes"
     );
     text.push(' ')?;
-    assert_eq!(rt; refused_at(rt.alloc(), &text), Some(16_384), "a byte more");
+    assert_eq!(rt; refused_at(rt.alloc(), &text)?, Some(16_384), "a byte more");
     Ok(())
 }

@@ -181,9 +181,9 @@ fn has_rows(
     let mut reader = RunReader::new(alloc, run, form);
     for i in 0..run.count {
         assert!(rt; run.disk < Shelf::count(disks));
-        let Ok(true) = reader.advance(disks) else {
+        if !reader.advance(disks)? {
             return Err("a row is missing".into());
-        };
+        }
         assert!(rt; first < 1000 && i < 1000);
         let field = fields.get((first + i) as usize).ok_or("a row too many")?;
         let mut wanted = RowBuf::new(alloc);

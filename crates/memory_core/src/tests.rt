@@ -120,8 +120,8 @@ fn a_disk_that_fails_once_changes_no_answer_to_a_task(rt: HostRuntime) -> Result
     let script = FAULT_SCRIPT;
     let whole = run_script(alloc, script.start, &[], script.script)?;
     let journal = journal_text(alloc, whole.journal.entries())?;
-    assert_eq!(rt; whole.answers.as_str(), script.script);
     assert_eq!(rt; journal.as_str(), script.journal);
+    assert_eq!(rt; whole.answers.as_str(), script.script);
     assert_eq!(rt; whole.blocks.as_str(), script.blocks);
     assert_eq!(rt; files(whole.disk), script.files);
     let mut call = 0u64;
@@ -129,8 +129,8 @@ fn a_disk_that_fails_once_changes_no_answer_to_a_task(rt: HostRuntime) -> Result
         let ran = run_script(alloc, script.start, &[call], script.script)?;
         let answers = with_misses(alloc, script.script, fault.missed)?;
         let journal = with_faults(alloc, whole.journal.entries(), fault.missed, fault.gone)?;
-        assert_eq!(rt; ran.answers.as_str(), answers.as_str(), "call {call}");
         assert_eq!(rt; ran.journal.entries(), journal.as_slice(), "call {call}");
+        assert_eq!(rt; ran.answers.as_str(), answers.as_str(), "call {call}");
         assert_eq!(rt; ran.blocks.as_str(), script.blocks, "call {call}");
         assert_eq!(rt; files(ran.disk), fault.files, "call {call}");
         call = call.wrapping_add(1);
@@ -264,11 +264,6 @@ fn a_block_that_was_used_first_goes_to_disk(rt: HostRuntime) -> Result<(), Fail>
     let script =
         "admit:0:1.0:250:disk=in pin:0:1.0=hit unpin:0 admit:0:2.0:200:memory=in ask:0:300=300 pin:0:1.0=copy";
     let ran = run_script(rt.alloc(), ONE_WORKER, &[], script)?;
-    assert_eq!(rt;
-        ran.answers.as_str(),
-        script,
-        "a copy has the rows of the block"
-    );
     let wanted = [
         begin(0, 0),
         admit((1, 0), (250, Level::Disk), 0, 0),
@@ -280,6 +275,11 @@ fn a_block_that_was_used_first_goes_to_disk(rt: HostRuntime) -> Result<(), Fail>
         pin((1, 0), true),
     ];
     assert_eq!(rt; ran.journal.entries(), wanted.as_slice());
+    assert_eq!(rt;
+        ran.answers.as_str(),
+        script,
+        "a copy has the rows of the block"
+    );
     assert_eq!(rt; ran.blocks.as_str(), "2.0:200");
     assert_eq!(rt; files(ran.disk), (1, 1));
     Ok(())
@@ -477,8 +477,8 @@ fn check_script(rt: &impl Abort, alloc: Global, wanted: StorageScript) -> Result
     let name = wanted.name;
     let ran = run_script(alloc, wanted.start, &[], wanted.script)?;
     let journal = journal_text(alloc, ran.journal.entries())?;
-    assert_eq!(rt; ran.answers.as_str(), wanted.script, "{name}");
     assert_eq!(rt; journal.as_str(), wanted.journal, "{name}");
+    assert_eq!(rt; ran.answers.as_str(), wanted.script, "{name}");
     assert_eq!(rt; ran.blocks.as_str(), wanted.blocks, "{name}");
     assert_eq!(rt; files(ran.disk), wanted.files, "{name}");
     Ok(())

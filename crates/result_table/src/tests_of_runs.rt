@@ -211,7 +211,10 @@ fn damage_of(alloc: Global, page: &Page, query: &Query) -> Result<bool, Fail>
         kept: 2,
         found: 1,
     };
-    Ok(answer == Err(damaged))
+    match answer {
+        Err(PrintFault::NoMemory) => Err(PrintFault::NoMemory.into()),
+        told => Ok(told == Err(damaged)),
+    }
 }
 
 #[test]
@@ -283,12 +286,16 @@ fn a_failing_sink_has_taken_a_front_of_the_printed_run(rt: HostRuntime) -> Resul
         fails.push(failing)?;
         let mut output = MemorySink::new(alloc, fails);
         let answer = print(alloc, &mut disk, &run, &query, &mut output)?;
+        let told = if failing < 4 {
+            Err(PrintFault::WriteFault)
+        } else {
+            Ok(())
+        };
+        assert_eq!(rt; answer, told, "a table of four writes, write {failing}");
         let whole = output.bytes() == wanted.as_bytes();
-        assert_eq!(rt; answer.is_ok(), whole, "write {failing}");
-        assert_eq!(rt; whole, failing > 3, "a table of four writes");
+        assert_eq!(rt; whole, failing > 3, "write {failing}");
         assert!(rt; wanted.as_bytes().starts_with(output.bytes()), "a front");
         if !whole {
-            assert_eq!(rt; answer, Err(PrintFault::WriteFault));
             assert_eq!(rt;
                 (output.bytes().len() / 65536) as u64,
                 failing,
@@ -362,7 +369,7 @@ fn the_first_group_that_is_too_wide_is_found(rt: HostRuntime) -> Result<(), Fail
     );
     let mut disk = MemoryDisk::new(Vec::new(alloc));
     let aggs = AggList::of(alloc, &[Agg::Sum])?;
-    let none = too_wide(alloc, &mut One { disk: &mut disk }, None, &aggs);
-    assert!(rt; matches!(none, Ok(None)), "no run");
+    let none = too_wide(alloc, &mut One { disk: &mut disk }, None, &aggs)?;
+    assert!(rt; none.is_none(), "no run");
     Ok(())
 }

@@ -6,16 +6,27 @@ const ROW: usize = 40;
 
 const ROWS: u64 = 78_644;
 
+/// Whether a call did what it says, and not a fault of the disk; want of memory is neither.
+fn is_done(answer: Result<usize, DiskError>) -> Result<bool, DiskError> {
+    match answer {
+        Ok(_) => Ok(true),
+        Err(DiskError::Failed) => Ok(false),
+        Err(DiskError::NoMemory) => Err(DiskError::NoMemory),
+    }
+}
+
 /// What a disk with these failing calls answers to one call of each kind, and what the file then has.
 fn one_of_each(rt: &HostRuntime, fails: &[u64]) -> Result<([bool; 4], usize), Fail> {
     let mut disk = MemoryDisk::new(fails.to_vec(rt.alloc())?);
     let mut buf = [0u8; 8];
-    let Ok(file) = disk.create() else {
-        return Ok(([false; 4], 0));
+    let file = match disk.create() {
+        Ok(file) => file,
+        Err(DiskError::Failed) => return Ok(([false; 4], 0)),
+        Err(DiskError::NoMemory) => return Err(DiskError::NoMemory.into()),
     };
-    let added = disk.append(file, b"abcd").is_ok();
-    let read = disk.read_at(file, 0, &mut buf).is_ok();
-    let removed = disk.remove(file).is_ok();
+    let added = is_done(disk.append(file, b"abcd").map(|()| 4))?;
+    let read = is_done(disk.read_at(file, 0, &mut buf))?;
+    let removed = is_done(disk.remove(file).map(|()| 4))?;
     let count = disk.read_at(file, 0, &mut buf)?;
     Ok(([true, added, read, removed], count))
 }

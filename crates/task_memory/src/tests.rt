@@ -19,7 +19,7 @@ use crate::tests::scripts::{GRANTS, SHARED_PARTS, SHARED_SCRIPTS, Script, WORKED
 use crate::tests::texts::{answers_of, pool_of, runs_of, steps_of, with_fault};
 use crate::tests::threads::share_four;
 use pool_ledger::{Entry, Event, Journal, Setup};
-use std::alloc::Global;
+use std::alloc::{AllocError, Global};
 use std::marker::Brand;
 use std::process::Abort;
 use std::sync::Wait;
@@ -181,6 +181,7 @@ fn shared(steps: &Vec<crate::tests::steps::Step>) -> Setting<'_> {
 
 // Compares what a task that shares a pool left with what its script fed.
 fn check_shared<R: Abort>(rt: &R, alloc: Global, script: &str, mut left: Left) -> Result<(), Fail> {
+    has_memory(&left)?;
     let answers = answers_of(alloc, script, &left.notes)?;
     let answers = answers.as_str();
     assert!(rt; answers.ends_with("drain:3=0/0.0.0.0"), "{answers}");
@@ -249,6 +250,19 @@ fn check_left<R: Abort>(
     Ok(())
 }
 
+// Want of memory, where it is what a task was answered: what it left isn't compared then.
+fn has_memory(left: &Left) -> Result<(), AllocError> {
+    for note in &left.notes {
+        if let Err(TaskFault::NoMemory) = note.answer {
+            return Err(AllocError);
+        }
+    }
+    match left.live {
+        Err(TaskFault::NoMemory) => Err(AllocError),
+        _ => Ok(()),
+    }
+}
+
 // Plays a script in its pool, over a disk on which these calls fail. Where `some`, two of the boxes are consumers.
 fn play_script<R: Wait + Sync>(
     rt: &R,
@@ -270,7 +284,9 @@ fn play_script<R: Wait + Sync>(
         fails,
         steps: &steps,
     };
-    Ok(play_alone::<Brand, _>(rt, alloc, setup, some, given)?)
+    let (journal, left) = play_alone::<Brand, _>(rt, alloc, setup, some, given)?;
+    has_memory(&left)?;
+    Ok((journal, left))
 }
 
 // The most that the tasks of these entries hold at once, and what they hold at the end.

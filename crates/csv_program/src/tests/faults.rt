@@ -27,6 +27,20 @@ fn is_told(ran: &Ran, table: &[u8]) -> bool {
     is_named && table.starts_with(&ran.written)
 }
 
+// Makes a call, for which there is memory.
+fn ran_with<X: Threads + Wait + Sync>(
+    rt: &X,
+    alloc: Global,
+    posts: usize,
+    call: Call<'_>,
+) -> Result<Ran, AllocError> {
+    let ran = run_with(rt, alloc, posts, call)?;
+    match ran.outcome.status {
+        Status::NoMemory => Err(AllocError),
+        _ => Ok(ran),
+    }
+}
+
 fn sweep<X: Threads + Wait + Sync>(
     rt: &X,
     alloc: Global,
@@ -35,7 +49,7 @@ fn sweep<X: Threads + Wait + Sync>(
     input: &[u8],
     limit: u64,
 ) -> Result<Swept, AllocError> {
-    let whole = run_with(rt, alloc, posts, call_of(words, input))?;
+    let whole = ran_with(rt, alloc, posts, call_of(words, input))?;
     let mut swept = Swept {
         calls: 0,
         told: true,
@@ -48,7 +62,7 @@ fn sweep<X: Threads + Wait + Sync>(
             disk: &fails,
             ..call_of(words, input)
         };
-        let ran = run_with(rt, alloc, posts, at)?;
+        let ran = ran_with(rt, alloc, posts, at)?;
         if ran.outcome.status.number() == 0 {
             return Ok(swept);
         }
