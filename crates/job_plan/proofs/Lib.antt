@@ -1,6 +1,5 @@
 mod Firsts
 mod Moving
-mod Numerals
 mod Picked
 mod Places
 mod Queries

@@ -6,13 +6,13 @@ ghost use Rattle.aggregate.specs.Partial.{partial_of};
 ghost use Rattle.aggregate.specs.Spelling.{spelled};
 ghost use Rattle.row_page.specs.Spelling.{row_length, with_length};
 ghost use Rattle.row_page.specs.Views.{fields_in};
-ghost use Rattle.run_file.specs.Numbers.{number};
 ghost use Rattle.job_plan.specs.Entries.{field, item_bytes, key_of, number_in, told_by, value_of};
 ghost use Rattle.job_plan.specs.Within.{Covers, HasColumn, IsItemOf, IsPartOf};
 
 use aggregate::{put_field, put_number, put_partial};
 use job_text::{KeyItem, Part, Shape};
 use row_page::RowView;
+use run_file::parse_number;
 use std::alloc::AllocError;
 
 /// Appends the key that a shape over kept columns makes of a landed row.
@@ -53,16 +53,6 @@ fn field_at<'a>(row: &RowView<'a>, column: u32) -> &'a [u8]
     ensures { result.now ≡ field (fields_in row.now) column }
 {
     row.field(column as usize + 1)
-}
-
-// The number that a field is: an optional sign, then ASCII digits, in the range of `i64`.
-fn parse_number(field: &[u8]) -> Option<i64>
-    ensures { result ≡ number field.now }
-{
-    match str::from_utf8(field) {
-        Ok(text) => text.parse::<i64>().ok(),
-        Err(_) => None,
-    }
 }
 
 // The number in a kept column; 0 where there is none.

@@ -1,4 +1,3 @@
-pub mod Numerals
 pub mod PlaceFields
 pub mod Changing
 pub mod Keeping

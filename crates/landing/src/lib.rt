@@ -5,7 +5,6 @@ mod desk;
 mod fault;
 mod landing;
 mod length;
-mod number;
 mod part;
 mod rules;
 mod shelf_calls;

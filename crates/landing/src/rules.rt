@@ -12,12 +12,11 @@ ghost use Rattle.landing.specs.Ruling.{AreRules, IsRuled, refusal_in, row_in};
 
 use crate::fault::LandFault;
 use crate::length::is_long;
-use crate::number::is_decimal;
 use csv::ByteRecord;
 use job_plan::{Plan, PlanFault, plan};
 use job_text::Job;
 use row_page::RowBuf;
-use run_file::Form;
+use run_file::{Form, is_decimal};
 use std::alloc::{AllocError, Global};
 
 /// What the rows below a header are held to: the job's plan, where its number columns stand in the header,

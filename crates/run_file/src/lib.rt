@@ -11,6 +11,7 @@ mod run_writer;
 
 pub use form::Form;
 pub use laws::written_runs_stand;
+pub use number::{is_decimal, parse_number};
 pub use number_list::NumberList;
 pub use run::{Run, RunFault};
 pub use run_reader::RunReader;

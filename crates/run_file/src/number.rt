@@ -1,15 +1,69 @@
 //! Which fields are numbers.
 
-ghost use Rattle.std.specs.Prelude.{◌≡◌};
+ghost use Rattle.std.specs.Prelude.{◌≡◌, ◌<◌, ◌^◌, true, IfSome, length};
+ghost use Rattle.std.specs.Str.{all_ascii_digits};
+ghost use Rattle.std.specs.Str.Parse.{digits_value, starts_with_minus, without_leading_sign};
 ghost use Rattle.run_file.specs.Numbers.{number, is_number};
 
-/// The number that a field is: an optional sign, then ASCII digits, in the range of `i64`.
-fn parse_number(field: &[u8]) -> Option<i64>
+// The greatest number behind which any digit may stand.
+const MOST: u64 = 922_337_203_685_477_579;
+
+// The number that digits spell, where there are some, and no digit stands behind a number beyond `MOST`.
+fn short_value(digits: &[u8]) -> Option<u64>
+    ensures some { IfSome result (λ value. 0 < length digits.now) }
+    ensures digits { IfSome result (λ value. all_ascii_digits digits.now ≡ true) }
+    ensures value { IfSome result (λ value. value ≡ digits_value 10 digits.now) }
+    ensures fits { IfSome result (λ value. value < 2 ^ 63) }
+{
+    if digits.is_empty() {
+        return None;
+    }
+    let mut value: u64 = 0;
+    for byte in digits {
+        let digit = byte.wrapping_sub(b'0');
+        if digit > 9 || value > MOST {
+            return None;
+        }
+        value = value * 10 + u64::from(digit);
+    }
+    Some(value)
+}
+
+// The number that a field of any length is.
+fn long_number(field: &[u8]) -> Option<i64>
     ensures { result ≡ number field.now }
 {
     match str::from_utf8(field) {
         Ok(text) => text.parse::<i64>().ok(),
         Err(_) => None,
+    }
+}
+
+// Whether a field begins with a minus.
+fn is_down(field: &[u8]) -> bool
+    ensures { result ≡ starts_with_minus field.now }
+{
+    matches!(field.first(), Some(b'-'))
+}
+
+// A field without its sign.
+fn digits_of(field: &[u8]) -> &[u8]
+    ensures { result.now ≡ without_leading_sign field.now }
+{
+    match field.first() {
+        Some(b'-' | b'+') => &field[1..],
+        _ => field,
+    }
+}
+
+/// The number that a field is: an optional sign, then ASCII digits, in the range of `i64`.
+pub fn parse_number(field: &[u8]) -> Option<i64>
+    ensures { result ≡ number field.now }
+{
+    match short_value(digits_of(field)) {
+        Some(value) if is_down(field) => Some(-(value as i64)),
+        Some(value) => Some(value as i64),
+        None => long_number(field),
     }
 }
 

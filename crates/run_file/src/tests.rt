@@ -294,3 +294,38 @@ fn a_form_takes_its_rows_and_no_others(rt: HostRuntime) -> Result<(), Fail> {
     assert!(rt; !landed.accepts(row.view(), 100), "a row number of 7 bytes");
     Ok(())
 }
+
+// 9223372036854775799 is the greatest number that is read digit by digit.
+#[test]
+fn a_number_is_a_sign_and_digits_of_64_bits(rt: HostRuntime) {
+    let cases: [(&[u8], Option<i64>); 24] = [
+        (b"0", Some(0)),
+        (b"7", Some(7)),
+        (b"+5", Some(5)),
+        (b"-0", Some(0)),
+        (b"-41", Some(-41)),
+        (b"007", Some(7)),
+        (b"922337203685477579", Some(922_337_203_685_477_579)),
+        (b"9223372036854775799", Some(9_223_372_036_854_775_799)),
+        (b"-9223372036854775799", Some(-9_223_372_036_854_775_799)),
+        (b"9223372036854775800", Some(9_223_372_036_854_775_800)),
+        (b"9223372036854775807", Some(i64::MAX)),
+        (b"-9223372036854775808", Some(i64::MIN)),
+        (b"00000000000000000000000012", Some(12)),
+        (b"9223372036854775808", None),
+        (b"-9223372036854775809", None),
+        (b"92233720368547758070", None),
+        (b"", None),
+        (b"-", None),
+        (b"+", None),
+        (b"--1", None),
+        (b"-+1", None),
+        (b" 1", None),
+        (b"1/", None),
+        (b"1:", None),
+    ];
+    for (field, wanted) in cases {
+        assert_eq!(rt; parse_number(field), wanted);
+        assert_eq!(rt; is_decimal(field), wanted.is_some());
+    }
+}

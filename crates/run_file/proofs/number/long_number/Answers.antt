@@ -1,6 +1,6 @@
 use Rattle.std.proofs.Common.{◌∙◌}
-use Rattle.job_plan.proofs.Numerals.{parses, no-text}
-use Rattle.job_plan.proofs.entries.parse_number.Goals as goal
+use Rattle.run_file.proofs.Numerals.{parses, no-text}
+use Rattle.run_file.proofs.number.long_number.Goals as goal
 
 pub returns-in-Ok : goal.returns-in-Ok
 returns-in-Ok c = c.ok.ensures.value ∙ parses c.args.field.now c.parse.result (rw c.in-Ok.ensures.cases.0 at c.parse.ensures.value.0)
