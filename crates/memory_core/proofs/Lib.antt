@@ -3,6 +3,7 @@ pub mod Choosing
 pub mod Fitting
 pub mod Going
 pub mod Gone
+pub mod Naming
 pub mod NextVictim
 pub mod Owing
 pub mod Planned

@@ -192,6 +192,12 @@ HandsGiven (Hit block) dataset part before = (given : RowsByName) → FitsRows g
 HandsGiven (ReadBack block) dataset part before = (given : RowsByName) → FitsRows given before → AreGiven given dataset part (arc_value block).page.rows
 HandsGiven Miss dataset part before = Unit {0}
 
+-- a block that is handed out is the one that was asked for
+abbrev pub IsNamed : Pinned → ℕ → ℕ → Type 0
+IsNamed (Hit block) dataset part = ((arc_value block).dataset ≡ dataset) × ((arc_value block).part ≡ part)
+IsNamed (ReadBack block) dataset part = ((arc_value block).dataset ≡ dataset) × ((arc_value block).part ≡ part)
+IsNamed Miss dataset part = Unit {0}
+
 -- no block of the dataset is in memory without a pin
 abbrev pub HasPinnedAlone : ℕ → History → Type 0
 HasPinnedAlone dataset history = (part : ℕ) → is_resident history dataset part ≡ true → is_pinned history dataset part ≡ true

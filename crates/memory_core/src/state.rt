@@ -15,7 +15,7 @@ ghost use Rattle.pool_laws.specs.Laws.{HoldsMost};
 ghost use Rattle.block_store.specs.Stores.{candidate_of, pins_at, unpinned};
 ghost use Rattle.memory_core.specs.Attempts.{granted_in, KeepsFloor, WaitsBehind};
 ghost use Rattle.memory_core.specs.Caches.{Cache};
-ghost use Rattle.memory_core.specs.Changes.{Attempts, Clears, HandsGiven, HasPinnedAlone, IsAnswered, IsPinned, ReadsAlone, StillFits, StillFitsWith};
+ghost use Rattle.memory_core.specs.Changes.{Attempts, Clears, HandsGiven, HasPinnedAlone, IsAnswered, IsNamed, IsPinned, ReadsAlone, StillFits, StillFitsWith};
 ghost use Rattle.memory_core.specs.Steady.{IsSteady, StatesGoOn, resident_of};
 ghost use Rattle.memory_core.specs.declared.attempted.Attempted.TheVariants.{Wait};
 
@@ -288,6 +288,7 @@ impl<K: Disk> MemoryState<K> {
         requires free { worker_pin self.old.history worker ≡ None }
         ensures ok { IfOk result (λ pinned. IsPinned pinned worker dataset part self.old self.new) }
         ensures handed { IfOk result (λ pinned. HandsGiven pinned dataset part self.old.cache) }
+        ensures named { IfOk result (λ pinned. IsNamed pinned dataset part) }
         ensures err { OnErr result (self.new.history ≡ self.old.history) }
         ensures err_cache { OnErr result (ReadsAlone self.old.cache self.new.cache) }
         ensures setup { self.new.setup ≡ self.old.setup }

@@ -11,6 +11,7 @@ ghost use Rattle.pool_ledger.specs.declared.entry.Event.TheVariants.{Begin, Rele
 ghost use Rattle.pool_laws.specs.Growing.{entry_by};
 ghost use Rattle.memory_core.specs.Attempts.{granted_in};
 ghost use Rattle.memory_core.specs.Caches.{AreGiven};
+ghost use Rattle.memory_core.specs.Changes.{IsNamed};
 ghost use Rattle.memory_lock.specs.Fitting.{FitsBasis, OwnEntriesDecide, TasksFitPool, own_in};
 ghost use Rattle.memory_lock.specs.Workers.{AddsAttempt, AdmissionGrows, HandsRows, IsAtMost, PinGrows, RemovalGrows};
 
@@ -221,6 +222,7 @@ impl<K: Disk> Locked<K> {
         ensures ok { IfOk result (λ pinned. PinGrows pinned worker dataset part
             (entries_of worker (journal_of self.old.history)) (entries_of worker (journal_of self.new.history)) self.new.history) }
         ensures rows { IfOk result (λ pinned. HandsRows B.rows pinned dataset part) }
+        ensures named { IfOk result (λ pinned. IsNamed pinned dataset part) }
         ensures err { OnErr result (journal_of self.new.history ≡ journal_of self.old.history) }
     {
         own_entries_decide();

@@ -44,6 +44,7 @@ impl<K: Disk, B: Basis> Manager<K, B> {
     ghost use Rattle.pool_laws.specs.Growing.{entry_by};
     ghost use Rattle.memory_core.specs.Attempts.{granted_in};
     ghost use Rattle.memory_core.specs.Caches.{AreGiven};
+    ghost use Rattle.memory_core.specs.Changes.{IsNamed};
     ghost use Rattle.memory_lock.specs.Workers.{Adds, AddsAdmission, AddsAttempt, AddsGrant, AddsPin, AddsRemovals, AddsWaits, HandsRows, HasNoPin, HasPin, IsAtMost, IsFree, IsOpen, KeepsPin, KeepsTask, SeesMore, own_entries, own_of};
 
     /// The sizes that the pool started with. It takes no turn.
@@ -196,6 +197,7 @@ impl<K: Disk, B: Basis> Manager<K, B> {
         requires free { HasNoPin worker.old }
         ensures ok { IfOk result (λ pinned. AddsPin pinned dataset part worker.old worker.new) }
         ensures rows { IfOk result (λ pinned. HandsRows B.rows pinned dataset part) }
+        ensures named { IfOk result (λ pinned. IsNamed pinned dataset part) }
         ensures err { OnErr result (own_entries worker.new ≡ own_entries worker.old) }
         ensures task { KeepsTask worker.old worker.new }
         ensures sees { SeesMore worker.old worker.new }

@@ -11,6 +11,7 @@ use Rattle.pool_laws.specs.Growing.{entry_by}
 use Rattle.block_store.specs.declared.block.Block.{Block}
 use Rattle.block_store.specs.Copies.{copy_rows}
 use Rattle.memory_core.specs.Caches.{AreGiven, Cache, FitsRows, Memory, RowsByName}
+use Rattle.memory_core.proofs.Naming.{hit_named}
 use Rattle.memory_core.proofs.Planned.{own_planned}
 use Rattle.memory_core.proofs.state.MemoryState.pin.Goals as goal
 
@@ -24,6 +25,9 @@ returns-then-is_resident-clause-own g c =
     let next = c.states_go_on.ensures.pins inside.setup inside.history c.args.worker c.args.dataset c.args.part known free in
     subst (λ (h : History). Continues c.args.worker (journal_of h) (journal_of c.pin.new.self.history)) history_is
     (own_planned inside.setup inside.history _ _ c.args.worker 0 1 c.in_ok-block.ensures.history next)
+
+pub returns-then-is_resident-clause-named : goal.returns-then-is_resident-clause-named
+returns-then-is_resident-clause-named g c = hit_named c.args.dataset c.args.part _ (arc_value c.in_ok-block.block) _ c.in_ok-block.ensures.value
 
 pub returns-clause-handed : goal.returns-clause-handed
 returns-clause-handed g c =
