@@ -1,12 +1,15 @@
 -- Calls on a shelf one after another: what they keep, and why they gave up.
-use Rattle.std.proofs.Common.{◌≡◌, ℕ, ◌≤◌, ◌<◌, Option, Some, None, Ok, Err, refl, sym, ap, subst, ◌∙◌, inl, inr, arith}
+use Rattle.std.proofs.Common.{◌≡◌, ℕ, ◌≤◌, ◌<◌, ◌++◌, ◌∷◌, [], List, Option, Some, None, Ok, Err, refl, sym, ap, subst, ◌∙◌, inl, inr, arith}
 use Rattle.std.specs.Prelude.{true, Result, OnOk, is_some, if◌then◌else◌}
 use Rattle.std.specs.Result.{is_ok}
 use Rattle.std.proofs.lemmas.Bool.Decides.{eqb_tells}
 use Rattle.fault_count.specs.Faults.{Rose}
 use Rattle.spill_disk.specs.Files.{Files}
+use Rattle.run_file.specs.declared.run.Run.{Run}
+use Rattle.run_merge.specs.Becoming.{SameOthers}
 use Rattle.run_merge.specs.Merged.{IsGone, KeepsFile, KeepsShelf}
 use Rattle.run_merge.specs.Touching.{file_in, IsGoneOn, SameBut}
+use Rattle.run_merge.proofs.Among.{among_left, among_right, is_among_one}
 use Rattle.landing.specs.Explaining.{Explains, FailsAmong, FailsOn}
 use Rattle.landing.specs.Landed.{KeepsFiles}
 use Rattle.landing.specs.declared.fault.LandFault.{LandFault}
@@ -27,6 +30,13 @@ keeps_trans count_of named disk_of files faults old middle new first next = reco
 pub same_more : (named named' : ℕ → ℕ) (before middle after : ℕ → Option Files) (disk file : ℕ) → ((j : ℕ) → named' j ≡ named j) → SameBut named before middle disk file → SameBut named' middle after disk file → SameBut named before after disk file
 same_more named named' before middle after disk file each first next j g apart =
     next j g (λ here. apart (sym (each j) ∙ here.0 ∙ each disk, here.1)) ∙ first j g apart
+
+-- runs' files are changed, one after another
+pub others_more : (named named' : ℕ → ℕ) (before now after : ℕ → Option Files) (parts : List Run) (run : Run) (to : ℕ) → ((j : ℕ) → named' j ≡ named j) → run.disk ≡ to → SameOthers named before now parts → SameBut named' now after to run.file → SameOthers named before after (parts ++ run ∷ [])
+others_more named named' before now after parts run to each on first next disk file apart =
+    let is_last = λ (here : (named' disk ≡ named' to) × (file ≡ run.file)).
+    apart (among_right named parts (run ∷ []) disk file (is_among_one named run disk file (ap named on ∙ sym (each to) ∙ sym here.0 ∙ each disk) (sym here.1))) in
+    next disk file is_last ∙ first disk file (λ among. apart (among_left named parts (run ∷ []) disk file among))
 
 -- ---- files that were there
 

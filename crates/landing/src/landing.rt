@@ -6,6 +6,7 @@ ghost use Rattle.fault_count.specs.Faults.{Rose};
 ghost use Rattle.byte_io.specs.Records.{IsReading, rows_left, source_under};
 ghost use Rattle.byte_io.specs.Rows.{rows_of};
 ghost use Rattle.run_file.specs.Shelved.{files_on, faults_on};
+ghost use Rattle.run_merge.specs.Becoming.{SameOthers};
 ghost use Rattle.run_merge.specs.Merged.{KeepsShelf};
 ghost use Rattle.job_text.specs.Jobs.{IsJob};
 ghost use Rattle.landing.specs.Checks.{Refused, checked};
@@ -53,6 +54,8 @@ fn land_rows<T: Tap, O: Origin, D: Disk, H: Shelf<D>>(
     requires shelf { workers ≤ H.count_of shelf.old }
     ensures lands { IfOk result (λ landed. LandsRows (files_on H.disk_of D.files shelf.new) rules.now part_rows
         workers landed.0.items landed.1 (rows_left records.old)) }
+    ensures only { IfOk result (λ landed. SameOthers (H.named shelf.old)
+        (files_on H.disk_of D.files shelf.old) (files_on H.disk_of D.files shelf.new) landed.0.items) }
     ensures end { OnOk result (IsAtEnd (T.left (source_under records.new))) }
     ensures files { KeepsFiles
         (files_on H.disk_of D.files shelf.old) (files_on H.disk_of D.files shelf.new) }
@@ -96,6 +99,8 @@ fn land_all<T: Tap, O: Origin, D: Disk, H: Shelf<D>>(
     requires shelf { workers ≤ H.count_of shelf.old }
     ensures lands { IfOk result (λ landed. Lands (files_on H.disk_of D.files shelf.new) job.now max_rows
         part_rows workers landed.plan landed.parts.items landed.rows (rows_left records.old)) }
+    ensures only { IfOk result (λ landed. SameOthers (H.named shelf.old)
+        (files_on H.disk_of D.files shelf.old) (files_on H.disk_of D.files shelf.new) landed.parts.items) }
     ensures end { OnOk result (IsAtEnd (T.left (source_under records.new))) }
     ensures files { KeepsFiles
         (files_on H.disk_of D.files shelf.old) (files_on H.disk_of D.files shelf.new) }
@@ -142,6 +147,8 @@ fn land_from<T: Tap, O: Origin, D: Disk, H: Shelf<D>>(
     requires shelf { workers ≤ H.count_of shelf.old }
     ensures lands { IfOk result.0 (λ landed. Lands (files_on H.disk_of D.files shelf.new) job.now max_rows
         part_rows workers landed.plan landed.parts.items landed.rows (option_map rows_of (T.left source))) }
+    ensures only { IfOk result.0 (λ landed. SameOthers (H.named shelf.old)
+        (files_on H.disk_of D.files shelf.old) (files_on H.disk_of D.files shelf.new) landed.parts.items) }
     ensures end { OnOk result.0 (IsAtEnd (T.left result.1)) }
     ensures same { T.name result.1 ≡ O.name }
     ensures later { O.faults ≤ T.faults result.1 }
@@ -185,6 +192,8 @@ pub fn land<S: Source, D: Disk, H: Shelf<D>>(
     requires shelf { workers ≤ H.count_of shelf.old }
     ensures lands { IfOk result (λ landed. Lands (files_on H.disk_of D.files shelf.new) job.now max_rows part_rows workers
         landed.plan landed.parts.items landed.rows (option_map rows_of (S.left source.old))) }
+    ensures only { IfOk result (λ landed. SameOthers (H.named shelf.old)
+        (files_on H.disk_of D.files shelf.old) (files_on H.disk_of D.files shelf.new) landed.parts.items) }
     ensures end { OnOk result (IsAtEnd (S.left source.new)) }
     ensures refused { (why : LandFault) → IsOfInput why → IsErrOf result why →
         IfSome (S.left source.old) (λ bytes. checked job.now max_rows (rows_of bytes) ≡ Refused why) }

@@ -173,6 +173,8 @@ pub(crate) fn land_part<T: Tap, O: Origin, D: Disk, H: Shelf<D>>(
         part_rows run desk.new.more (ahead true desk.old.row (rows_left records.old))
         (ahead desk.new.more desk.new.row (rows_left records.new))) }
     ensures disk { IfOk result (λ run. run.disk ≡ to) }
+    ensures only { IfOk result (λ run. SameBut (H.named shelf.old)
+        (files_on H.disk_of D.files shelf.old) (files_on H.disk_of D.files shelf.new) to run.file) }
     ensures reading { OnOk result (IsReading records.new) }
     ensures end { OnOk result (desk.new.more ≡ false → IsAtEnd (T.left (source_under records.new))) }
     ensures files { KeepsFiles

@@ -7,12 +7,13 @@ use Rattle.fault_count.specs.Faults.{Rose}
 use Rattle.byte_io.specs.Records.{rows_left, source_under}
 use Rattle.run_file.specs.declared.run.Run.{Run}
 use Rattle.run_file.specs.Shelved.{files_on, faults_on}
+use Rattle.run_merge.specs.Becoming.{SameOthers}
 use Rattle.landing.specs.Explaining.{FailsAmong, FailsOn}
 use Rattle.landing.specs.Filling.{AreLandedSoFar}
 use Rattle.landing.specs.Ruling.{ahead, first_refusal_in}
 use Rattle.landing.proofs.Following.{follows_read, follows_start}
 use Rattle.landing.proofs.Partitions.{so_far_all, so_far_more, so_far_none, so_far_refused}
-use Rattle.landing.proofs.Shelves.{explains_more, fails_among, files_same, if_ok, files_trans, keeps_self, keeps_trans}
+use Rattle.landing.proofs.Shelves.{explains_more, fails_among, files_same, if_ok, files_trans, keeps_self, keeps_trans, others_more}
 use Rattle.landing.proofs.landing.land_rows.Goals as goal
 
 pub parts-init : goal.parts-init
@@ -29,6 +30,7 @@ parts-init g c =
       reading = c.in_ok-take.ensures.reading;
       end = c.in_ok-take.ensures.end;
       within = c.requires.shelf;
+      only = λ disk file apart. refl;
       files = files_same (files shelf) (files shelf) (λ j. refl);
       shelf = keeps_self g.H.Shelf.count_of g.H.Shelf.named g.H.Shelf.disk_of g.D.Disk.files g.D.Disk.faults shelf;
     }
@@ -94,6 +96,8 @@ parts-preserved g c =
       reading = c.in_ok-run.ensures.reading;
       end = c.in_ok-run.ensures.end;
       within = subst (λ (n : ℕ). workers ≤ n) (sym c.land_part.ensures.shelf.count) before.within;
+      only = subst (λ (runs : List Run). SameOthers (g.H.Shelf.named start) (files start) (files after) runs) (sym pushed)
+          (others_more (g.H.Shelf.named start) (g.H.Shelf.named now) (files start) (files now) (files after) parts run to before.shelf.names c.in_ok-run.ensures.disk before.only c.in_ok-run.ensures.only);
       files = files_trans (files start) (files now) (files after) before.files c.land_part.ensures.files;
       shelf = keeps_trans g.H.Shelf.count_of g.H.Shelf.named g.H.Shelf.disk_of g.D.Disk.files g.D.Disk.faults start now after before.shelf c.land_part.ensures.shelf;
     }

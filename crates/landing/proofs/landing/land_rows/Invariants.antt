@@ -2,6 +2,7 @@ use Rattle.std.proofs.Common.{◌≡◌, ◌≤◌, ◌-◌, false}
 use Rattle.std.specs.Io.KnownBytes.{IsAtEnd}
 use Rattle.byte_io.specs.Records.{IsReading, rows_left, source_under}
 use Rattle.run_file.specs.Shelved.{files_on}
+use Rattle.run_merge.specs.Becoming.{SameOthers}
 use Rattle.run_merge.specs.Merged.{KeepsShelf}
 use Rattle.landing.specs.Filling.{AreLandedSoFar}
 use Rattle.landing.specs.Landed.{KeepsFiles}
@@ -16,6 +17,7 @@ invariant-parts g l =
       reading : IsReading l.records;
       end : l.desk.more ≡ false → IsAtEnd (g.T.Tap.left (source_under l.records));
       within : l.workers ≤ g.H.Shelf.count_of l.shelf;
+      only : SameOthers (g.H.Shelf.named l.fn.shelf) (files l.fn.shelf) (files l.shelf) l.parts.items;
       files : KeepsFiles (files l.fn.shelf) (files l.shelf);
       shelf : KeepsShelf g.H.Shelf.count_of g.H.Shelf.named g.H.Shelf.disk_of g.D.Disk.files g.D.Disk.faults l.fn.shelf l.shelf;
     }
