@@ -181,8 +181,10 @@ fn has_rows(
     let mut reader = RunReader::new(alloc, run, form);
     for i in 0..run.count {
         assert!(rt; run.disk < Shelf::count(disks));
-        if !reader.advance(disks)? {
-            return Err("a row is missing".into());
+        match reader.advance(disks) {
+            Ok(true) => {}
+            Ok(false) => return Err("a row is missing".into()),
+            Err(fault) => return Err(fault.into()),
         }
         assert!(rt; first < 1000 && i < 1000);
         let field = fields.get((first + i) as usize).ok_or("a row too many")?;
