@@ -15,13 +15,14 @@ use Rattle.run_merge.proofs.Among.{all_at, all_join, apart_join}
 use Rattle.run_merge.proofs.Rising.{all_weaker}
 use Rattle.run_merge.proofs.Ascending.{concatenated-append}
 use Rattle.run_merge.proofs.Kept.{have_join}
+use Rattle.spill_stack.specs.Writing.{WasNotThere}
 use Rattle.task_runner.specs.AllWorkers.{answers_of}
 use Rattle.task_runner.specs.Gathered.{answer_for, gathered, placed}
 use Rattle.task_runner.specs.Workers.{AnswersApart, HasAnswer, answer_at, part_at}
 use Rattle.task_runner.proofs.InOrder.{gathered_next, gathered_none}
 use Rattle.task_runner.proofs.OfPartitions.{part_is}
 
--- ---- where they are, and what their rows cost
+-- ---- where they are, what their rows cost, and that their files are new
 
 one_on : (workers disk : ℕ) (answer : Option Run) → disk < workers → AllByRecursion (λ run. run.disk < workers) (placed disk answer)
 one_on workers disk None below = tt
@@ -50,6 +51,21 @@ gathered_small most all workers (suc part) each =
     (all_join (λ run. run.greatest ≤ most) (gathered all workers part) (placed (part % workers) (answer_for all workers part))
     (gathered_small most all workers part (λ p below. each p (omega (arith, below))))
     (one_small most (part % workers) (answer_for all workers part) (each part (omega arith))))
+
+one_new : (before : ℕ → Option Files) (disk : ℕ) (answer : Option Run) → IfSome answer (λ run. WasNotThere (before disk) run.file)
+    → AllByRecursion (λ run. WasNotThere (before run.disk) run.file) (placed disk answer)
+one_new before disk None new = tt
+one_new before disk (Some run) new = (new, tt)
+
+pub gathered_new : (before : ℕ → Option Files) (all : List (List (Option Run))) (workers partitions : ℕ)
+    → ((part : ℕ) → part < partitions → IfSome (answer_for all workers part) (λ run. WasNotThere (before (part % workers)) run.file))
+    → AllByRecursion (λ run. WasNotThere (before run.disk) run.file) (gathered all workers partitions)
+gathered_new before all workers zero each = subst (λ (rs : List Run). AllByRecursion (λ run. WasNotThere (before run.disk) run.file) rs) (sym (gathered_none all workers)) tt
+gathered_new before all workers (suc part) each =
+    subst (λ (rs : List Run). AllByRecursion (λ run. WasNotThere (before run.disk) run.file) rs) (sym (gathered_next all workers part))
+    (all_join (λ run. WasNotThere (before run.disk) run.file) (gathered all workers part) (placed (part % workers) (answer_for all workers part))
+    (gathered_new before all workers part (λ p below. each p (omega (arith, below))))
+    (one_new before (part % workers) (answer_for all workers part) (each part (omega arith))))
 
 -- ---- their entries
 

@@ -9,6 +9,7 @@ use Rattle.run_file.specs.declared.run.Run.{Run}
 use Rattle.run_merge.specs.Merged.{KeepsFile}
 use Rattle.run_merge.specs.Runs.{run_at}
 use Rattle.spill_stack.specs.Disks.{KeepsFiles}
+use Rattle.spill_stack.specs.Writing.{WasNotThere}
 use Rattle.turn_lock.specs.Passes.{LockId, PassState}
 use Rattle.memory_lock.specs.Crew.{AreWorkers}
 use Rattle.consumer_trait.specs.States.{State}
@@ -21,7 +22,7 @@ use Rattle.task_runner.specs.Parts.{HoldsRows, IsMade, entries_in}
 use Rattle.task_runner.specs.Pass.{FeedsParts, TellAllParts}
 use Rattle.task_runner.specs.Workers.{HasAnswer, IsCount, TellParts, rows_to}
 use Rattle.task_runner.specs.declared.post.Post.{Post}
-use Rattle.task_runner.proofs.Gathers.{gathered_apart, gathered_have, gathered_small}
+use Rattle.task_runner.proofs.Gathers.{gathered_apart, gathered_have, gathered_new, gathered_small}
 use Rattle.task_runner.proofs.Idle.{keeps_consumers}
 use Rattle.task_runner.proofs.OfPartitions.{part_is, task_within}
 use Rattle.task_runner.proofs.Reaching.{holds_of}
@@ -81,6 +82,22 @@ all_small state files workers size plan parts olds news posts posts' all any run
     (λ part below.
     let known : part % workers < workers = mod-lt part (omega (arith, some)) in
     made_small (files_of files (slice_get posts (part % workers))) (answer_for all workers part) ((done.each (part % workers) any known).made (part / workers))))
+
+made_new : (before : Option Files) (answer : Option Run) → IfSome answer (IsMade before) → IfSome answer (λ run. WasNotThere before run.file)
+made_new before None made = tt
+made_new before (Some run) made = made.fresh
+
+-- the file of each wasn't there before
+pub all_new : {D C : Type 0} (state : C → State) (files : D → Option Files) (workers size : ℕ) (plan : Plan) (parts : List Run) (olds news : List PassState) (posts posts' : List (Post D C)) (all : List (List (Option Run))) (any : PassState) (runs : List Run)
+    → 1 ≤ workers → size ≡ workers → Finished state files workers workers plan parts olds news posts posts' all → runs ≡ gathered all size (length parts)
+    → AllByRecursion (λ run. WasNotThere (files_of files (slice_get posts run.disk)) run.file) runs
+all_new state files workers size plan parts olds news posts posts' all any runs some same done is =
+    let before : ℕ → Option Files = λ place. files_of files (slice_get posts place) in
+    subst (λ (rs : List Run). AllByRecursion (λ run. WasNotThere (before run.disk) run.file) rs) (sym (is ∙ ap (λ (n : ℕ). gathered all n (length parts)) same))
+    (gathered_new before all workers (length parts)
+    (λ part below.
+    let known : part % workers < workers = mod-lt part (omega (arith, some)) in
+    made_new (before (part % workers)) (answer_for all workers part) ((done.each (part % workers) any known).made (part / workers))))
 
 -- each worker's consumer was fed the rows of all of its partitions
 pub feeds_parts : {D C : Type 0} (state : C → State) (files : D → Option Files) (workers : ℕ) (plan : Plan) (parts : List Run) (lock : LockId) (olds news : List PassState) (posts posts' : List (Post D C)) (all : List (List (Option Run))) (any : PassState)

@@ -1,6 +1,6 @@
 -- The tasks of all workers in a pass, and the posts that they leave.
 -- This project's own.
-use Rattle.std.specs.Prelude.{◌≡◌, ℕ, List, [], Option, length, map, slice_get}
+use Rattle.std.specs.Prelude.{◌≡◌, ℕ, All, List, [], Option, length, map, slice_get}
 use Rattle.std.specs.List.{range_with_len}
 use Rattle.std.specs.Option.{option_map_or}
 use Rattle.aggregate.specs.Totals.{Entry, total}
@@ -10,6 +10,7 @@ use Rattle.run_file.specs.declared.run.Run.{Run}
 use Rattle.run_merge.specs.Merged.{KeepsFile}
 use Rattle.run_merge.specs.Runs.{AreApart, HaveEntries, concatenated}
 use Rattle.consumer_trait.specs.States.{State}
+use Rattle.spill_stack.specs.Writing.{WasNotThere}
 use Rattle.job_plan.specs.declared.query_plan.Plan.{Plan}
 use Rattle.task_runner.specs.Consumers.{FeedsOne}
 use Rattle.task_runner.specs.Parts.{entries_in}
@@ -32,6 +33,10 @@ pub record TellAllParts (files : ℕ → Option Files) (kind : Kind) (plan : Pla
   pub have : HaveEntries files kind runs lists
   pub apart : AreApart (λ disk. disk) runs
   pub same : concatenated lists ≡ concatenated (map (λ part. total kind (entries_in plan 0 (rows part))) (range_with_len 0 partitions))
+
+-- each run is in a file that wasn't there before
+abbrev pub AreInNewFiles : (ℕ → Option Files) → List Run → Type 0
+AreInNewFiles before runs = All (λ run. WasNotThere (before run.disk) run.file) runs
 
 -- all files that were there are as they were
 abbrev pub KeepsAll : (ℕ → Option Files) → (ℕ → Option Files) → Type 0

@@ -1,9 +1,12 @@
 use Rattle.std.proofs.Common.{◌≡◌, ◌≤◌, length, map, arith}
 use Rattle.std.proofs.lemmas.List.{length-map}
+use Rattle.std.specs.Prelude.{slice_get}
 use Rattle.memory_lock.specs.Crew.{new_worker}
+use Rattle.spill_stack.specs.Writing.{WasNotThere}
+use Rattle.task_runner.specs.AllWorkers.{files_of}
 use Rattle.task_runner.proofs.Gathers.{all_on}
 use Rattle.task_runner.proofs.Reaching.{later_of}
-use Rattle.task_runner.proofs.WholePass.{all_of, all_small, consumers_kept, counts_of, feeds_parts, keeps_all, tell_all}
+use Rattle.task_runner.proofs.WholePass.{all_new, all_of, all_small, consumers_kept, counts_of, feeds_parts, keeps_all, tell_all}
 use Rattle.task_runner.proofs.workers.run_workers.Goals as goal
 
 pub returns-in-Err-clause-consumers : goal.returns-in-Err-clause-consumers
@@ -44,6 +47,13 @@ returns-in-Ok-gather-clause-bounded g c =
     let size : length c.in-Ok.all.items ≡ g.B.Basis.sizes.workers = omega (arith, length-map c.in-Ok.all.items (λ answers. answers.items), c.in-Ok.ensures.finished.count) in
     all_of (λ run. run.greatest ≤ 196752) c.in-Ok-gather.runs.items
     (all_small g.C.Consumer.state g.D.Disk.files g.B.Basis.sizes.workers (length c.in-Ok.all.items) c.args.plan.now c.args.parts.now c.args.workers.now.items c.run_each.new.workers.items c.args.posts.now.items c.run_each.new.posts.items
+    (map (λ answers. answers.items) c.in-Ok.all.items) (new_worker c.args.manager.now 0 0) c.in-Ok-gather.runs.items c.requires.some size c.in-Ok.ensures.finished c.in-Ok-gather.ensures)
+
+pub returns-in-Ok-gather-clause-made : goal.returns-in-Ok-gather-clause-made
+returns-in-Ok-gather-clause-made g c =
+    let size : length c.in-Ok.all.items ≡ g.B.Basis.sizes.workers = omega (arith, length-map c.in-Ok.all.items (λ answers. answers.items), c.in-Ok.ensures.finished.count) in
+    all_of (λ run. WasNotThere (files_of g.D.Disk.files (slice_get c.args.posts.now.items run.disk)) run.file) c.in-Ok-gather.runs.items
+    (all_new g.C.Consumer.state g.D.Disk.files g.B.Basis.sizes.workers (length c.in-Ok.all.items) c.args.plan.now c.args.parts.now c.args.workers.now.items c.run_each.new.workers.items c.args.posts.now.items c.run_each.new.posts.items
     (map (λ answers. answers.items) c.in-Ok.all.items) (new_worker c.args.manager.now 0 0) c.in-Ok-gather.runs.items c.requires.some size c.in-Ok.ensures.finished c.in-Ok-gather.ensures)
 
 pub returns-in-Ok-gather-clause-fed : goal.returns-in-Ok-gather-clause-fed
