@@ -15,3 +15,4 @@ pub mod Crews
 pub mod Followed
 pub mod Worked
 pub mod Making
+pub mod StillThere

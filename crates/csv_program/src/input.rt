@@ -8,6 +8,7 @@ ghost use Rattle.job_text.specs.Jobs.{IsJob};
 ghost use Rattle.landing.specs.Checks.{Refused, checked};
 ghost use Rattle.landing.specs.Landed.{HasCauseAmong, IsOfInput, Lands};
 ghost use Rattle.landing.specs.declared.fault.LandFault.{LandFault};
+ghost use Rattle.task_runner.specs.Pass.{KeepsAll};
 ghost use Rattle.csv_program.specs.Endings.{max_rows, part_rows};
 ghost use Rattle.csv_program.specs.Posts.{post_faults, post_files};
 
@@ -49,6 +50,7 @@ pub fn land_on<S: Source, D: Disk, C: Consumer>(
     // The posts.
     ensures consumers { map (λ post. post.consumers) posts.new.items ≡ map (λ post. post.consumers) posts.old.items }
     ensures tells { (place : ℕ) → is_some (post_files D.files posts.new place) ≡ is_some (post_files D.files posts.old place) }
+    ensures files { KeepsAll (post_files D.files posts.old) (post_files D.files posts.new) }
     ensures later { (place : ℕ) → post_faults D.faults posts.old place ≤ post_faults D.faults posts.new place }
 {
     let Ok(mut aside) = take_consumers(alloc, posts) else {

@@ -1,6 +1,6 @@
 //! The tasks of a run in a pool of its own.
 
-ghost use Rattle.std.specs.Prelude.{◌≡◌, ◌≢◌, ◌≤◌, ◌<◌, ◌↔◌, ◌+◌, ◌-◌, ◌*◌, ◌%◌, ◌^◌, [], ◌∷◌, false, All, List, ℕ, Err, None, Some, IfNone, IfOk, IfSome, IsSome, OnOk, length, map, slice_index_or};
+ghost use Rattle.std.specs.Prelude.{◌≡◌, ◌≢◌, ◌≤◌, ◌<◌, ◌↔◌, ◌+◌, ◌-◌, ◌*◌, ◌%◌, ◌^◌, [], ◌∷◌, false, All, List, ℕ, Err, None, Some, IfNone, IfOk, IfSome, IsSome, OnOk, is_some, length, map, slice_index_or};
 ghost use Rattle.std.specs.List.{range_with_len};
 ghost use Rattle.aggregate.specs.Totals.{Entry, total};
 ghost use Rattle.job_answer.specs.Parts.{PartsTellAll};
@@ -10,6 +10,7 @@ ghost use Rattle.pool_ledger.specs.History.{was_begun};
 ghost use Rattle.pool_ledger.specs.Journal.{history_of};
 ghost use Rattle.pool_ledger.specs.Legal.{IsLegal};
 ghost use Rattle.run_file.specs.declared.run.Run.{Run};
+ghost use Rattle.run_merge.specs.Merged.{KeepsOthers};
 ghost use Rattle.run_merge.specs.Runs.{AreApart, AreOn, HaveEntries, concatenated, run_at};
 ghost use Rattle.job_plan.specs.Planning.{columns_of};
 ghost use Rattle.job_plan.specs.Plans.{form_in, kept_in, kind_at};
@@ -17,7 +18,7 @@ ghost use Rattle.result_table.specs.Results.{HasResult};
 ghost use Rattle.task_runner.specs.Answers.{HasCauseAmong, MergesTotal};
 ghost use Rattle.task_runner.specs.Consumers.{HasConsumers, KeepsConsumers, place_for};
 ghost use Rattle.task_runner.specs.Parts.{HoldsRows, entries_in};
-ghost use Rattle.task_runner.specs.Pass.{FeedsParts, states_at};
+ghost use Rattle.task_runner.specs.Pass.{FeedsParts, KeepsAll, states_at};
 ghost use Rattle.task_runner.specs.Workers.{IfSound};
 ghost use Rattle.task_runner.specs.Works.{IfNoRoom, MayWork, ShowsNoRoom, Works};
 ghost use Rattle.turn_lock.specs.Passes.{PassState};
@@ -73,6 +74,7 @@ pub fn run_tasks<K: Disk, D: Disk, C: Consumer, B: Basis, R: Wait + Sync>(
         → states_at C.state posts.new.items place ≡ states_at C.state posts.old.items place }
     ensures consumers { (place : ℕ) → KeepsConsumers (states_at C.state posts.old.items place) (states_at C.state posts.new.items place) }
     ensures count { length posts.new.items ≡ length posts.old.items }
+    ensures files { KeepsAll (post_files D.files posts.old) (post_files D.files posts.new) }
     ensures later { (place : ℕ) → post_faults D.faults posts.old place ≤ post_faults D.faults posts.new place }
     ensures cause { HasCauseAmong (post_faults D.faults posts.old) (post_faults D.faults posts.new) result.0 }
 
@@ -130,6 +132,7 @@ fn work<K: Disk, D: Disk, C: Consumer, B: Basis, R: Wait + Sync>(
         → states_at C.state posts.new.items place ≡ states_at C.state posts.old.items place }
     ensures consumers { (place : ℕ) → KeepsConsumers (states_at C.state posts.old.items place) (states_at C.state posts.new.items place) }
     ensures count { length posts.new.items ≡ length posts.old.items }
+    ensures files { KeepsAll (post_files D.files posts.old) (post_files D.files posts.new) }
     ensures later { (place : ℕ) → post_faults D.faults posts.old place ≤ post_faults D.faults posts.new place }
     ensures cause { HasCauseAmong (post_faults D.faults posts.old) (post_faults D.faults posts.new) result }
 
@@ -207,6 +210,8 @@ fn finish<K: Disk, D: Disk, C: Consumer, B: Basis, R: Wait + Sync>(
     // The posts.
     ensures kept { map (λ post. post.consumers) posts.new.items ≡ map (λ post. post.consumers) posts.old.items }
     ensures count { length posts.new.items ≡ length posts.old.items }
+    ensures tells { (place : ℕ) → is_some (post_files D.files posts.new place) ≡ is_some (post_files D.files posts.old place) }
+    ensures files { KeepsOthers (λ disk. disk) (post_files D.files posts.old) (post_files D.files posts.new) runs.items }
     ensures later { (place : ℕ) → post_faults D.faults posts.old place ≤ post_faults D.faults posts.new place }
     ensures cause { HasCauseAmong (post_faults D.faults posts.old) (post_faults D.faults posts.new) result }
 {
@@ -260,6 +265,8 @@ fn merge_aside<K: Disk, D: Disk, C: Consumer, B: Basis, R: Wait + Sync>(
     // The posts.
     ensures kept { map (λ post. post.consumers) posts.new.items ≡ map (λ post. post.consumers) posts.old.items }
     ensures count { length posts.new.items ≡ length posts.old.items }
+    ensures tells { (place : ℕ) → is_some (post_files D.files posts.new place) ≡ is_some (post_files D.files posts.old place) }
+    ensures files { KeepsOthers (λ disk. disk) (post_files D.files posts.old) (post_files D.files posts.new) runs.items }
     ensures later { (place : ℕ) → post_faults D.faults posts.old place ≤ post_faults D.faults posts.new place }
     ensures cause { HasCauseAmong (post_faults D.faults posts.old) (post_faults D.faults posts.new) result }
 {

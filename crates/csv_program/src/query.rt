@@ -10,7 +10,7 @@ ghost use Rattle.job_plan.specs.Planning.{columns_of};
 ghost use Rattle.job_plan.specs.Plans.{form_in, kept_in, kind_at};
 ghost use Rattle.landing.specs.Landed.{AreChecked, AreLanded};
 ghost use Rattle.task_runner.specs.Consumers.{HasConsumers, KeepsConsumers, place_for};
-ghost use Rattle.task_runner.specs.Pass.{FeedsParts, states_at};
+ghost use Rattle.task_runner.specs.Pass.{FeedsParts, KeepsAll, states_at};
 ghost use Rattle.csv_program.specs.Endings.{EndsAs, ending_of_totals, part_rows, printed_in, totals_of};
 ghost use Rattle.csv_program.specs.Posts.{AllTell, post_faults, post_files};
 ghost use Rattle.csv_program.specs.Statuses.{IsCut, IsDamaged, IsDiskFault, IsJudged, IsNoRoom, IsOutside, MakesPool, WritesNothing};
@@ -112,6 +112,7 @@ pub fn run_query<K: Disk, D: Disk, C: Consumer, W: Sink, B: Basis, R: Wait + Syn
     ensures others { (place : ℕ) → pool.workers ≤ place
         → states_at C.state posts.new.items place ≡ states_at C.state posts.old.items place }
     ensures consumers { (place : ℕ) → KeepsConsumers (states_at C.state posts.old.items place) (states_at C.state posts.new.items place) }
+    ensures files { KeepsAll (post_files D.files posts.old) (post_files D.files posts.new) }
     ensures later { (place : ℕ) → post_faults D.faults posts.old place ≤ post_faults D.faults posts.new place }
 {
     short_shapes_are_told();

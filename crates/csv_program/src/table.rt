@@ -165,6 +165,7 @@ pub fn print_answer<D: Disk, C: Consumer, W: Sink>(
     ensures no_room { IsNoRoom result (λ asked held floor. ⊥) }
     ensures judged { IsJudged result }
     ensures consumers { map (λ post. post.consumers) posts.new.items ≡ map (λ post. post.consumers) posts.old.items }
+    ensures files { (place : ℕ) → post_files D.files posts.new place ≡ post_files D.files posts.old place }
     ensures later { (place : ℕ) → post_faults D.faults posts.old place ≤ post_faults D.faults posts.new place }
 {
     let Ok(mut aside) = take_consumers(alloc, posts) else {

@@ -10,7 +10,7 @@ ghost use Rattle.pool_ledger.specs.Journal.{history_of};
 ghost use Rattle.pool_ledger.specs.Legal.{IsLegal};
 ghost use Rattle.pool_laws.specs.SafeJournal.{IsSafeJournal};
 ghost use Rattle.task_runner.specs.Consumers.{HasConsumers, KeepsConsumers};
-ghost use Rattle.task_runner.specs.Pass.{states_at};
+ghost use Rattle.task_runner.specs.Pass.{KeepsAll, states_at};
 ghost use Rattle.csv_program.specs.Calls.{ForJob, NoCall, NoJob, call_of};
 ghost use Rattle.csv_program.specs.Complete.{FailsNothing, GrantsAll, HasTasks};
 ghost use Rattle.csv_program.specs.Endings.{EndsAs, Prints, Refuses, ending_of, partitions_of, printed_in, rows_read, status_of};
@@ -109,6 +109,7 @@ fn run_job<X: Threads + Wait + Sync, S: Source, W: Sink, D: Disk, C: Consumer>(
     ensures others { (place : ℕ) → pool.workers ≤ place
         → states_at C.state posts.new.items place ≡ states_at C.state posts.old.items place }
     ensures consumers { (place : ℕ) → KeepsConsumers (states_at C.state posts.old.items place) (states_at C.state posts.new.items place) }
+    ensures files { KeepsAll (post_files D.files posts.old) (post_files D.files posts.new) }
 {
     totals_tell_answers();
     match land_on(alloc, input, job, pool.workers() as u32, posts) {
@@ -217,6 +218,9 @@ pub fn run<X: Threads + Wait + Sync, S: Source, W: Sink, D: Disk + Send, C: Cons
     ensures others { ForJob (call_of (length posts.old.items) (map (λ word. word.now) words.now)) (λ pool job.
         (place : ℕ) → pool.workers ≤ place → states_at C.state posts.new.items place ≡ states_at C.state posts.old.items place) }
     ensures consumers { (place : ℕ) → KeepsConsumers (states_at C.state posts.old.items place) (states_at C.state posts.new.items place) }
+
+    // Files that were on the posts' disks are as they were.
+    ensures files { KeepsAll (post_files D.files posts.old) (post_files D.files posts.new) }
 {
     legal_journals_are_safe();
     match read_words(words) {

@@ -6,6 +6,7 @@ use Rattle.csv_program.specs.Endings.{max_rows, part_rows}
 use Rattle.csv_program.specs.Posts.{post_faults, post_files}
 use Rattle.csv_program.proofs.LandedOn.{cause_as, lands_as}
 use Rattle.csv_program.proofs.PostDisks.{faults_same, files_same}
+use Rattle.csv_program.proofs.StillThere.{keeps_around}
 use Rattle.csv_program.proofs.input.land_on.Goals as goal
 
 pub returns-clause-lands : goal.returns-clause-lands
@@ -29,6 +30,13 @@ returns-clause-tells g c place =
     let first = files_same c.args.posts.now c.take_consumers.new.posts c.take_consumers.ensures.disks files place in
     let last = files_same c.land-landed.new.shelf c.swap_consumers.new.posts c.swap_consumers.ensures.disks files place in
     ap (λ (f : Option Files). is_some f) last ∙ c.land-landed.ensures.shelf.tells place ∙ ap (λ (f : Option Files). is_some f) first
+
+pub returns-clause-files : goal.returns-clause-files
+returns-clause-files g c =
+    let files = g.D.Disk.files in
+    let first = files_same c.args.posts.now c.take_consumers.new.posts c.take_consumers.ensures.disks files in
+    let last = files_same c.land-landed.new.shelf c.swap_consumers.new.posts c.swap_consumers.ensures.disks files in
+    keeps_around (post_files files c.args.posts.now) (post_files files c.take_consumers.new.posts) (post_files files c.land-landed.new.shelf) (post_files files c.swap_consumers.new.posts) first last c.land-landed.ensures.files
 
 pub returns-clause-later : goal.returns-clause-later
 returns-clause-later g c place =

@@ -2,6 +2,7 @@ use Rattle.std.proofs.Common.{sym, subst, arith}
 use Rattle.std.specs.Prelude.{IsSome}
 use Rattle.csv_program.specs.Posts.{post_faults, post_files}
 use Rattle.csv_program.proofs.Aside.{cause_around, faults_alike, files_alike, have_alike, merges_alike}
+use Rattle.csv_program.proofs.StillThere.{others_around, tells_around}
 use Rattle.csv_program.proofs.pool.merge_aside.Goals as goal
 
 pub returns-clause-answer : goal.returns-clause-answer
@@ -13,6 +14,20 @@ returns-clause-answer g c =
     merges_alike (post_files files c.run_final-answer.new.shelf) (post_files files c.swap_consumers.new.posts) c.args.kind.now lists c.run_final-answer.result given
     (c.run_final-answer.ensures.answer lists (subst IsSome (sym (taken 0)) tells)
     (have_alike (post_files files c.args.posts.now) (post_files files c.take_consumers.new.posts) c.args.kind.now c.args.runs.items lists taken have) apart)
+
+pub returns-clause-tells : goal.returns-clause-tells
+returns-clause-tells g c =
+    let files = g.D.Disk.files in
+    let taken = files_alike files c.take_consumers.new.posts c.args.posts.now c.take_consumers.ensures.disks in
+    let given = files_alike files c.swap_consumers.new.posts c.run_final-answer.new.shelf c.swap_consumers.ensures.disks in
+    tells_around (post_files files c.args.posts.now) (post_files files c.take_consumers.new.posts) (post_files files c.run_final-answer.new.shelf) (post_files files c.swap_consumers.new.posts) taken given c.run_final-answer.ensures.shelf.tells
+
+pub returns-clause-files : goal.returns-clause-files
+returns-clause-files g c =
+    let files = g.D.Disk.files in
+    let taken = files_alike files c.take_consumers.new.posts c.args.posts.now c.take_consumers.ensures.disks in
+    let given = files_alike files c.swap_consumers.new.posts c.run_final-answer.new.shelf c.swap_consumers.ensures.disks in
+    others_around (post_files files c.args.posts.now) (post_files files c.take_consumers.new.posts) (post_files files c.run_final-answer.new.shelf) (post_files files c.swap_consumers.new.posts) c.args.runs.items taken given c.run_final-answer.ensures.others
 
 pub returns-clause-later : goal.returns-clause-later
 returns-clause-later g c =

@@ -1,4 +1,4 @@
-use Rattle.std.proofs.Common.{◌≡◌, ◌∙◌, ◌<◌, ℕ, List, length, sym, subst, arith}
+use Rattle.std.proofs.Common.{◌≡◌, ◌∙◌, ◌<◌, ℕ, List, length, refl, sym, subst, arith}
 use Rattle.std.specs.Prelude.{slice_index_or}
 use Rattle.std.proofs.lemmas.Bool.{eqb-true}
 use Rattle.turn_lock.specs.Passes.{PassState}
@@ -13,6 +13,7 @@ use Rattle.csv_program.specs.Posts.{post_files}
 use Rattle.csv_program.proofs.Crews.{all_firsts_none, begins_each, done_each, each_all, each_some, final_fresh, firsts_none, own_none, AllFirsts, Firsts}
 use Rattle.csv_program.proofs.Followed.{on_ok_more, room_more}
 use Rattle.csv_program.proofs.Worked.{feeds_none, first_tells, keeps_alike, on_more, on_ok_all, place_same, result_none, result_of, states_alike, there_of}
+use Rattle.csv_program.proofs.StillThere.{keeps_alike as files_alike, none_new, others_kept}
 use Rattle.csv_program.proofs.pool.work.Goals as goal
 
 -- ---- no partition
@@ -36,6 +37,11 @@ pub returns-in-Ok-clause-consumers : goal.returns-in-Ok-clause-consumers
 returns-in-Ok-clause-consumers g c = λ place.
     keeps_alike (states_at g.C.Consumer.state c.args.posts.now.items place) (states_at g.C.Consumer.state c.finish.new.posts.items place)
     (states_alike g.C.Consumer.state c.finish.new.posts.items c.args.posts.now.items c.finish.ensures.kept place)
+
+pub returns-in-Ok-clause-files : goal.returns-in-Ok-clause-files
+returns-in-Ok-clause-files g c =
+    let before = post_files g.D.Disk.files c.args.posts.now in
+    others_kept before before (post_files g.D.Disk.files c.finish.new.posts) c.new-none.result.items (files_alike before before (λ place. refl)) (none_new before c.new-none.result.items c.new-none.ensures.items) c.finish.ensures.tells c.finish.ensures.files
 
 pub returns-in-Ok-clause-done : goal.returns-in-Ok-clause-done
 returns-in-Ok-clause-done g c =
@@ -61,6 +67,11 @@ pub returns-in-Err-clause-consumers : goal.returns-in-Err-clause-consumers
 returns-in-Err-clause-consumers g c = λ place.
     keeps_alike (states_at g.C.Consumer.state c.args.posts.now.items place) (states_at g.C.Consumer.state c.finish.new.posts.items place)
     (states_alike g.C.Consumer.state c.finish.new.posts.items c.args.posts.now.items c.finish.ensures.kept place)
+
+pub returns-in-Err-clause-files : goal.returns-in-Err-clause-files
+returns-in-Err-clause-files g c =
+    let before = post_files g.D.Disk.files c.args.posts.now in
+    others_kept before before (post_files g.D.Disk.files c.finish.new.posts) c.new-none.result.items (files_alike before before (λ place. refl)) (none_new before c.new-none.result.items c.new-none.ensures.items) c.finish.ensures.tells c.finish.ensures.files
 
 pub returns-in-Err-clause-done : goal.returns-in-Err-clause-done
 returns-in-Err-clause-done g c =
@@ -114,6 +125,11 @@ returns-clause-consumers g c = λ place.
     subst (λ (states : List State). KeepsConsumers (states_at g.C.Consumer.state c.args.posts.now.items place) states)
     (sym (states_alike g.C.Consumer.state c.finish-2.new.posts.items c.run_workers.new.posts.items c.finish-2.ensures.kept place))
     (c.run_workers.ensures.consumers place)
+
+pub returns-clause-files : goal.returns-clause-files
+returns-clause-files g c =
+    others_kept (post_files g.D.Disk.files c.args.posts.now) (post_files g.D.Disk.files c.run_workers.new.posts) (post_files g.D.Disk.files c.finish-2.new.posts) c.in-Ok-run_workers.runs.items
+    c.run_workers.ensures.files c.in-Ok-run_workers.ensures.made c.finish-2.ensures.tells c.finish-2.ensures.files
 
 pub returns-clause-done : goal.returns-clause-done
 returns-clause-done g c =

@@ -24,6 +24,7 @@ use Rattle.csv_program.specs.declared.outcome.Status.{Status}
 use Rattle.csv_program.proofs.ToldTotals.{holds_parts, told_plan}
 use Rattle.csv_program.proofs.Wholes.{whole_totals}
 use Rattle.csv_program.proofs.EndedRuns.{fault_not_done, follows_none, ok_holds, outside_work, prefix_of_nothing, sound_ok}
+use Rattle.csv_program.proofs.StillThere.{keeps_alike, keeps_then}
 use Rattle.csv_program.proofs.query.run_query.Goals.{in-Ok, in-Err}
 use Rattle.csv_program.proofs.query.run_query.Given as given
 use Rattle.csv_program.proofs.query.run_query.Goals as goal
@@ -113,3 +114,16 @@ returns-clause-others g c place beyond = states_stay g c place ∙ c.run_tasks-a
 pub returns-clause-consumers : goal.returns-clause-consumers
 returns-clause-consumers g c place =
     subst (λ (states : List State). KeepsConsumers (states_at g.C.Consumer.state c.args.posts.now.items place) states) (sym (states_stay g c place)) (c.run_tasks-answer.ensures.consumers place)
+
+pub returns-clause-files : goal.returns-clause-files
+returns-clause-files g c =
+    let before = post_files g.D.Disk.files c.args.posts.now in
+    let worked = post_files g.D.Disk.files c.run_tasks-answer.new.posts in
+    let after = post_files g.D.Disk.files c.match-answer.posts in
+    keeps_then before worked after c.run_tasks-answer.ensures.files
+    (elim c.match-answer.branch [
+      | in-Ok w ↦
+          keeps_alike worked after
+          (λ place. ap (λ (posts : Vec (Post g.row.D.Denot g.row.C.Denot)). post_files g.D.Disk.files posts place) w.posts-is ∙ w.print_answer-status.ensures.files place)
+      | in-Err w ↦ keeps_alike worked after (λ place. ap (λ (posts : Vec (Post g.row.D.Denot g.row.C.Denot)). post_files g.D.Disk.files posts place) w.posts-is)
+    ])

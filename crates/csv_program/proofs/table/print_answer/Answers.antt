@@ -1,4 +1,4 @@
-use Rattle.std.proofs.Common.{sym, arith}
+use Rattle.std.proofs.Common.{◌∙◌, sym, arith}
 use Rattle.fault_count.specs.Faults.{Rose}
 use Rattle.job_plan.specs.Plans.{kind_at}
 use Rattle.csv_program.specs.Posts.{post_faults, post_files}
@@ -30,6 +30,13 @@ returns-clause-disk g c =
     (λ post. Rose (post_faults faults c.take_consumers.new.posts post) (post_faults faults c.check_and_print-status.new.shelf post))
     (λ post. Rose (post_faults faults c.args.posts.now post) (post_faults faults c.swap_consumers.new.posts post))
     (λ post rose. rose_as _ _ _ _ (first post) (sym (last post)) rose) c.check_and_print-status.ensures.disk
+
+pub returns-clause-files : goal.returns-clause-files
+returns-clause-files g c place =
+    let files = g.D.Disk.files in
+    let first = files_same c.args.posts.now c.take_consumers.new.posts c.take_consumers.ensures.disks files place in
+    let last = files_same c.check_and_print-status.new.shelf c.swap_consumers.new.posts c.swap_consumers.ensures.disks files place in
+    last ∙ c.check_and_print-status.ensures.shelf.same place ∙ first
 
 pub returns-clause-later : goal.returns-clause-later
 returns-clause-later g c place =

@@ -15,6 +15,7 @@ use Rattle.csv_program.specs.Statuses.{IsOutside}
 use Rattle.csv_program.proofs.FedRows.{feeds_rows, place_is}
 use Rattle.csv_program.proofs.Judged.{ending_is, if_each, known_is, landed_as, one_query, partitions_are, refusal_ends, refusal_is, rows_are, some_always}
 use Rattle.csv_program.proofs.PostDisks.{consumers_as, keeps_same, states_same}
+use Rattle.csv_program.proofs.StillThere.{keeps_then}
 use Rattle.csv_program.proofs.top.run_job.Goals as goal
 
 pub run_query-requires-clause-consumers : goal.run_query-requires-clause-consumers
@@ -121,3 +122,7 @@ pub returns-else-query_count-ne1-clause-consumers : goal.returns-else-query_coun
 returns-else-query_count-ne1-clause-consumers g c place =
     subst (λ (states : List State). KeepsConsumers states (states_at g.C.Consumer.state c.run_query.new.posts.items place))
     (states_same g.C.Consumer.state c.args.posts.now.items c.land_on.new.posts.items c.land_on.ensures.consumers place) (c.run_query.ensures.consumers place)
+
+pub returns-else-query_count-ne1-clause-files : goal.returns-else-query_count-ne1-clause-files
+returns-else-query_count-ne1-clause-files g c =
+    keeps_then (post_files g.D.Disk.files c.args.posts.now) (post_files g.D.Disk.files c.land_on.new.posts) (post_files g.D.Disk.files c.run_query.new.posts) c.land_on.ensures.files c.run_query.ensures.files
