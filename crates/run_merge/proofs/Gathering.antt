@@ -1,8 +1,9 @@
 -- What a merge gave so far, as the rows of a run that is being written.
-use Rattle.std.proofs.Common.{◌≡◌, ℕ, List, [], ◌∷◌, ◌++◌, Option, Ok, Err, Bool, true, false, refl, sym, ap, subst, ◌∙◌, append_assoc}
+use Rattle.std.proofs.Common.{◌≡◌, ℕ, List, [], ◌∷◌, ◌++◌, Option, Ok, Err, Bool, true, false, ◌+◌, length, refl, sym, ap, subst, ◌∙◌, append_assoc, arith}
 use Rattle.std.specs.List.{AllByRecursion}
-use Rattle.std.proofs.lemmas.List.{append-nil, map-append}
+use Rattle.std.proofs.lemmas.List.{append-nil, length-append, map-append}
 use Rattle.aggregate.specs.Rows.{entries_of, entry_of}
+use Rattle.aggregate.specs.declared.kind.Kind.TheVariants.{Order}
 use Rattle.aggregate.specs.Totals.{Entry}
 use Rattle.row_page.specs.Pages.{PageView}
 use Rattle.spill_disk.specs.Files.{Files}
@@ -15,7 +16,7 @@ use Rattle.run_file.specs.Runs.{Counts, IsFileOf}
 use Rattle.run_merge.specs.declared.merge.Merge.{Merge}
 use Rattle.run_merge.specs.Becoming.{WritesAll}
 use Rattle.run_merge.specs.Merged.{IsFileAmong}
-use Rattle.run_merge.specs.Merging.{GoesOn, IsToCome, kind_of, row_of, runs_of}
+use Rattle.run_merge.specs.Merging.{Falls, GoesOn, IsToCome, kind_of, left_of, row_of, runs_of}
 use Rattle.run_merge.specs.Runs.{greatest_of}
 use Rattle.run_merge.specs.Touching.{IsSoFar, SameBut}
 use Rattle.run_merge.proofs.Among.{all_join}
@@ -34,6 +35,7 @@ pub record IsUnderway (start now : ℕ → Option Files) (to : ℕ) (first merge
   pub so_far : IsSoFar (now to) run page rows
   pub formed : AllByRecursion (IsWellFormed (Entries (kind_of first)) (greatest_of (runs_of first))) rows
   pub gives : apart → (entries : List Entry) → IsToCome start first entries → IsLeftOf now merge rows entries
+  pub counted : kind_of first ≡ Order → length rows + left_of merge ≡ left_of first
 
 pub underway_none : (start : ℕ → Option Files) (to room : ℕ) (first : Merge) (run : Run) (apart : Type 0) → Counts run [] → IsFileOf (start to) run.file [] → IsUnderway start start to first first run (record { rows = []; room = room }) apart
 underway_none start to room first run apart counts file = record {
@@ -41,6 +43,7 @@ underway_none start to room first run apart counts file = record {
   so_far = record { written = []; counts = counts; file = file; are = refl };
   formed = tt;
   gives = λ _ entries come. record { rest = entries; come = come; whole = refl };
+  counted = λ order. omega arith;
 }
 
 -- one more row, of which the entry was to come
@@ -68,6 +71,8 @@ pub record Steps (now mid after : ℕ → Option Files) (named : ℕ → ℕ) (t
   pub row_is : row ≡ row_of merge'
   pub put : (rows : List (List (List ℕ))) → IsSoFar (mid to) run page rows → IsSoFar (after to) run' page' (rows ++ row ∷ [])
   pub same : SameBut named mid after to file
+  pub falls : Falls merge merge' (Ok true)
+  pub kind_was : kind_of merge ≡ kind_of first
 
 pub underway_more : (start now mid after : ℕ → Option Files) (named : ℕ → ℕ) (to file : ℕ) (first merge merge' : Merge) (run run' : Run) (page page' : PageView) (row : List (List ℕ)) (apart : Type 0) → (apart → IsFileAmong named (runs_of first) to file → ⊥)
     → Steps now mid after named to file first merge merge' run run' page page' row → IsUnderway start now to first merge run page apart → IsUnderway start after to first merge' run' page' apart
@@ -84,6 +89,10 @@ underway_more start now mid after named to file first merge merge' run run' page
       let beside = kept_beside named mid after to file (runs_of first) step.same (is_apart known) in
       let same : AllByRecursion (IsSame mid after) (runs_of merge') = subst (λ (runs : List Run). AllByRecursion (IsSame mid after) runs) (sym step.runs) beside in
       more_left mid after merge' before.rows entries left.rest same left.whole (step.goes left.rest left.come);
+  counted = λ order.
+      let was = before.counted order in
+      let one = step.falls.1 (step.kind_was ∙ order) in
+      omega (arith, length-append before.rows (row_of merge' ∷ []), was, one);
 }
 
 none_left : (now : ℕ → Option Files) (merge : Merge) (rows : List (List (List ℕ))) (entries rest : List Entry) → entries_of rows ++ rest ≡ entries → GoesOn now merge rest (Ok false) → entries_of rows ≡ entries
@@ -96,9 +105,9 @@ goes_undamaged now merge [] fault goes = goes
 goes_undamaged now merge (entry ∷ rest) fault goes = goes
 
 -- the last page was written, and nothing is left
-pub underway_all : (start now mid after : ℕ → Option Files) (to : ℕ) (first merge merge' : Merge) (run run' : Run) (page : PageView) (apart : Type 0) → IsUnderway start now to first merge run page apart → ((j : ℕ) → mid j ≡ now j) → ((entries : List Entry) → IsToCome now merge entries → GoesOn mid merge' entries (Ok false))
+pub underway_all : (start now mid after : ℕ → Option Files) (to : ℕ) (first merge merge' : Merge) (run run' : Run) (page : PageView) (apart : Type 0) → IsUnderway start now to first merge run page apart → ((j : ℕ) → mid j ≡ now j) → ((entries : List Entry) → IsToCome now merge entries → GoesOn mid merge' entries (Ok false)) → left_of merge ≡ 0
     → ((rows : List (List (List ℕ))) → IsFileOf (mid to) run.file rows → IsFileOf (after to) run'.file (rows ++ page.rows)) → ((rows : List (List (List ℕ))) → Counts run rows → Counts run' (rows ++ page.rows)) → WritesAll start first (after to) run' apart
-underway_all start now mid after to first merge merge' run run' page apart before left goes written counts = record {
+underway_all start now mid after to first merge merge' run run' page apart before left goes none written counts = record {
   rows = before.rows;
   counts = subst (λ (rows : List (List (List ℕ))). Counts run' rows) (sym before.so_far.are) (counts before.so_far.written before.so_far.counts);
   file =
@@ -108,4 +117,5 @@ underway_all start now mid after to first merge merge' run run' page apart befor
   are = λ known entries come.
       let last = before.gives known entries come in
       none_left mid merge' before.rows entries last.rest last.whole (goes last.rest last.come);
+  counted = λ order. omega (arith, before.counted order, none);
 }

@@ -1,9 +1,10 @@
 -- A new run that was written with all that a merge gave, of runs whose files are gone then.
 use Rattle.std.proofs.Common.{◌≡◌, ℕ, ◌<◌, ◌≤◌, List, [], ◌∷◌, Option, Some, None, sym, ap, subst, ◌∙◌, arith}
-use Rattle.std.specs.Prelude.{IsSome, is_some}
+use Rattle.std.specs.Prelude.{IsSome, is_some, sum_by}
 use Rattle.std.specs.List.{AllByRecursion}
 use Rattle.std.proofs.lemmas.Bool.{false≢true}
 use Rattle.std.proofs.lemmas.List.{append-nil}
+use Rattle.std.proofs.lemmas.List.Sums.{sum_by-cons}
 use Rattle.aggregate.specs.declared.kind.Kind.{Kind}
 use Rattle.aggregate.specs.Rows.{entries_of}
 use Rattle.aggregate.specs.Totals.{Entry, total}
@@ -16,11 +17,12 @@ use Rattle.run_file.specs.Runs.{Counts, IsFileOf, Stands, greatest_cost}
 use Rattle.run_merge.specs.declared.merge.Merge.{Merge}
 use Rattle.run_merge.specs.Becoming.{AreGone, Becomes, SameOthers, WritesAll}
 use Rattle.run_merge.specs.Merged.{IsFileAmong, IsGone}
-use Rattle.run_merge.specs.Merging.{Begins, IsToCome, kind_of, runs_of}
+use Rattle.run_merge.specs.Merging.{Begins, IsToCome, kind_of, left_of, runs_of}
 use Rattle.run_merge.specs.Runs.{HasEntries, HaveEntries, concatenated, greatest_of, run_at}
 use Rattle.run_merge.specs.Touching.{IsGoneOn, SameBut}
 use Rattle.run_merge.proofs.Among.{among_one, apart_one, is_among_one}
 use Rattle.run_merge.proofs.Ascending.{own_total, total_ascends}
+use Rattle.run_merge.proofs.Damage.{one_is}
 use Rattle.run_merge.proofs.Kept.{has_kept, have_kept, have_there, kept_beside}
 
 -- a run of written rows stands
@@ -44,6 +46,7 @@ pub record IsMerged (named : ℕ → ℕ) (before begun written after : ℕ → 
   pub runs_are : runs_of merge ≡ runs
   pub kind_is : kind_of merge ≡ kind
   pub begins : Begins merge
+  pub left : left_of merge ≡ sum_by (λ run. run.count) runs
 
 form_of_rows : (form : Form) (greatest : ℕ) (rows : List (List (List ℕ))) → AllByRecursion (IsWellFormed form greatest) rows → AllByRecursion (HasForm form) rows
 form_of_rows form greatest [] formed = tt
@@ -111,4 +114,8 @@ merged_becomes law count named before begun written after to kind merge runs run
       let greatest : greatest_of (runs_of merge) ≡ greatest_of runs = ap greatest_of made.runs_are in
       omega (arith, cost, greatest, made.all.counts.greatest);
   on = λ on. (subst (λ (d : ℕ). d < count) (sym made.disk) within, tt);
+  placed = λ disk file rows here none. sym (one_is run disk file rows here) ∙ made.disk;
+  counted = λ order.
+      let rows = made.all.counted (made.kind_is ∙ order) in
+      omega (arith, sum_by-cons (λ (each : Run). each.count) run [], made.all.counts.count, rows, made.left);
 }

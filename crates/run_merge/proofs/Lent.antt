@@ -1,16 +1,18 @@
 -- The row that a merge lends is the one at which it stands.
-use Rattle.std.proofs.Common.{◌≡◌, ℕ, List, [], ◌∷◌, Bool, true, false, Option, None, Some, Result, Ok, Err, ◌↔◌, refl, ap, ◌∙◌}
+use Rattle.std.proofs.Common.{◌≡◌, ℕ, List, [], ◌∷◌, Bool, true, false, Option, None, Some, Result, Ok, Err, ◌↔◌, refl, ap, subst, ◌∙◌}
 use Rattle.aggregate.specs.Totals.{Entry}
 use Rattle.row_page.specs.Views.{fields_in}
 use Rattle.row_page.specs.declared.row_view.RowView.{RowView}
 use Rattle.spill_disk.specs.Files.{Files}
+use Rattle.run_file.specs.declared.run.Run.{Run}
 use Rattle.run_file.specs.declared.run.RunFault.{RunFault}
 use Rattle.run_file.specs.declared.run.RunFault.TheVariants.{DiskFault, Damaged, NoMemory}
 use Rattle.run_merge.specs.declared.merge.Merge.{Merge}
-use Rattle.run_merge.specs.Causes.{FindsFewer, HasCauseAmong}
+use Rattle.run_merge.specs.Causes.{HasCauseAmong, IsDamageIn}
 use Rattle.run_merge.specs.Lending.{LendsFirst, LendsFormed}
 use Rattle.run_merge.specs.Merging.{runs_of, kind_of, row_of, GivesFormed, GoesOn, TellsDamage}
 use Rattle.run_merge.specs.Runs.{greatest_of}
+use Rattle.run_merge.proofs.Damage.{damage_in}
 
 pub lent_first : (files : ℕ → Option Files) (after : Merge) (entries : List Entry) (given : RowView) → fields_in given ≡ row_of after → GoesOn files after entries (Ok true) → LendsFirst entries (Ok (Some given))
 lent_first files after [] given at went = absurd went
@@ -27,10 +29,10 @@ fault_first files after (entry ∷ entries) fault went = went
 pub lent_formed : (before after : Merge) (given : RowView) → fields_in given ≡ row_of after → runs_of after ≡ runs_of before → kind_of after ≡ kind_of before → GivesFormed (greatest_of (runs_of after)) after (Ok true) → LendsFormed (kind_of before) (greatest_of (runs_of before)) (Ok (Some given))
 lent_formed before after given at runs kind formed = rw (at, ← runs, ← kind) formed
 
-pub fewer_found : (after : Merge) (fault : RunFault) → TellsDamage after (Err fault) → FindsFewer {T = Option RowView} (Err fault)
-fewer_found after (DiskFault disk) told = tt
-fewer_found after (Damaged disk file kept found) told = told.count.1
-fewer_found after NoMemory told = tt
+pub lent_damage : (before after : Merge) (fault : RunFault) → runs_of after ≡ runs_of before → TellsDamage after (Err fault) → IsDamageIn {T = Option RowView} (runs_of before) (Err fault)
+lent_damage before after fault runs told =
+    let own : IsDamageIn {T = Option RowView} (runs_of after) (Err fault) = damage_in Bool (Option RowView) after.readers.items fault told in
+    subst (λ (all : List Run). IsDamageIn {T = Option RowView} all (Err fault)) runs own
 
 pub same_cause : (before now : ℕ → ℕ) (fault : RunFault) → HasCauseAmong {T = Bool} before now (Err fault) → HasCauseAmong {T = Option RowView} before now (Err fault)
 same_cause before now (DiskFault disk) h = h

@@ -9,8 +9,9 @@ pub mod Joining
 pub mod Formed
 pub mod Beginning
 pub mod Finishing
-pub mod Lent
 pub mod Among
+pub mod Damage
+pub mod Lent
 pub mod Ascending
 pub mod Becoming
 pub mod Changing

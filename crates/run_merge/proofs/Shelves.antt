@@ -8,7 +8,7 @@ use Rattle.run_file.specs.declared.run.RunFault.TheVariants.{DiskFault, Damaged,
 use Rattle.run_file.specs.Causes.{NotDamaged}
 use Rattle.run_file.specs.Shelved.{LeavesFiles}
 use Rattle.run_merge.specs.declared.merge.Merge.{Merge}
-use Rattle.run_merge.specs.Causes.{FindsFewer, HasCauseAmong}
+use Rattle.run_merge.specs.Causes.{HasCauseAmong}
 use Rattle.run_merge.specs.Merged.{KeepsShelf}
 use Rattle.run_merge.specs.Merging.{TellsDamage}
 use Rattle.run_merge.specs.Touching.{file_in, SameBut}
@@ -41,18 +41,6 @@ cause_later before middle now (Ok x) later cause = tt
 cause_later before middle now (Err (DiskFault disk)) later cause = rose_later (before disk) (middle disk) (now disk) (later disk) cause
 cause_later before middle now (Err (Damaged disk file kept found)) later cause = tt
 cause_later before middle now (Err NoMemory) later cause = tt
-
-pub fewer_found : (merge : Merge) (r : Result Bool RunFault) → TellsDamage merge r → FindsFewer r
-fewer_found merge (Ok more) told = tt
-fewer_found merge (Err (DiskFault disk)) told = tt
-fewer_found merge (Err (Damaged disk file kept found)) told = told.count.1
-fewer_found merge (Err NoMemory) told = tt
-
-pub fewer_undamaged : {T : Type 0} (r : Result T RunFault) → NotDamaged r → FindsFewer r
-fewer_undamaged (Ok x) sound = tt
-fewer_undamaged (Err (DiskFault disk)) sound = tt
-fewer_undamaged (Err (Damaged disk file kept found)) sound = absurd sound
-fewer_undamaged (Err NoMemory) sound = tt
 
 -- a call that leaves all files, and one that may change one file
 pub same_left : (named : ℕ → ℕ) (before middle after : ℕ → Option Files) (disk file : ℕ) → SameBut named before middle disk file → ((j : ℕ) → after j ≡ middle j) → SameBut named before after disk file

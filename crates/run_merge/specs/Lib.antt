@@ -1,9 +1,9 @@
 pub mod Runs
-pub mod Causes
 pub mod Heads
 pub mod Merging
 pub mod Giving
 pub mod Lending
 pub mod Merged
+pub mod Causes
 pub mod Touching
 pub mod Becoming

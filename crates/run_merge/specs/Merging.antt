@@ -3,6 +3,7 @@
 use Rattle.std.specs.Prelude.{◌≡◌, ℕ, ◌+◌, ◌-◌, ◌<◌, Bool, true, false, List, [], ◌∷◌, Option, Some, Result, Ok, Err, length, map, sum_by, slice_get, ⊤}
 use Rattle.std.specs.List.{AllByRecursion}
 use Rattle.aggregate.specs.declared.kind.Kind.{Kind}
+use Rattle.aggregate.specs.declared.kind.Kind.TheVariants.{Order}
 use Rattle.aggregate.specs.Totals.{Entry, total}
 use Rattle.aggregate.specs.Rows.{Ascends, entries_of}
 use Rattle.spill_disk.specs.Files.{Files}
@@ -79,10 +80,10 @@ GivesFormed greatest after (Ok true) = IsWellFormed (Entries (kind_of after)) gr
 GivesFormed greatest after (Ok false) = ⊤
 GivesFormed greatest after (Err fault) = ⊤
 
--- fewer rows are left where it gave an entry
+-- fewer rows are left where it gave an entry, and one fewer where each row is one; none is left at the end
 abbrev pub Falls : Merge → Merge → Result Bool RunFault → Type 0
-Falls before after (Ok true) = left_of after < left_of before
-Falls before after (Ok false) = ⊤
+Falls before after (Ok true) = (left_of after < left_of before) × (kind_of before ≡ Order → left_of after + 1 ≡ left_of before)
+Falls before after (Ok false) = left_of after ≡ 0
 Falls before after (Err fault) = ⊤
 
 -- damage is told of a run of these readers: the row behind those that were found isn't well formed

@@ -49,7 +49,7 @@ pub(crate) fn give_alone(
         reader ≡ slice_index_or readers.now first reader →
         IsWellFormed (Entries Order) (run_of reader).greatest row.new) }
     ensures heads { OnlyFalls heads.old.items heads.new.items }
-    ensures fewer { OnOk result (sum_by one_if heads.new.items < sum_by one_if heads.old.items) }
+    ensures one { OnOk result (sum_by one_if heads.new.items + 1 ≡ sum_by one_if heads.old.items) }
 {
     let reader = &readers[first];
     put_row(row, key_of(reader), value_of(reader))?;

@@ -41,7 +41,7 @@ impl Merge {
     ghost use Rattle.row_page.specs.Views.{fields_in};
     ghost use Rattle.spill_disk.specs.Files.{Files};
     ghost use Rattle.run_file.specs.Shelved.{files_on, faults_on, LeavesFiles};
-    ghost use Rattle.run_merge.specs.Causes.{HasCauseAmong, FindsFewer};
+    ghost use Rattle.run_merge.specs.Causes.{HasCauseAmong, IsDamageIn};
     ghost use Rattle.run_merge.specs.Giving.{AreComing};
     ghost use Rattle.run_merge.specs.Heads.{IsFirst};
     ghost use Rattle.run_merge.specs.Lending.{LendsFirst, LendsFormed, StandsAfter};
@@ -122,7 +122,7 @@ impl Merge {
             LendsFirst entries result }
         ensures end { (result ≡ Ok None) ↔ (left_of self.old ≡ 0) }
         ensures formed { LendsFormed (kind_of self.old) (greatest_of (runs_of self.old)) result }
-        ensures fewer { FindsFewer result }
+        ensures damaged { IsDamageIn (runs_of self.old) result }
         ensures* stands { sem 𝓛 (Rests the_row self.entry (StandsAfter
             (files_on H.disk_of D.files shelf.old) (files_on H.disk_of D.files shelf.new)
             self.old result)) }
@@ -145,7 +145,7 @@ impl Merge {
             AreComing files true self.old.kind self.old.readers.items self.old.heads.items entries →
             GoesOn files self.new entries (Ok true)) }
         ensures formed { OnOk result (GivesFormed (greatest_of (runs_of self.new)) self.new (Ok true)) }
-        ensures falls { OnOk result (left_of self.new < left_of self.old) }
+        ensures falls { OnOk result (Falls self.old self.new (Ok true)) }
         ensures readers { self.new.readers ≡ self.old.readers }
         ensures kind { self.new.kind ≡ self.old.kind }
     {

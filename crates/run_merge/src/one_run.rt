@@ -1,10 +1,11 @@
 //! Runs that are merged into one.
 
-ghost use Rattle.std.specs.Prelude.{◌≡◌, ◌<◌, ◌≤◌, ◌∷◌, [], ◌↔◌, List, ℕ, None, Some, Ok, length, IfOk, IfSome, IsSome};
+ghost use Rattle.std.specs.Prelude.{◌≡◌, ◌<◌, ◌≤◌, ◌∷◌, [], ◌↔◌, List, ℕ, None, Some, Ok, length, sum_by, IfOk, IfSome, IsSome};
 ghost use Rattle.aggregate.specs.Totals.{Entry};
+ghost use Rattle.aggregate.specs.declared.kind.Kind.TheVariants.{Order};
 ghost use Rattle.run_file.specs.declared.run.Run.{Run};
 ghost use Rattle.run_file.specs.Shelved.{files_on, faults_on, LeavesFiles};
-ghost use Rattle.run_merge.specs.Causes.{HasCauseAmong, FindsFewer};
+ghost use Rattle.run_merge.specs.Causes.{HasCauseAmong, IsDamageAmong};
 ghost use Rattle.run_merge.specs.Merged.{Merges, KeepsOthers, LeavesOnly, IsFresh, KeepsShelf, answered};
 ghost use Rattle.run_merge.specs.Runs.{AreApart, AreOn, HaveEntries, greatest_of};
 
@@ -39,13 +40,14 @@ pub fn merge_all<D: Disk, H: Shelf<D>>(
         Merges (files_on H.disk_of D.files shelf.new) kind.now lists result }
     ensures on { IfOk result (λ answer. IfSome answer (λ run. 2 ≤ length runs.items → run.disk ≡ to)) }
     ensures bounded { IfOk result (λ answer. IfSome answer (λ run. run.greatest ≤ greatest_of runs.items)) }
+    ensures counted { kind.now ≡ Order → IfOk result (λ answer. IfSome answer (λ run. run.count ≡ sum_by (λ each. each.count) runs.items)) }
     ensures files { IfOk result (λ answer. LeavesOnly (H.named shelf.old)
         (files_on H.disk_of D.files shelf.old) (files_on H.disk_of D.files shelf.new) runs.items (answered answer)) }
     ensures fresh { IfOk result (λ answer. IsFresh (H.named shelf.old)
         (files_on H.disk_of D.files shelf.old) runs.items (answered answer)) }
     ensures others { KeepsOthers (H.named shelf.old)
         (files_on H.disk_of D.files shelf.old) (files_on H.disk_of D.files shelf.new) runs.items }
-    ensures fewer { FindsFewer result }
+    ensures damaged { IsDamageAmong (H.named shelf.old) (files_on H.disk_of D.files shelf.old) runs.items to result }
     ensures cause { HasCauseAmong
         (faults_on H.disk_of D.faults shelf.old) (faults_on H.disk_of D.faults shelf.new) result }
     ensures shelf { KeepsShelf H.count_of H.named H.disk_of D.files D.faults shelf.old shelf.new }

@@ -95,6 +95,7 @@ returns-clause-becomes g c =
       runs_are = c.in-Ok.ensures.runs;
       kind_is = c.in-Ok.ensures.kind;
       begins = c.in-Ok.ensures.begins;
+      left = c.in-Ok.ensures.left;
     }))
 
 pub returns-clause-others : goal.returns-clause-others

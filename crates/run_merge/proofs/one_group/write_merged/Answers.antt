@@ -1,13 +1,15 @@
-use Rattle.std.proofs.Common.{◌≡◌, ◌<◌, ℕ, List, refl, sym, subst, ◌∙◌}
+use Rattle.std.proofs.Common.{◌≡◌, ◌<◌, ℕ, Bool, List, Ok, Err, refl, sym, ap, subst, ◌∙◌}
 use Rattle.row_page.specs.Views.{fields_in}
 use Rattle.run_file.specs.declared.run.Run.{Run}
 use Rattle.run_file.specs.Shelved.{files_on}
 use Rattle.std.proofs.lemmas.Result.{err_from_is_err_and}
+use Rattle.run_merge.specs.Causes.{IsDamageIn}
 use Rattle.run_merge.specs.Merged.{IsFileAmong}
 use Rattle.run_merge.specs.Merging.{runs_of}
 use Rattle.run_merge.specs.Runs.{AreOn}
 use Rattle.run_merge.specs.Touching.{SameBut}
 use Rattle.run_merge.proofs.Among.{among_renamed}
+use Rattle.run_merge.proofs.Damage.{damage_in}
 use Rattle.run_merge.proofs.Gathering.{goes_undamaged, underway_none, underway_more, underway_all}
 use Rattle.run_merge.proofs.Shelves.{both_ok, keeps_left, keeps_self, keeps_trans, same_left, same_more}
 use Rattle.run_merge.proofs.one_group.write_merged.Goals as goal
@@ -33,6 +35,13 @@ returns-in_err-advance-clause-undamaged g c entries come apart =
     let left = c.entries.invariant.underway.gives apart entries come in
     let p = err_from_is_err_and c.from_residual.result c.from_residual.ensures.1 in
     rw (p.1, p.2) (goes_undamaged (files_on g.H.Shelf.disk_of g.D.Disk.files c.advance.new.shelf) c.advance.new.self left.rest c.in_err-advance.field-0.0 (c.in_err-advance.ensures.gives left.rest left.come))
+
+pub returns-in_err-advance-clause-damaged : goal.returns-in_err-advance-clause-damaged
+returns-in_err-advance-clause-damaged g c =
+    let p = err_from_is_err_and c.from_residual.result c.from_residual.ensures.1 in
+    let told : IsDamageIn {T = Unit {0}} (runs_of c.advance.new.self) (Err c.in_err-advance.field-0.0) = damage_in Bool (Unit {0}) c.advance.new.self.readers.items c.in_err-advance.field-0.0 c.in_err-advance.ensures.damaged in
+    let runs : runs_of c.advance.new.self ≡ runs_of c.args.merge.now = c.advance.ensures.runs ∙ c.entries.invariant.runs in
+    rw (p.1, p.2) (subst (λ (all : List Run). IsDamageIn {T = Unit {0}} all (Err c.in_err-advance.field-0.0)) runs told)
 
 pub entries-preserved : goal.entries-preserved
 entries-preserved g c =
@@ -60,6 +69,8 @@ entries-preserved g c =
             row_is = c.row.ensures;
             put = c.in_ok-put_row.ensures.put;
             same = c.put_row.ensures.same;
+            falls = rw c.if-branch.true at c.in_ok-advance.ensures.falls;
+            kind_was = before.kind;
           })
           before.underway;
       runs = runs;
@@ -83,4 +94,4 @@ returns-clause-all g c =
     let start = c.args.shelf.now in
     both_ok c.write_on.result c.write_on.ensures.written c.write_on.ensures.counts (λ written counts.
     underway_all (files start) (files c.entries.shelf) (files c.advance.new.shelf) (files c.write_on.new.shelf) c.args.to c.args.merge.now c.entries.merge c.advance.new.self c.entries.writer c.write_on.new.writer c.entries.page (IsFileAmong (g.H.Shelf.named start) (runs_of c.args.merge.now) c.args.to c.args.writer.now.file → ⊥)
-    c.entries.invariant.underway c.advance.ensures.shelf.same (λ entries come. rw c.if-branch.false at (c.in_ok-advance.ensures.gives entries come)) written counts)
+    c.entries.invariant.underway c.advance.ensures.shelf.same (λ entries come. rw c.if-branch.false at (c.in_ok-advance.ensures.gives entries come)) (c.in_ok-advance.ensures.end.0 (ap Ok c.if-branch.false)) written counts)

@@ -16,6 +16,13 @@ returns-in_default-clause-gives g c entries come =
     let nil : entries ≡ [] = none_coming (files_on g.H.Shelf.disk_of g.D.Disk.files c.let_all_on.new.shelf) c.args.self.now.kind readers heads entries none coming in
     rw nil tt
 
+pub returns-in_default-clause-falls : goal.returns-in_default-clause-falls
+returns-in_default-clause-falls g c =
+    let readers = c.let_all_on.new.readers.items in
+    let heads = c.let_all_on.new.heads.items in
+    let none : (k : ℕ) → k < length readers → has_head heads k ≡ false = rw (c.deref.ensures.value, c.deref-2.ensures.value) at c.in_default.ensures in
+    nothing_left readers heads c.let_all_on.new.aheads.items c.let_all_on.ensures.heads c.let_all_on.ensures.ahead none c.in_ok-let_all_on.ensures.end
+
 pub returns-in_default-clause-end : goal.returns-in_default-clause-end
 returns-in_default-clause-end g c =
     let readers = c.let_all_on.new.readers.items in

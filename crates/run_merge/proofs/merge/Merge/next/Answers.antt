@@ -1,7 +1,7 @@
 use Rattle.std.proofs.Common.{refl}
 use Rattle.run_file.specs.Shelved.{files_on}
 use Rattle.run_merge.specs.Merging.{left_of}
-use Rattle.run_merge.proofs.Lent.{end_fault, end_lent, end_none, fault_first, fewer_found, lent_first, lent_formed, none_first, same_cause}
+use Rattle.run_merge.proofs.Lent.{end_fault, end_lent, end_none, fault_first, lent_damage, lent_first, lent_formed, none_first, same_cause}
 use Rattle.run_merge.proofs.merge.Merge.next.Goals as goal
 
 pub returns-in-Ok-true : goal.returns-in-Ok-true
@@ -25,7 +25,7 @@ returns-in-Ok-true g c =
         gives = λ entries come. lent_first files after entries c.row.result c.row.ensures (rw c.in-Ok-true.field-0-test at (went.gives entries come));
         end = end_lent (left_of c.args.self.now) c.in-Ok-true.field-0 c.row.result c.in-Ok-true.field-0-test went.end;
         formed = lent_formed c.args.self.now after c.row.result c.row.ensures went.runs went.kind (rw c.in-Ok-true.field-0-test at went.formed);
-        fewer = tt;
+        damaged = tt;
         stands = tt;
         cause = tt;
         shelf = went.shelf;
@@ -42,7 +42,7 @@ returns-in-Ok-false g c =
         λ _. tt,
         record {
           gives = λ entries come. rw c.in-Ok-false.field-0-test at (went.gives entries come);
-          falls = tt;
+          falls = rw c.in-Ok-false.field-0-test at went.falls;
           damaged = tt;
           lent = tt;
           runs = went.runs;
@@ -53,7 +53,7 @@ returns-in-Ok-false g c =
         gives = λ entries come. none_first files after entries (rw c.in-Ok-false.field-0-test at (went.gives entries come));
         end = end_none (left_of c.args.self.now) c.in-Ok-false.field-0 c.in-Ok-false.field-0-test went.end;
         formed = tt;
-        fewer = tt;
+        damaged = tt;
         stands = tt;
         cause = tt;
         shelf = went.shelf;
@@ -81,7 +81,7 @@ returns-in-Err g c =
         gives = λ entries come. fault_first files after entries c.in-Err.fault (went.gives entries come);
         end = end_fault (left_of c.args.self.now) c.in-Err.fault went.end;
         formed = tt;
-        fewer = fewer_found after c.in-Err.fault went.damaged;
+        damaged = lent_damage c.args.self.now after c.in-Err.fault went.runs went.damaged;
         stands = tt;
         cause = same_cause _ _ c.in-Err.fault went.cause;
         shelf = went.shelf;
