@@ -1,15 +1,16 @@
 -- A run that is put behind those of one consumer.
-use Rattle.std.proofs.Common.{◌≡◌, ◌≢◌, ◌⊎◌, inl, inr, ℕ, zero, suc, ◌<◌, ◌≤◌, List, [], ◌∷◌, ◌++◌, All, length, get_or, set, Option, Result, Ok, Err, OnErr, refl, sym, ap, subst, ◌∙◌, arith}
+use Rattle.std.proofs.Common.{◌≡◌, ◌≢◌, ◌⊎◌, inl, inr, ℕ, zero, suc, ◌+◌, ◌<◌, ◌≤◌, List, [], ◌∷◌, ◌++◌, All, length, get_or, set, Option, Result, Ok, Err, OnErr, refl, sym, ap, subst, ◌∙◌, arith, length-append}
 use Rattle.std.specs.Global.{Vec}
-use Rattle.std.proofs.lemmas.List.{map-set, get_or-map, set-get_or, get_or-set_same, get_or-set_other}
+use Rattle.std.proofs.lemmas.List.{map-set, get_or-map, set-get_or, get_or-set_same, get_or-set_other, get_or_push}
 use Rattle.std.proofs.lemmas.List.Elements.{All-append}
 use Rattle.spill_disk.specs.Files.{Files}
 use Rattle.run_file.specs.declared.run.Run.{Run}
 use Rattle.spill_stack.proofs.Places.{at_or_not}
 use Rattle.spill_stack.proofs.Holding.{prefix_self}
+use Rattle.spill_stack.specs.Disks.{SameAt}
 use Rattle.spill_stack.specs.RunLists.{lists_of, runs_at, run_at, no_run, IsBounded, AreBounded, AreApart}
 use Rattle.spill_stack.specs.Serving.{RunsGrow}
-use Rattle.spill_stack.specs.Writing.{WasNotThere, AddedAreNew}
+use Rattle.spill_stack.specs.Writing.{WasNotThere, AddedAreNew, IsAdded, OnlyAdds}
 
 -- the lists of runs after a write at one place
 pub lists_set : (vectors : List (Vec Run)) (i : ℕ) (default vector : Vec Run) (more : List Run) → i < length vectors → vector.items ≡ (get_or vectors i default).items ++ more → lists_of (set vectors i vector) ≡ set (lists_of vectors) i (runs_at (lists_of vectors) i ++ more)
@@ -100,3 +101,18 @@ added_at files runs runs' i run new j k from (inr here) = subst (λ (r : Run). W
 
 pub added_more : (files : Option Files) (runs : List (List Run)) (i : ℕ) (run : Run) → i < length runs → WasNotThere files run.file → AddedAreNew files runs (with_run runs i run)
 added_more files runs i run within new j k from below = added_at files runs (with_run runs i run) i run new j k from (place_of runs i run within j k below)
+
+-- the run is one that was added
+is_added : (runs : List (List Run)) (i : ℕ) (run : Run) → i < length runs → IsAdded runs (with_run runs i run) run.file
+is_added runs i run within =
+    let here : runs_at (with_run runs i run) i ≡ runs_at runs i ++ run ∷ [] = get_or-set_same runs i (runs_at runs i ++ run ∷ []) [] within in
+    let last : run_at (with_run runs i run) i (length (runs_at runs i)) ≡ run =
+    ap (λ (list : List Run). get_or list (length (runs_at runs i)) no_run) here ∙ get_or_push (runs_at runs i) run no_run (length (runs_at runs i)) refl in
+    let longer : length (runs_at (with_run runs i run) i) ≡ length (runs_at runs i) + 1 =
+    ap (λ (list : List Run). length list) here ∙ length-append (runs_at runs i) (run ∷ []) in
+    (i, length (runs_at runs i), omega arith, omega arith, ap (λ (r : Run). r.file) last)
+
+-- where no file but the run's was made or changed, none was but those of the runs that were added
+pub only_more : (files files' : Option Files) (runs : List (List Run)) (i : ℕ) (run : Run) → i < length runs → ((file : ℕ) → file ≢ run.file → SameAt files files' file) → OnlyAdds files files' runs (with_run runs i run)
+only_more files files' runs i run within others file other =
+    others file (λ same. other (subst (λ (it : ℕ). IsAdded runs (with_run runs i run) it) (sym same) (is_added runs i run within)))

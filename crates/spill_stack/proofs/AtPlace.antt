@@ -1,5 +1,7 @@
 -- A spill of one of a list of consumers, seen in the lists of their states and runs.
 use Rattle.std.proofs.Common.{◌≡◌, ◌≢◌, inl, inr, ℕ, ◌<◌, List, [], ◌∷◌, ◌++◌, Option, Some, None, length, map, get_or, set, refl, sym, ap, subst, ◌∙◌, arith, append_assoc, append-nil}
+use Rattle.std.specs.Prelude.{IsSome, is_some}
+use Rattle.std.proofs.lemmas.Bool.{false≢true}
 use Rattle.std.proofs.lemmas.List.{map-set, get_or-map, length-map, length-set, get_or-set_same, get_or-set_other}
 use Rattle.aggregate.specs.declared.kind.Kind.{Kind}
 use Rattle.aggregate.specs.Totals.{Entry}
@@ -14,11 +16,11 @@ use Rattle.spill_stack.specs.Ending.{runs_after}
 use Rattle.spill_stack.specs.Pauses.{Spilled, Pauses}
 use Rattle.spill_stack.specs.RunLists.{runs_at, spilled_at, gathered_total, IsRunOf}
 use Rattle.spill_stack.specs.Serving.{KeepsRuns, SpillsAt}
-use Rattle.spill_stack.specs.Writing.{WritesRun}
+use Rattle.spill_stack.specs.Writing.{OnlyAdds, WritesRun}
 use Rattle.spill_stack.proofs.Midways.{total-append}
 use Rattle.spill_stack.proofs.Places.{at_or_not}
-use Rattle.spill_stack.proofs.Holding.{prefix_self, added_none}
-use Rattle.spill_stack.proofs.AddingRuns.{with_run, bounded_more, grow_more, added_more}
+use Rattle.spill_stack.proofs.Holding.{prefix_self, added_none, only_none}
+use Rattle.spill_stack.proofs.AddingRuns.{with_run, bounded_more, grow_more, added_more, only_more}
 use Rattle.spill_stack.proofs.HeldRuns.{hold_same, hold_more}
 
 -- no entry of one consumer is lost
@@ -35,8 +37,8 @@ all_totals states i state spilled spilled' written within h here others j = elim
   | inr ne ↦ rw (get_or-set_other states i j state blank ne, others j ne) refl
 ]
 
-keeps_same : (before after : Option Files) (states : List State) (i : ℕ) (state : State) (runs : List (List Run)) (written : List Entry) → i < length states → Spilled (state_at states i) state written → KeepsFiles before after → written ≡ [] → KeepsRuns before after states (set states i state) runs runs
-keeps_same before after states i state runs written within h kept none = record {
+keeps_same : (before after : Option Files) (states : List State) (i : ℕ) (state : State) (runs : List (List Run)) (written : List Entry) → i < length states → Spilled (state_at states i) state written → KeepsFiles before after → written ≡ [] → after ≡ before → KeepsRuns before after states (set states i state) runs runs
+keeps_same before after states i state runs written within h kept none same = record {
   lengths = refl;
   bounded = λ all. all;
   grow = λ j. prefix_self (runs_at runs j);
@@ -47,10 +49,16 @@ keeps_same before after states i state runs written within h kept none = record 
   );
   stay = kept;
   added = added_none before runs;
+  only = subst (λ (files : Option Files). OnlyAdds before files runs runs) (sym same) (only_none before runs runs);
+  unbegun = λ j none. refl;
 }
 
-keeps_more : (before after : Option Files) (states : List State) (i : ℕ) (state : State) (runs : List (List Run)) (run : Run) (written : List Entry) → i < length states → length runs ≡ length states → Spilled (state_at states i) state written → KeepsFiles before after → WritesRun before after (state_at states i).kind (Some run) written → KeepsRuns before after states (set states i state) runs (with_run runs i run)
-keeps_more before after states i state runs run written within lists h kept wrote =
+-- a consumer that was begun isn't one that wasn't
+begun_or_not : (kind : Option Kind) → IsSome kind → kind ≡ None → ⊥
+begun_or_not kind begun none = false≢true (sym (ap is_some none) ∙ begun)
+
+keeps_more : (before after : Option Files) (states : List State) (i : ℕ) (state : State) (runs : List (List Run)) (run : Run) (written : List Entry) → i < length states → IsSome (state_at states i).kind → length runs ≡ length states → Spilled (state_at states i) state written → KeepsFiles before after → WritesRun before after (state_at states i).kind (Some run) written → KeepsRuns before after states (set states i state) runs (with_run runs i run)
+keeps_more before after states i state runs run written within begun lists h kept wrote =
     let in_runs : i < length runs = omega arith in
     record {
       lengths = length-set runs i (runs_at runs i ++ run ∷ []);
@@ -65,15 +73,17 @@ keeps_more before after states i state runs run written within lists h kept wrot
           );
       stay = kept;
       added = added_more before runs i run in_runs wrote.1;
+      only = only_more before after runs i run in_runs wrote.3;
+      unbegun = λ j none. get_or-set_other runs i j (runs_at runs i ++ run ∷ []) [] (λ here. begun_or_not (state_at states i).kind begun (subst (λ (place : ℕ). (state_at states place).kind ≡ None) here none));
     }
 
-keeps_runs : (before after : Option Files) (states : List State) (i : ℕ) (state : State) (runs : List (List Run)) (given : ℕ) (run : Option Run) (written : List Entry) → i < length states → length runs ≡ length states → Spilled (state_at states i) state written → KeepsFiles before after → WritesRun before after (state_at states i).kind run written → KeepsRuns before after states (set states i state) runs (runs_after runs i (Ended given run))
-keeps_runs before after states i state runs given None written within lists h kept wrote = keeps_same before after states i state runs written within h kept wrote.0
-keeps_runs before after states i state runs given (Some run) written within lists h kept wrote = keeps_more before after states i state runs run written within lists h kept wrote
+keeps_runs : (before after : Option Files) (states : List State) (i : ℕ) (state : State) (runs : List (List Run)) (given : ℕ) (run : Option Run) (written : List Entry) → i < length states → IsSome (state_at states i).kind → length runs ≡ length states → Spilled (state_at states i) state written → KeepsFiles before after → WritesRun before after (state_at states i).kind run written → KeepsRuns before after states (set states i state) runs (runs_after runs i (Ended given run))
+keeps_runs before after states i state runs given None written within begun lists h kept wrote = keeps_same before after states i state runs written within h kept wrote.0 wrote.1
+keeps_runs before after states i state runs given (Some run) written within begun lists h kept wrote = keeps_more before after states i state runs run written within begun lists h kept wrote
 
 -- in a list of states
-spills_in : (before after : Option Files) (states : List State) (i : ℕ) (state : State) (runs : List (List Run)) (given : ℕ) (pause : Pause) → i < length states → length runs ≡ length states → KeepsFiles before after → Pauses (state_at states i) state before after given pause → SpillsAt before after states (set states i state) runs (runs_after runs i pause) i given pause
-spills_in before after states i state runs given (Asks bytes freed) within lists kept h =
+spills_in : (before after : Option Files) (states : List State) (i : ℕ) (state : State) (runs : List (List Run)) (given : ℕ) (pause : Pause) → i < length states → IsSome (state_at states i).kind → length runs ≡ length states → KeepsFiles before after → Pauses (state_at states i) state before after given pause → SpillsAt before after states (set states i state) runs (runs_after runs i pause) i given pause
+spills_in before after states i state runs given (Asks bytes freed) within begun lists kept h =
     let it : state_at (set states i state) i ≡ state = get_or-set_same states i state blank within in
     record {
       asks = rw it h.0;
@@ -81,16 +91,16 @@ spills_in before after states i state runs given (Asks bytes freed) within lists
       same_files = h.1;
       same_runs = refl;
     }
-spills_in before after states i state runs given (Ended freed run) within lists kept h =
+spills_in before after states i state runs given (Ended freed run) within begun lists kept h =
     let it : state_at (set states i state) i ≡ state = get_or-set_same states i state blank within in
     record {
       ends = rw it h;
       others = ap (set states i) (sym it);
-      kept = keeps_runs before after states i state runs freed run h.written within lists h.spilled kept h.wrote;
+      kept = keeps_runs before after states i state runs freed run h.written within begun lists h.spilled kept h.wrote;
     }
 
 -- in a list of members
-pub spills_at_is : {A : Type 0} (state_of : A → State) (members : List A) (i : ℕ) (old new : A) (before after : Option Files) (runs : List (List Run)) (given : ℕ) (pause : Pause) → i < length members → length runs ≡ length members → KeepsFiles before after → Pauses (state_of (get_or members i old)) (state_of new) before after given pause → SpillsAt before after (map state_of members) (map state_of (set members i new)) runs (runs_after runs i pause) i given pause
-spills_at_is state_of members i old new before after runs given pause within lists kept h =
+pub spills_at_is : {A : Type 0} (state_of : A → State) (members : List A) (i : ℕ) (old new : A) (before after : Option Files) (runs : List (List Run)) (given : ℕ) (pause : Pause) → i < length members → IsSome (state_at (map state_of members) i).kind → length runs ≡ length members → KeepsFiles before after → Pauses (state_of (get_or members i old)) (state_of new) before after given pause → SpillsAt before after (map state_of members) (map state_of (set members i new)) runs (runs_after runs i pause) i given pause
+spills_at_is state_of members i old new before after runs given pause within begun lists kept h =
     let same_length = length-map members state_of in
-    rw (map-set state_of members i new) (spills_in before after (map state_of members) i (state_of new) runs given pause (omega arith) (lists ∙ sym same_length) kept (rw (get_or-map state_of members i old blank within) h))
+    rw (map-set state_of members i new) (spills_in before after (map state_of members) i (state_of new) runs given pause (omega arith) begun (lists ∙ sym same_length) kept (rw (get_or-map state_of members i old blank within) h))

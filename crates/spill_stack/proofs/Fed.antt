@@ -15,7 +15,7 @@ use Rattle.spill_stack.specs.Feeding.{FeedsTotals, FedTo, Raises}
 use Rattle.spill_stack.proofs.Places.{at_or_not, same_field}
 use Rattle.spill_stack.proofs.Sameness.{files_self, files_trans}
 use Rattle.spill_stack.proofs.Keeping.{kept_self, keeps_one_trans}
-use Rattle.spill_stack.proofs.Holding.{grow_self, grow_trans, added_none, added_trans}
+use Rattle.spill_stack.proofs.Holding.{grow_self, grow_trans, added_none, added_trans, only_none, only_trans, still_unbegun}
 use Rattle.spill_stack.proofs.LongerTotals.{behind_by, with_last_by, total_not_none}
 
 taken_picks : (picks : List ℕ) (states states' : List State) (who : ℕ) → IsPick picks who → length states' ≡ length states → ((j : ℕ) → j ≢ who → state_at states' j ≡ state_at states j) → ArePicks picks states → ArePicks picks states'
@@ -94,6 +94,8 @@ fed_taken old states who entry laws pick ready within begun only takes =
         small = ready.small;
       };
       balance = omega (arith, sum, used);
+      only = only_none old.files old.runs old.runs;
+      unbegun = λ i none. refl;
     }
 
 -- totals through an acquire and a feed after it
@@ -119,6 +121,10 @@ pub fed_after : (old mid new : Scene) (who must : ℕ) (entry : Entry) → ((kin
 fed_after old mid new who must entry laws within raises fed =
     let same = raises.raised.same in
     let members = raises.members in
+    let kinds : (i : ℕ) → i < length old.states → (state_at mid.states i).kind ≡ (state_at old.states i).kind = λ i below. elim (at_or_not i who) [
+      | inl here ↦ rw here same.kind
+      | inr other ↦ (raises.others i below other).same.kind
+    ] in
     record {
       members = fed.members ∙ members;
       picks = fed.picks ∙ raises.picks;
@@ -139,6 +145,8 @@ fed_after old mid new who must entry laws within raises fed =
       shorts = omega (arith, raises.shorts, fed.shorts);
       ready = fed.ready;
       balance = omega (arith, raises.balance, fed.balance);
+      only = only_trans old.files mid.files new.files old.runs mid.runs new.runs raises.runs.stay raises.runs.grow fed.grow raises.runs.only fed.only;
+      unbegun = λ i none. fed.unbegun i (still_unbegun old.states mid.states members kinds i none) ∙ raises.runs.unbegun i none;
     }
 
 -- a need changes nothing

@@ -2,6 +2,7 @@ pub mod Places
 pub mod Sameness
 pub mod Holding
 pub mod Keeping
+pub mod Few
 pub mod Trying
 pub mod Serving
 pub mod Choosing

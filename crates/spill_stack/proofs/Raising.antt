@@ -77,7 +77,7 @@ asked_is old new who must got ready within enough tells =
           let apart : state_at new.states j ≡ state_at before j = ap (λ (states : List State). state_at states j) tells.told ∙ get_or-set_other before who j raised blank other in
           rw apart (keeps.kept j below);
       raised = raised_is (state_at old.states who) mid (state_at new.states who) must got (ready.rests who within) (keeps.ready.rests who within_before) enough (keeps.kept who within) here;
-      runs = keeps_runs_trans old.files new.files new.files old.states before new.states old.runs new.runs new.runs count keeps.runs (keeps_runs_same new.files before new.states new.runs members same);
+      runs = keeps_runs_trans old.files new.files new.files old.states before new.states old.runs new.runs new.runs count (λ i below. (keeps.kept i below).same.kind) keeps.runs (keeps_runs_same new.files before new.states new.runs members same);
       shorts = keeps.shorts;
       ready = record {
         lengths = keeps.ready.lengths ∙ sym members;

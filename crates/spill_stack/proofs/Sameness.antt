@@ -6,7 +6,7 @@ use Rattle.fault_count.specs.Faults.{HasCauseAt, Rose}
 use Rattle.spill_disk.specs.Files.{Files}
 use Rattle.consumer_trait.specs.States.{State}
 use Rattle.consumer_trait.specs.Members.{blank, state_at}
-use Rattle.spill_stack.specs.Disks.{KeepsFiles, LeavesDisk}
+use Rattle.spill_stack.specs.Disks.{KeepsFiles, LeavesDisk, SameAt}
 use Rattle.spill_stack.specs.Pauses.{SameConsumer, AllSame}
 use Rattle.spill_stack.proofs.Places.{at_or_not}
 
@@ -54,6 +54,16 @@ files_trans None (Some b) c first then = absurd first
 files_trans (Some a) None c first then = absurd first
 files_trans None None (Some c) first then = absurd then
 files_trans (Some a) (Some b) None first then = absurd then
+
+pub same_at_self : (files : Option Files) (file : ℕ) → SameAt files files file
+same_at_self None file = _
+same_at_self (Some files) file = refl
+
+pub same_at_trans : (a b c : Option Files) (file : ℕ) → KeepsFiles a b → SameAt a b file → SameAt b c file → SameAt a c file
+same_at_trans None b c file kept first then = _
+same_at_trans (Some a) None c file kept first then = absurd kept
+same_at_trans (Some a) (Some b) None file kept first then = _
+same_at_trans (Some a) (Some b) (Some c) file kept first then = then ∙ first
 
 pub leaves_self : (files : Option Files) (faults : ℕ) → LeavesDisk files files faults faults
 leaves_self files faults = record { kept = files_self files; later = omega arith }

@@ -27,7 +27,7 @@ moves_trans a b c first then = record {
   members = then.members ∙ first.members;
   picks = then.picks ∙ first.picks;
   kept = λ i within. keeps_one_trans (state_at a.states i) (state_at b.states i) (state_at c.states i) (first.kept i within) (then.kept i (let members = first.members in omega arith));
-  runs = keeps_runs_trans a.files b.files c.files a.states b.states c.states a.runs b.runs c.runs first.members first.runs then.runs;
+  runs = keeps_runs_trans a.files b.files c.files a.states b.states c.states a.runs b.runs c.runs first.members (λ i within. (first.kept i within).same.kind) first.runs then.runs;
   shorts = omega (arith, first.shorts, then.shorts);
   balance = omega (arith, first.balance, then.balance);
   need = then.need ∙ first.need;

@@ -1,5 +1,6 @@
 -- One step of serving the asks, in each of its three forms.
 use Rattle.std.proofs.Common.{◌≡◌, ℕ, ◌+◌, ◌-◌, ◌<◌, ◌≤◌, List, [], ◌∷◌, ◌++◌, length, take, set, refl, sym, ap, subst, ◌∙◌, arith, true, false, length-append, Option}
+use Rattle.std.specs.Prelude.{max}
 use Rattle.std.proofs.lemmas.List.{length-set, get_or_append_left, get_or_push, get_or-set_same, set-set, take_more, length-take}
 use Rattle.std.proofs.Math.Seq.{take-length}
 use Rattle.std.proofs.lemmas.List.Sums.{sum_by-append}
@@ -15,6 +16,7 @@ use Rattle.spill_stack.specs.Scenes.{Scene, IsStack, Stands, IsCandidate, spills
 use Rattle.spill_stack.specs.Serving.{AsksAt, EndsAt, KeepsRuns, Steps}
 use Rattle.spill_stack.proofs.Holding.{SameEntries, keeps_runs_same, keeps_runs_trans}
 use Rattle.spill_stack.proofs.Keeping.{kept_ask, kept_end, kept_told, kept_all}
+use Rattle.spill_stack.proofs.Few.{tries_few, settles_few}
 use Rattle.spill_stack.proofs.Places.{same_field}
 use Rattle.spill_stack.proofs.Stacking.{sums_at, spills_le, new_ask, pushed, push_ask, ended, end_spill, popped, pop_ask}
 use Rattle.spill_stack.proofs.Trying.{tried_for, settled_for}
@@ -58,6 +60,7 @@ step_ask scene account asks who state bytes given stack within candidate asks_fo
         freed = tried.freed ∙ ap (λ (each : Ask). each.freed) first;
         still = λ zero. tried.still (ap (λ (each : Ask). each.need) first ∙ zero) ∙ ap (λ (each : Ask). each.got) first;
       };
+      few = tries_few scene.account account more asks bytes (max (ask_at scene.asks 0).got (ask_at scene.asks 0).need) (omega arith) tries (rw first (grind arith)) (λ one. absurd (omega (arith, stack.some)));
       falls = omega (arith, sums.entries, same, tried.count, count, members, stack'.count, fits);
     }
 
@@ -85,6 +88,7 @@ step_end scene account asks who state files runs run given stack within candidat
         freed = tried.freed;
         still = tried.still;
       };
+      few = settles_few scene.account account scene.asks asks given stack.some settles;
       falls = omega (arith, sums.entries, less, tried.count, members);
     }
 
@@ -120,6 +124,7 @@ step_pop scene account front asks ask state files runs run given stack some ends
         freed = tried.freed ∙ sym (ap (λ (each : Ask). each.freed) first);
         still = λ zero. tried.still (sym (ap (λ (each : Ask). each.need) first) ∙ zero) ∙ sym (ap (λ (each : Ask). each.got) first);
       };
+      few = rw first (settles_few scene.account account front asks given some settles);
       falls = omega (arith, sums.entries, less, tried.count, count, members);
     }
 
@@ -160,7 +165,7 @@ next_pop scene told states files runs account front asks ask given run stack nes
     let after : states ≡ set scene.states who (state_at states who) = spills.others ∙ ap (λ list. set list who (state_at states who)) is_told ∙ set-set scene.states who raised (state_at states who) in
     let told_members : length told ≡ length scene.states = ap (λ (list : List State). length list) is_told ∙ length-set scene.states who raised in
     let told_same : (i : ℕ) → i < length scene.states → SameEntries (state_at scene.states i) (state_at told i) = λ i below. subst (λ (list : List State). SameEntries (state_at scene.states i) (state_at list i)) (sym is_told) (same_entries_set scene.states who raised refl refl i below) in
-    let keeps_told : KeepsRuns scene.files files scene.states states scene.runs runs = keeps_runs_trans scene.files scene.files files scene.states told states scene.runs scene.runs runs told_members (keeps_runs_same scene.files scene.states told scene.runs told_members told_same) spills.kept in
+    let keeps_told : KeepsRuns scene.files files scene.states states scene.runs runs = keeps_runs_trans scene.files scene.files files scene.states told states scene.runs scene.runs runs told_members (λ i below. (told_same i below).kind) (keeps_runs_same scene.files scene.states told scene.runs told_members told_same) spills.kept in
     let keeps : KeepsRuns scene.files files scene.states (set scene.states who (state_at states who)) scene.runs runs = subst (λ (each : List State). KeepsRuns scene.files files scene.states each scene.runs runs) after keeps_told in
     let stack' : IsStack (record scene { asks = front ++ (ask ∷ []) }) = subst (λ (each : List Ask). IsStack (record scene { asks = each })) split stack in
     let step = step_pop scene account front asks ask (state_at states who) files runs run given stack' some ends keeps settles in

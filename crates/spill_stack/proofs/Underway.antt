@@ -101,6 +101,7 @@ writes_run law start files kind (Some run) rows some h formed ascends = (
     are = refl;
     ascends = ascends;
   },
+  h.2,
 )
 
 -- the spill ends

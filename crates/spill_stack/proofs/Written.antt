@@ -1,5 +1,5 @@
 -- Files that are kept while a run is written, and the run so far.
-use Rattle.std.proofs.Common.{◌≡◌, ℕ, cond, eqb, List, [], ◌++◌, Option, Some, None, refl, sym, ap, subst, ◌∙◌, inl, inr}
+use Rattle.std.proofs.Common.{◌≡◌, ◌≢◌, ℕ, cond, eqb, List, [], ◌++◌, Option, Some, None, refl, sym, ap, subst, ◌∙◌, inl, inr}
 use Rattle.std.specs.Prelude.{IsSome, is_some}
 use Rattle.std.specs.Cmp.{unsigned_tied}
 use Rattle.std.specs.FinMap as map
@@ -10,8 +10,8 @@ use Rattle.std.proofs.lemmas.Bool.Decides.{eqb_tells}
 use Rattle.spill_disk.specs.Files.{Files, bytes_of, IsThere, Creates, Appends}
 use Rattle.run_file.specs.declared.run.Run.{Run}
 use Rattle.run_file.specs.Runs.{Counts, IsFileOf}
-use Rattle.spill_stack.specs.Disks.{KeepsFiles}
-use Rattle.spill_stack.specs.Writing.{WasNotThere, IsRunSoFar, IsWritten}
+use Rattle.spill_stack.specs.Disks.{KeepsFiles, SameAt}
+use Rattle.spill_stack.specs.Writing.{WasNotThere, IsWritten}
 
 pub none_or_some : (o : Option (List ℕ)) → o ≡ None → IsSome o → ⊥
 none_or_some o none some = false≢true (sym (ap is_some none) ∙ some)
@@ -48,6 +48,28 @@ more_keeps (Some s) (Some b) None file bytes kept fresh more tells = absurd more
 more_keeps (Some s) (Some b) (Some a) file bytes kept fresh more tells =
     subst (λ (files : Files). KeepsFiles (Some s) (Some files)) (sym more) (put_apart s b file (bytes_of b file ++ bytes) fresh kept)
 
+-- the files beside that which is put are as they were
+put_beside : (before : Files) (file : ℕ) (bytes : List ℕ) (q : ℕ) → q ≢ file → map.get (map.insert before file bytes) q ≡ map.get before q
+put_beside before file bytes q other = elim (eqb_tells q file) [
+  | inl same ↦ absurd (other same.1)
+  | inr differs ↦ get_put before file bytes q ∙ ap (λ b. cond b (Some bytes) (map.get before q)) differs.0
+]
+
+-- so they are where a file was made
+pub made_beside : (before after : Option Files) (file : ℕ) → Creates before after file → (q : ℕ) → q ≢ file → SameAt before after q
+made_beside None after file made q other = tt
+made_beside (Some b) None file made q other = absurd made
+made_beside (Some b) (Some a) file made q other =
+    subst (λ (files : Files). SameAt (Some b) (Some files) q) (sym made.1) (put_beside b file [] q other)
+
+-- and where something was put behind its bytes
+pub more_beside : (start before after : Option Files) (file : ℕ) (bytes : List ℕ) → KeepsFiles start before → Appends before after file bytes → (q : ℕ) → q ≢ file → SameAt start before q → SameAt start after q
+more_beside None before after file bytes kept more q other same = tt
+more_beside (Some s) None after file bytes kept more q other same = absurd kept
+more_beside (Some s) (Some b) None file bytes kept more q other same = absurd more
+more_beside (Some s) (Some b) (Some a) file bytes kept more q other same =
+    subst (λ (files : Files). SameAt (Some s) (Some files) q) (sym more) (put_beside b file (bytes_of b file ++ bytes) q other ∙ same)
+
 -- the disk still tells
 pub telling_after : (before after : Option Files) → KeepsFiles before after → IsSome before → IsSome after
 telling_after None after kept telling = absurd (false≢true telling)
@@ -59,7 +81,7 @@ written_keeps start files None rows h = subst (λ (now : Option Files). KeepsFil
 written_keeps start files (Some run) rows h = h.1
 
 -- a run was begun where none was written
-pub begun_written : (start before after : Option Files) (run : Run) (rows : List (List (List ℕ))) → Creates before after run.file → is_some after ≡ is_some before → run.disk ≡ 0 → IsThere after run.file → IsFileOf after run.file [] → Counts run [] → IsWritten start before None rows → IsRunSoFar start after run rows × KeepsFiles start after
+pub begun_written : (start before after : Option Files) (run : Run) (rows : List (List (List ℕ))) → Creates before after run.file → is_some after ≡ is_some before → run.disk ≡ 0 → IsThere after run.file → IsFileOf after run.file [] → Counts run [] → IsWritten start before None rows → IsWritten start after (Some run) rows
 begun_written start before after run rows made tells disk there file counts h =
     let new = made_keeps before after run.file made tells in (
       record {
@@ -70,10 +92,11 @@ begun_written start before after run rows made tells disk there file counts h =
         fresh = subst (λ (files : Option Files). WasNotThere files run.file) h.1 new.1;
       },
       subst (λ (files : Option Files). KeepsFiles files after) h.1 new.0,
+      λ file other. subst (λ (files : Option Files). SameAt files after file) h.1 (made_beside before after run.file made file other),
     )
 
 -- a page was put behind the rows of the run
-pub more_written : (start before after : Option Files) (run run' : Run) (rows more : List (List (List ℕ))) (bytes : List ℕ) → IsRunSoFar start before run rows × KeepsFiles start before → Appends before after run.file bytes → is_some after ≡ is_some before → run'.disk ≡ run.disk → run'.file ≡ run.file → IsThere after run'.file → IsFileOf after run'.file (rows ++ more) → Counts run' (rows ++ more) → IsRunSoFar start after run' (rows ++ more) × KeepsFiles start after
+pub more_written : (start before after : Option Files) (run run' : Run) (rows more : List (List (List ℕ))) (bytes : List ℕ) → IsWritten start before (Some run) rows → Appends before after run.file bytes → is_some after ≡ is_some before → run'.disk ≡ run.disk → run'.file ≡ run.file → IsThere after run'.file → IsFileOf after run'.file (rows ++ more) → Counts run' (rows ++ more) → IsWritten start after (Some run') (rows ++ more)
 more_written start before after run run' rows more bytes h grown tells disk same there file counts = (
   record {
     disk = disk ∙ h.0.disk;
@@ -83,4 +106,5 @@ more_written start before after run run' rows more bytes h grown tells disk same
     fresh = subst (λ (file : ℕ). WasNotThere start file) (sym same) h.0.fresh;
   },
   more_keeps start before after run.file bytes h.1 h.0.fresh grown tells,
+  λ file other. let apart : file ≢ run.file = λ is. other (is ∙ sym same) in more_beside start before after run.file bytes h.1 grown file apart (h.2 file apart),
 )

@@ -1,6 +1,6 @@
 -- Bytes for one consumer.
 -- This project's own.
-use Rattle.std.specs.Prelude.{◌≡◌, ℕ, ◌+◌, ◌≤◌, ◌<◌, ◌^◌, ◌⊎◌, true, [], ◌∷◌, length, replicate}
+use Rattle.std.specs.Prelude.{◌≡◌, ℕ, ◌+◌, ◌≤◌, ◌<◌, ◌^◌, ◌⊎◌, true, [], ◌∷◌, length, replicate, ⊤}
 use Rattle.consumer_trait.specs.States.{Rest}
 use Rattle.consumer_trait.specs.Members.{state_at}
 use Rattle.spill_stack.specs.declared.ask.Ask.{Ask}
@@ -53,3 +53,8 @@ pub record IsOutOfRoom (scene : Scene) (must : ℕ) : Type 0 where
 abbrev pub Obtains : Scene → Scene → ℕ → Obtained → Type 0
 Obtains old new must (Got got) = (must ≤ got) × Keeps old new got
 Obtains old new must NoRoom = IsOutOfRoom new must × Keeps old new 0
+
+-- at most so many bytes were got
+abbrev pub GotAtMost : ℕ → Obtained → Type 0
+GotAtMost most (Got got) = got ≤ most
+GotAtMost most NoRoom = ⊤

@@ -1,14 +1,14 @@
 -- Bytes that a consumer was told of, and an entry that it was fed.
 -- This project's own.
-use Rattle.std.specs.Prelude.{◌≡◌, ◌≢◌, ℕ, ◌+◌, ◌-◌, ◌≤◌, ◌<◌, ◌^◌, min, List, [], ◌∷◌, ◌++◌, Result, Ok, Err, length, slice_set, ⊤}
+use Rattle.std.specs.Prelude.{◌≡◌, ◌≢◌, ℕ, ◌+◌, ◌-◌, ◌≤◌, ◌<◌, ◌^◌, min, List, [], ◌∷◌, ◌++◌, None, Result, Ok, Err, length, slice_set, ⊤}
 use Rattle.aggregate.specs.Totals.{Entry, cost, costs}
 use Rattle.consumer_trait.specs.States.{State, room, total_by}
 use Rattle.consumer_trait.specs.Members.{state_at}
 use Rattle.spill_stack.specs.declared.fault.SpillFault.{SpillFault}
 use Rattle.spill_stack.specs.declared.fault.SpillFault.TheVariants.{NoRoom, DiskFault, NoMemory}
 use Rattle.spill_stack.specs.Disks.{KeepsFiles}
-use Rattle.spill_stack.specs.RunLists.{HoldRuns, gathered, gathered_total}
-use Rattle.spill_stack.specs.Writing.{AddedAreNew}
+use Rattle.spill_stack.specs.RunLists.{HoldRuns, gathered, gathered_total, runs_at}
+use Rattle.spill_stack.specs.Writing.{AddedAreNew, OnlyAdds}
 use Rattle.spill_stack.specs.Pauses.{SameConsumer}
 use Rattle.spill_stack.specs.Scenes.{Scene, used_by}
 use Rattle.spill_stack.specs.Serving.{KeepsOne, KeepsRuns, RunsGrow}
@@ -78,6 +78,8 @@ pub record FedTo (old new : Scene) (who : ℕ) (entry : Entry) : Type 0 where
   pub shorts : old.account.shorts ≤ new.account.shorts
   pub ready : IsReady new
   pub balance : new.account.held + used_by old.states ≡ old.account.held + used_by new.states
+  pub only : OnlyAdds old.files new.files old.runs new.runs
+  pub unbegun : (i : ℕ) → (state_at old.states i).kind ≡ None → runs_at new.runs i ≡ runs_at old.runs i
 
 -- there is no room for what an acquire asked
 pub record HasNoRoom (old new : Scene) (must asked : ℕ) : Type 0 where

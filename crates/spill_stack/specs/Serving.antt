@@ -1,6 +1,6 @@
 -- What serving the asks does, step by step and as a whole.
 -- This project's own.
-use Rattle.std.specs.Prelude.{◌≡◌, ◌≢◌, ℕ, ◌+◌, ◌-◌, ◌*◌, ◌≤◌, ◌<◌, true, false, Bool, List, [], Option, length}
+use Rattle.std.specs.Prelude.{◌≡◌, ◌≢◌, ℕ, ◌+◌, ◌-◌, ◌*◌, ◌≤◌, ◌<◌, max, true, false, Bool, List, [], Option, None, length}
 use mathlib.Core.List.{IsPrefix}
 use Rattle.aggregate.specs.Totals.{costs}
 use Rattle.spill_disk.specs.Files.{Files}
@@ -12,7 +12,7 @@ use Rattle.spill_stack.specs.declared.spill.Pause.TheVariants.{Asks, Ended}
 use Rattle.spill_stack.specs.Asks.{ask_at, pending_of}
 use Rattle.spill_stack.specs.Disks.{KeepsFiles}
 use Rattle.spill_stack.specs.RunLists.{runs_at, AreBounded, KeepTotals}
-use Rattle.spill_stack.specs.Writing.{AddedAreNew}
+use Rattle.spill_stack.specs.Writing.{AddedAreNew, OnlyAdds}
 use Rattle.spill_stack.specs.Pauses.{SameConsumer, AsksFor, EndsWith}
 use Rattle.spill_stack.specs.Scenes.{Scene, IsStack, IsTried, IsDry, used_by, entries_in}
 
@@ -21,7 +21,7 @@ abbrev pub RunsGrow : List (List Run) → List (List Run) → Type 0
 RunsGrow runs runs' = (i : ℕ) → IsPrefix (runs_at runs i) (runs_at runs' i)
 
 -- what a spill of one consumer does to the runs: where they stood, they stand, and those that it adds are in files that weren't
--- there
+-- there; a consumer that wasn't begun gets no run
 pub record KeepsRuns (files files' : Option Files) (states states' : List State) (runs runs' : List (List Run)) : Type 0 where
   pub lengths : length runs' ≡ length runs
   pub bounded : AreBounded runs → AreBounded runs'
@@ -29,6 +29,8 @@ pub record KeepsRuns (files files' : Option Files) (states states' : List State)
   pub totals : KeepTotals files files' states states' runs runs'
   pub stay : KeepsFiles files files'
   pub added : AddedAreNew files runs runs'
+  pub only : OnlyAdds files files' runs runs'
+  pub unbegun : (i : ℕ) → (state_at states i).kind ≡ None → runs_at runs' i ≡ runs_at runs i
 
 -- a spill of the consumer at a place asks for bytes: it has no run
 pub record AsksAt (files files' : Option Files) (states states' : List State) (runs runs' : List (List Run)) (i before bytes given : ℕ) : Type 0 where
@@ -69,6 +71,10 @@ pub record Moves (old new : Scene) : Type 0 where
   pub freed : (ask_at new.asks 0).freed ≡ (ask_at old.asks 0).freed
   pub still : (ask_at old.asks 0).need ≡ 0 → (ask_at new.asks 0).got ≡ (ask_at old.asks 0).got
 
+-- for the outermost ask no more was got than it had got before or needs
+abbrev pub GetsFew : Scene → Scene → Type 0
+GetsFew old new = (ask_at new.asks 0).got ≤ max (ask_at old.asks 0).got (ask_at old.asks 0).need
+
 -- what is left to do: it falls with each entry that is written, and with each ask that a spill makes
 abbrev pub remaining : Scene → ℕ
 remaining scene = 2 * entries_in scene.states + (length scene.states + 1 - length scene.asks)
@@ -78,6 +84,7 @@ pub record Steps (old new : Scene) : Type 0 where
   pub stack : IsStack new
   pub tried : IsTried new
   pub moves : Moves old new
+  pub few : GetsFew old new
   pub falls : remaining new < remaining old
 
 -- nothing is left to do: one ask stands, and is met or can't be
@@ -95,5 +102,6 @@ pub record Serves (old new : Scene) : Type 0 where
   pub stack : IsStack new
   pub tried : IsTried new
   pub moves : Moves old new
+  pub few : GetsFew old new
   pub served : IsServed new
   pub falls : remaining new ≤ remaining old

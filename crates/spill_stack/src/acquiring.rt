@@ -44,6 +44,7 @@ pub fn acquire<C: Consumer, D: Disk, K: Disk, B: Basis, R: Wait + Sync>(
     requires wish { must ≤ wish }
     requires most { wish ≤ 2 ^ 50 }
     ensures enough { IfOk result (λ got. must ≤ got) }
+    ensures few { IfOk result (λ got. got ≤ wish) }
     ensures told { IfOk result (Tells (scene_of (map C.state members.old) (D.files disk.old) (held_by account.now.task worker.old) spills.old)
         (scene_of (map C.state members.new) (D.files disk.new) (held_by account.now.task worker.new) spills.new) consumer) }
     ensures raised { IfOk result (λ _. Raises (scene_of (map C.state members.old) (D.files disk.old) (held_by account.now.task worker.old) spills.old)

@@ -2,9 +2,11 @@
 
 ghost use Rattle.std.specs.Prelude.{◌≡◌, ◌≢◌, ◌+◌, ◌≤◌, ◌<◌, ◌^◌, [], length, map, IsSome, IfOk, OnOk, OnErr};
 ghost use Rattle.aggregate.specs.Totals.{cost};
+ghost use Rattle.consumer_trait.specs.Calls.{charge};
 ghost use Rattle.consumer_trait.specs.Members.{state_at};
 ghost use Rattle.consumer_trait.specs.States.{IsEntryBy, room};
 ghost use Rattle.fault_count.specs.Faults.{HasCauseAt};
+ghost use Rattle.memory_lock.specs.Workers.{own_entries};
 ghost use Rattle.spill_stack.specs.Attempts.{held_by};
 ghost use Rattle.spill_stack.specs.Going.{Goes, IsAtWork};
 ghost use Rattle.spill_stack.specs.Asking.{IsReady, SpillsWhenShort};
@@ -22,7 +24,8 @@ use memory_lock::{Basis, Worker};
 use spill_disk::Disk;
 use std::sync::Wait;
 
-/// Feeds the consumer at a place, and gets the bytes that it needs for the entry: it acquires at most twice.
+/// Feeds the consumer at a place, and gets the bytes that it needs for the entry: it acquires at most twice, and not
+/// at all where the consumer has room for the entry.
 pub fn feed<C: Consumer, D: Disk, K: Disk, B: Basis, R: Wait + Sync>(
     rt: &R,
     members: &mut [C],
@@ -45,6 +48,8 @@ pub fn feed<C: Consumer, D: Disk, K: Disk, B: Basis, R: Wait + Sync>(
         (scene_of (map C.state members.new) (D.files disk.new) (held_by account.now.task worker.new) spills.new) who (record { key = key.now; value = value.now })) }
     ensures no_room { IfNoRoom result (LacksRoom (scene_of (map C.state members.old) (D.files disk.old) (held_by account.now.task worker.old) spills.old)
         (scene_of (map C.state members.new) (D.files disk.new) (held_by account.now.task worker.new) spills.new) (record { key = key.now; value = value.now })) }
+    ensures still { let state = state_at (map C.state members.old) who in
+        charge state.kind state.entries (record { key = key.now; value = value.now }) ≤ room state → own_entries worker.new ≡ own_entries worker.old }
     ensures when { OnOk result (SpillsWhenShort (scene_of (map C.state members.old) (D.files disk.old) (held_by account.now.task worker.old) spills.old)
         (scene_of (map C.state members.new) (D.files disk.new) (held_by account.now.task worker.new) spills.new)) }
     ensures page { IfOk result (λ _. spills.new.page ≡ record { rows = []; room = 262144 }) }

@@ -4,7 +4,7 @@ ghost use Rattle.std.specs.Prelude.{◌≡◌, ◌≤◌, ◌<◌, ◌^◌, [], 
 ghost use Rattle.fault_count.specs.Faults.{HasCauseAt};
 ghost use Rattle.spill_stack.specs.Attempts.{held_by};
 ghost use Rattle.spill_stack.specs.Going.{Goes, IsAtWork};
-ghost use Rattle.spill_stack.specs.Asking.{IsReady, Obtains, Opens, SpillsWhenShort};
+ghost use Rattle.spill_stack.specs.Asking.{GotAtMost, IsReady, Obtains, Opens, SpillsWhenShort};
 ghost use Rattle.spill_stack.specs.Disks.{LeavesDisk};
 ghost use Rattle.spill_stack.specs.Pauses.{AllSame};
 ghost use Rattle.spill_stack.specs.Scenes.{scene_of};
@@ -43,6 +43,7 @@ pub(crate) fn obtain<C: Consumer, D: Disk, K: Disk, B: Basis, R: Wait + Sync>(
     requires most { wish ≤ 2 ^ 50 }
     ensures obtains { IfOk result (Obtains (scene_of (map C.state members.old) (D.files disk.old) (held_by account.now.task worker.old) spills.old)
         (scene_of (map C.state members.new) (D.files disk.new) (held_by account.now.task worker.new) spills.new) must) }
+    ensures few { IfOk result (GotAtMost wish) }
     ensures when { IfOk result (λ _. SpillsWhenShort (scene_of (map C.state members.old) (D.files disk.old) (held_by account.now.task worker.old) spills.old)
         (scene_of (map C.state members.new) (D.files disk.new) (held_by account.now.task worker.new) spills.new)) }
     ensures page { IfOk result (λ _. spills.new.page ≡ record { rows = []; room = 262144 }) }

@@ -1,9 +1,9 @@
 //! The pages of one spill, written as one run.
 
-ghost use Rattle.std.specs.Prelude.{◌≡◌, ◌++◌, List, ℕ, Option, IfOk, OnOk, OnErr};
+ghost use Rattle.std.specs.Prelude.{◌≡◌, ◌≢◌, ◌++◌, List, ℕ, Option, IfOk, OnOk, OnErr};
 ghost use Rattle.spill_disk.specs.Files.{Files, IsThere};
 ghost use Rattle.fault_count.specs.Faults.{HasCauseAt};
-ghost use Rattle.spill_stack.specs.Disks.{KeepsFiles};
+ghost use Rattle.spill_stack.specs.Disks.{KeepsFiles, SameAt};
 ghost use Rattle.spill_stack.specs.Faults.{fault_by};
 ghost use Rattle.spill_stack.specs.Writing.{HasFile, IsRunSoFar, IsWritten};
 
@@ -26,7 +26,8 @@ fn fault_of(fault: RunFault) -> Fault
 fn begun<D: Disk>(disk: &mut D, writer: Option<RunWriter>) -> Result<RunWriter, Fault>
     requires there { HasFile (D.files disk.old) writer }
     ensures ok { IfOk result (λ run. (start : Option Files) (rows : List (List (List ℕ))) → IsWritten start (D.files disk.old) writer rows
-        → IsRunSoFar start (D.files disk.new) run rows × KeepsFiles start (D.files disk.new)) }
+        → IsRunSoFar start (D.files disk.new) run rows × KeepsFiles start (D.files disk.new)
+        × ((file : ℕ) → file ≢ run.file → SameAt start (D.files disk.new) file)) }
     ensures there { IfOk result (λ run. IsThere (D.files disk.new) run.file) }
     ensures err { OnErr result (D.files disk.new ≡ D.files disk.old) }
     ensures cause { HasCauseAt Fault.DiskFault (D.faults disk.old) (D.faults disk.new) result }

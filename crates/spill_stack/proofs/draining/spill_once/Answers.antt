@@ -7,6 +7,7 @@ use Rattle.spill_stack.specs.Scenes.{Scene, scene_of}
 use Rattle.spill_stack.specs.Serving.{Steps}
 use Rattle.spill_stack.proofs.Opening.{IsNewAsk, single, opened_scene, opened_stack}
 use Rattle.spill_stack.proofs.Drained.{drained_is}
+use Rattle.spill_stack.proofs.Sameness.{leaves_trans}
 use Rattle.spill_stack.proofs.draining.spill_once.Goals as goal
 
 pub spill_next-requires-clause-stack : goal.spill_next-requires-clause-stack
@@ -30,3 +31,6 @@ returns-clause-keeps g c =
 
 pub returns-clause-goes : goal.returns-clause-goes
 returns-clause-goes g c = c.goes_on.ensures.more _ _ _ c.spill_next.ensures.goes c.serve.ensures.goes
+
+pub returns-clause-disk : goal.returns-clause-disk
+returns-clause-disk g c = leaves_trans _ _ _ _ _ _ c.spill_next.ensures.disk c.serve.ensures.disk

@@ -10,6 +10,7 @@ use Rattle.spill_stack.specs.Scenes.{Scene, scene_of}
 use Rattle.spill_stack.specs.Asking.{Keeps, Obtains}
 use Rattle.spill_stack.specs.declared.obtained.Obtained.TheVariants.{NoRoom}
 use Rattle.spill_stack.proofs.Opening.{IsNewAsk, IsBegun, IsAnswered, single, begun_is, answered_at_once, answered_later, served_keeps, short_is_out, short_keeps}
+use Rattle.spill_stack.proofs.Few.{IsOneFew, first_few, read_few, served_few}
 use Rattle.spill_stack.proofs.obtaining.obtain.Goals.{then-index-must+in_ok-serve, else-index-must}
 use Rattle.spill_stack.proofs.obtaining.obtain.Goals as goal
 
@@ -48,6 +49,18 @@ returns-then-got-must-clause-obtains g c =
     let got : (ask_at asks 0).got ≡ c.index-2.result.now.got = ap (λ (each : Ask). each.got) top in
     let keeps : Keeps ready served c.index-2.result.now.got = subst (λ (extra : ℕ). Keeps ready served extra) got (served_keeps ready served ask fresh answered.moves answered.stack answered.one) in
     (c.if-got-must.true, keeps)
+
+pub returns-then-got-must-clause-few : goal.returns-then-got-must-clause-few
+returns-then-got-must-clause-few g c =
+    let ask : Ask = record { consumer = c.args.consumer; need = c.args.must; got = 0; freed = 0 } in
+    let first = first_few _ _ ask c.open.new.self.asks.items c.try_pool.new.asks.items c.args.wish refl c.in-Ok.ensures.opens.asks c.in-Ok-try_pool.ensures.tries in
+    let few : IsOneFew c.if-index-must.spills.asks.items c.args.wish = elim c.if-index-must.branch [
+      | then-index-must+in_ok-serve w ↦
+          let serves = w.in_ok-serve.ensures.serves in
+          rw w.spills-is (served_few c.try_pool.new.asks.items _ c.args.must c.args.wish first.0 first.1 c.requires.wish serves.served.single serves.few)
+      | else-index-must w ↦ rw w.spills-is first.0
+    ] in
+    read_few c.if-index-must.spills.asks.items c.index-2.result.now c.args.wish few c.index-2.ensures
 
 pub returns-in-Ok-release-clause-obtains : goal.returns-in-Ok-release-clause-obtains
 returns-in-Ok-release-clause-obtains g c =

@@ -15,7 +15,7 @@ returns-in-Ok-clause-spill g c =
     let files = g.D.Disk.files in
     let runs = c.args.runs.now.items in
     let lists = length-map runs (λ (vector : Vec Run). vector.items) ∙ c.requires.lengths in
-    rw c.in-Ok.ensures (spills_at_is g.C.Consumer.state c.args.members.now c.args.i c.index-members-i.result c.run_spill.new.member (files c.args.disk.now) (files c.run_spill.new.disk) (lists_of runs) c.args.before c.in_ok-pause.pause c.requires.within lists c.run_spill.ensures.disk.kept c.in_ok-pause.ensures.spill)
+    rw c.in-Ok.ensures (spills_at_is g.C.Consumer.state c.args.members.now c.args.i c.index-members-i.result c.run_spill.new.member (files c.args.disk.now) (files c.run_spill.new.disk) (lists_of runs) c.args.before c.in_ok-pause.pause c.requires.within c.requires.kind lists c.run_spill.ensures.disk.kept c.in_ok-pause.ensures.spill)
 
 pub returns-in-Ok-clause-same : goal.returns-in-Ok-clause-same
 returns-in-Ok-clause-same g c = all_same_at g.C.Consumer.state c.args.members.now c.args.i c.index-members-i.result c.run_spill.new.member c.requires.within c.run_spill.ensures.same

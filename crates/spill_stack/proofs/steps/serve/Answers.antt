@@ -12,6 +12,7 @@ spills-preserved g c =
       stack = steps.stack;
       tried = steps.tried;
       moves = moves_trans _ _ _ kept.moves steps.moves;
+      few = let before = kept.few in let need = kept.moves.need in let after = steps.few in grind arith;
       falls = omega (arith, steps.falls, kept.falls);
       page = step.page;
       same = all_same_trans _ _ _ kept.same step.same;
@@ -25,6 +26,7 @@ spills-init g c = record {
   stack = c.requires.stack;
   tried = c.requires.tried;
   moves = moves_none _;
+  few = grind arith;
   falls = omega arith;
   page = c.requires.page;
   same = all_same_self _;

@@ -4,7 +4,7 @@ use Rattle.spill_stack.specs.Going.{Goes, IsAtWork}
 use Rattle.spill_stack.specs.Disks.{LeavesDisk}
 use Rattle.spill_stack.specs.Pauses.{AllSame}
 use Rattle.spill_stack.specs.Scenes.{Scene, IsStack, IsTried, scene_of}
-use Rattle.spill_stack.specs.Serving.{Moves, remaining}
+use Rattle.spill_stack.specs.Serving.{GetsFew, Moves, remaining}
 use Rattle.spill_stack.proofs.steps.serve.Given as goal
 
 abbrev pub invariant-spills : goal.invariant-spills
@@ -16,6 +16,7 @@ invariant-spills g l =
       stack : IsStack now;
       tried : IsTried now;
       moves : Moves first now;
+      few : GetsFew first now;
       falls : remaining now ≤ remaining first;
       page : l.spills.page ≡ record { rows = []; room = 262144 };
       same : AllSame first.states now.states;
