@@ -1,6 +1,6 @@
 -- The runs of a consumer that was drained are taken: the others' stand as they did.
-use Rattle.std.proofs.Common.{◌≡◌, inl, inr, ℕ, ◌<◌, List, [], ◌++◌, Option, length, get_or, set, refl, sym, ap, subst, ◌∙◌, arith, append-nil}
-use Rattle.std.proofs.lemmas.List.{length-set, get_or-set_same, get_or-set_other}
+use Rattle.std.proofs.Common.{◌≡◌, ◌≢◌, inl, inr, ℕ, ◌<◌, List, [], ◌++◌, Option, length, get_or, set, refl, sym, ap, subst, ◌∙◌, arith, append-nil}
+use Rattle.std.proofs.lemmas.List.{length-set, get_or-set_same, get_or-set_other, get_or_past}
 use mathlib.Core.List.{IsPrefix}
 use Rattle.aggregate.specs.declared.kind.Kind.{Kind}
 use Rattle.aggregate.specs.Totals.{Entry}
@@ -11,10 +11,11 @@ use Rattle.consumer_trait.specs.Members.{state_at}
 use Rattle.spill_stack.specs.Pauses.{AllSame}
 use Rattle.spill_stack.specs.RunLists.{run_at, runs_at, no_run, spilled_at, AreApart, HaveEntries, HoldRuns, KeepTotals}
 use Rattle.spill_stack.specs.Scenes.{Scene}
-use Rattle.spill_stack.specs.Serving.{RunsGrow}
-use Rattle.spill_stack.specs.Writing.{AddedAreNew, WasNotThere}
+use Rattle.spill_stack.specs.Serving.{KeepsRuns, RunsGrow}
+use Rattle.spill_stack.specs.Writing.{AddedAreNew, IsAdded, WasNotThere}
+use Rattle.spill_stack.proofs.Places.{less_or_not}
 use Rattle.task_memory.proofs.Places.{at_or_not}
-use Rattle.task_memory.specs.Draining.{DrainsTotals, TakesNew}
+use Rattle.task_memory.specs.Draining.{AddsOnly, DrainsTotals, TakesNew, taken_at}
 
 none_at : (runs : List (List Run)) (who i : ℕ) → who < length runs → i ≡ who → length (runs_at (set runs who []) i) ≡ 0
 none_at runs who i within here = rw here (ap (λ (list : List Run). length list) (get_or-set_same runs who [] [] within))
@@ -88,4 +89,32 @@ pub takes_new : (old : Scene) (runs : List (List Run)) (who : ℕ) (taken : List
 takes_new old runs who taken grow added is = record {
   had = subst (λ (list : List Run). IsPrefix (runs_at old.runs who) list) (sym is) (grow who);
   added = λ k from below. subst (λ (list : List Run). WasNotThere old.files (get_or list k no_run).file) (sym is) (added who k from (subst (λ (list : List Run). k < length list) is below));
+}
+
+-- a run that was added is one of those that were taken, or was added beside them
+not_added : (runs runs' : List (List Run)) (who file : ℕ) → ((k : ℕ) → k < length (runs_at runs' who) → (taken_at (runs_at runs' who) k).file ≢ file) → (IsAdded runs (set runs' who []) file → ⊥) → IsAdded runs runs' file → ⊥
+not_added runs runs' who file none other added = elim (at_or_not added.0 who) [
+  | inl here ↦ none added.1 (rw here at added.3) (rw here at added.4)
+  | inr apart ↦
+      let same : runs_at (set runs' who []) added.0 ≡ runs_at runs' added.0 = get_or-set_other runs' who added.0 [] [] apart in
+      other (
+        added.0,
+        added.1,
+        added.2,
+        subst (λ (list : List Run). added.1 < length list) (sym same) added.3,
+        ap (λ (list : List Run). (get_or list added.1 no_run).file) same ∙ added.4,
+      )
+]
+
+none_left : (runs : List (List Run)) (who : ℕ) → runs_at (set runs who []) who ≡ []
+none_left runs who = elim (less_or_not who (length runs)) [
+  | inl within ↦ get_or-set_same runs who [] [] within
+  | inr past ↦ let count = length-set runs who [] in get_or_past (set runs who []) who [] (omega (arith, past, count))
+]
+
+pub adds_only : (old new : Scene) (runs : List (List Run)) (who : ℕ) (taken : List Run) → KeepsRuns old.files new.files old.states new.states old.runs runs → taken ≡ runs_at runs who → new.runs ≡ set runs who [] → AddsOnly old new who taken
+adds_only old new runs who taken keeps is left = record {
+  only = λ file none other. keeps.only file (not_added old.runs runs who file (rw is at none) (rw left at other));
+  unbegun = λ i none apart. ap (λ (lists : List (List Run)). runs_at lists i) left ∙ get_or-set_other runs who i [] [] apart ∙ keeps.unbegun i none;
+  emptied = ap (λ (lists : List (List Run)). runs_at lists who) left ∙ none_left runs who;
 }

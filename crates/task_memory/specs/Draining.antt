@@ -1,15 +1,16 @@
 -- What a consumer that was drained leaves.
 -- This project's own.
-use Rattle.std.specs.Prelude.{◌≡◌, ◌≢◌, ℕ, ◌<◌, ◌≤◌, List, [], length, slice_index_or}
+use Rattle.std.specs.Prelude.{◌≡◌, ◌≢◌, ℕ, ◌<◌, ◌≤◌, List, [], None, length, slice_index_or}
 use mathlib.Core.List.{IsPrefix}
 use Rattle.aggregate.specs.Totals.{Entry}
 use Rattle.run_file.specs.declared.run.Run.{Run}
 use Rattle.consumer_trait.specs.States.{State, total_by}
 use Rattle.consumer_trait.specs.Members.{state_at}
+use Rattle.spill_stack.specs.Disks.{SameAt}
 use Rattle.spill_stack.specs.RunLists.{HaveEntries, HoldRuns, gathered, gathered_total, no_run, run_at, runs_at}
 use Rattle.spill_stack.specs.Scenes.{Scene}
 use Rattle.spill_stack.specs.Serving.{KeepsOne}
-use Rattle.spill_stack.specs.Writing.{WasNotThere}
+use Rattle.spill_stack.specs.Writing.{IsAdded, WasNotThere}
 
 -- a run at a place of those that were taken
 abbrev pub taken_at : List Run → ℕ → Run
@@ -36,6 +37,13 @@ DrainsTotals old new who taken =
 pub record TakesNew (old : Scene) (who : ℕ) (taken : List Run) : Type 0 where
   pub had : IsPrefix (runs_at old.runs who) taken
   pub added : (k : ℕ) → length (runs_at old.runs who) ≤ k → k < length taken → WasNotThere old.files (taken_at taken k).file
+
+-- no file was made or changed but those of the runs that are handed out, and of runs that others added; a consumer that wasn't
+-- begun gets none, and none is left of the consumer's own
+pub record AddsOnly (old new : Scene) (who : ℕ) (taken : List Run) : Type 0 where
+  pub only : (file : ℕ) → ((k : ℕ) → k < length taken → (taken_at taken k).file ≢ file) → (IsAdded old.runs new.runs file → ⊥) → SameAt old.files new.files file
+  pub unbegun : (i : ℕ) → (state_at old.states i).kind ≡ None → i ≢ who → runs_at new.runs i ≡ runs_at old.runs i
+  pub emptied : runs_at new.runs who ≡ []
 
 -- what each consumer keeps through the spills of one of them: a consumer without an entry uses nothing, if it did before
 abbrev pub KeepEach : List State → List State → Type 0

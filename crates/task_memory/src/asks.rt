@@ -1,9 +1,11 @@
 //! What a task's consumers are fed, ask for and spill, as functions of the parts of its memory.
 
 ghost use Rattle.std.specs.Prelude.{◌≡◌, ◌+◌, ◌≤◌, ◌<◌, ◌^◌, [], All, length, map, slice_index, IfOk, OnOk, OnErr};
+ghost use Rattle.consumer_trait.specs.Calls.{charge};
 ghost use Rattle.consumer_trait.specs.Members.{state_at};
-ghost use Rattle.consumer_trait.specs.States.{IsEntryBy};
+ghost use Rattle.consumer_trait.specs.States.{IsEntryBy, room};
 ghost use Rattle.fault_count.specs.Faults.{HasCauseAt};
+ghost use Rattle.memory_lock.specs.Workers.{own_entries};
 ghost use Rattle.spill_stack.specs.Asking.{IsOutOfRoom, SpillsWhenShort};
 ghost use Rattle.spill_stack.specs.Attempts.{held_by};
 ghost use Rattle.spill_stack.specs.Disks.{LeavesDisk};
@@ -14,7 +16,7 @@ ghost use Rattle.spill_stack.specs.RunLists.{IsBounded};
 ghost use Rattle.spill_stack.specs.Scenes.{scene_of, used_by};
 ghost use Rattle.pool_ledger.specs.Sizes.{floor_of};
 ghost use Rattle.task_memory.specs.declared.fault.TaskFault.TheVariants.{NoRoom};
-ghost use Rattle.task_memory.specs.Draining.{DrainsTotals, KeepEach, TakesNew};
+ghost use Rattle.task_memory.specs.Draining.{AddsOnly, DrainsTotals, KeepEach, TakesNew};
 ghost use Rattle.task_memory.specs.Live.{IfNoRoom, IsBetween, NeverNoRoom, TellsHeld};
 
 use crate::TaskFault;
@@ -66,6 +68,7 @@ pub(crate) fn acquire_for<C: Consumer, K: Disk, D: Disk, B: Basis, R: Wait + Syn
     requires wish { must ≤ wish }
     requires most { wish ≤ 2 ^ 50 }
     ensures enough { IfOk result (λ got. must ≤ got) }
+    ensures few { IfOk result (λ got. got ≤ wish) }
     ensures told { IfOk result (Tells (scene_of (map C.state members.old) (D.files disk.old) (held_by account.now.task worker.old) spills.old)
         (scene_of (map C.state members.new) (D.files disk.new) (held_by account.now.task worker.new) spills.new) (slice_index spills.old.picks.items consumer)) }
     ensures asked { IfNoRoom result (λ asked held floor. asked ≡ must) }
@@ -116,6 +119,8 @@ pub(crate) fn feed_to<C: Consumer, K: Disk, D: Disk, B: Basis, R: Wait + Sync>(
     ensures tells { IfNoRoom result (λ asked held floor. TellsHeld B.sizes (held_by account.now.task worker.new) held floor) }
     ensures no_room { IfNoRoom result (λ asked held floor. LacksRoom (scene_of (map C.state members.old) (D.files disk.old) (held_by account.now.task worker.old) spills.old)
         (scene_of (map C.state members.new) (D.files disk.new) (held_by account.now.task worker.new) spills.new) (record { key = key.now; value = value.now }) asked) }
+    ensures still { let state = state_at (map C.state members.old) (slice_index spills.old.picks.items consumer) in
+        charge state.kind state.entries (record { key = key.now; value = value.now }) ≤ room state → own_entries worker.new ≡ own_entries worker.old }
     ensures when { OnOk result (SpillsWhenShort (scene_of (map C.state members.old) (D.files disk.old) (held_by account.now.task worker.old) spills.old)
         (scene_of (map C.state members.new) (D.files disk.new) (held_by account.now.task worker.new) spills.new)) }
     ensures unfed { OnErr result (AllSame (map C.state members.old) (map C.state members.new)) }
@@ -162,6 +167,8 @@ pub(crate) fn drain_from<C: Consumer, K: Disk, D: Disk, B: Basis, R: Wait + Sync
         (scene_of (map C.state members.new) (D.files disk.new) (held_by account.now.task worker.new) spills.new) (slice_index spills.old.picks.items consumer) runs.items) }
     ensures new_files { IfOk result (λ runs. TakesNew (scene_of (map C.state members.old) (D.files disk.old) (held_by account.now.task worker.old) spills.old)
         (slice_index spills.old.picks.items consumer) runs.items) }
+    ensures only { IfOk result (λ runs. AddsOnly (scene_of (map C.state members.old) (D.files disk.old) (held_by account.now.task worker.old) spills.old)
+        (scene_of (map C.state members.new) (D.files disk.new) (held_by account.now.task worker.new) spills.new) (slice_index spills.old.picks.items consumer) runs.items) }
     ensures never { NeverNoRoom result }
     ensures its { IfOk result (λ _. IsBetween (scene_of (map C.state members.new) (D.files disk.new) (held_by account.now.task worker.new) spills.new) leasts roomed) }
     ensures page { IfOk result (λ _. spills.new.page ≡ record { rows = []; room = 262144 }) }

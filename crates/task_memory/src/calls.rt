@@ -1,9 +1,11 @@
 //! What a task's consumers are fed, ask for and spill.
 
 ghost use Rattle.std.specs.Prelude.{◌≡◌, ◌≤◌, ◌<◌, ◌^◌, [], All, length, map, slice_index, true, false, IfOk, OnOk, OnErr};
+ghost use Rattle.consumer_trait.specs.Calls.{charge};
 ghost use Rattle.consumer_trait.specs.Members.{state_at};
-ghost use Rattle.consumer_trait.specs.States.{IsEntryBy};
+ghost use Rattle.consumer_trait.specs.States.{IsEntryBy, room};
 ghost use Rattle.fault_count.specs.Faults.{HasCauseAt};
+ghost use Rattle.memory_lock.specs.Workers.{own_entries};
 ghost use Rattle.spill_stack.specs.Asking.{IsOutOfRoom, SpillsWhenShort};
 ghost use Rattle.spill_stack.specs.Attempts.{held_by};
 ghost use Rattle.spill_stack.specs.Disks.{LeavesDisk};
@@ -12,7 +14,7 @@ ghost use Rattle.spill_stack.specs.Going.{Goes, IsAtWork};
 ghost use Rattle.spill_stack.specs.Pauses.{AllSame};
 ghost use Rattle.spill_stack.specs.RunLists.{IsBounded};
 ghost use Rattle.spill_stack.specs.Scenes.{scene_of};
-ghost use Rattle.task_memory.specs.Draining.{DrainsTotals, KeepEach, TakesNew};
+ghost use Rattle.task_memory.specs.Draining.{AddsOnly, DrainsTotals, KeepEach, TakesNew};
 ghost use Rattle.task_memory.specs.Live.{IfNoRoom, IsBetween, NeverNoRoom, TellsHeld};
 
 use crate::TaskFault;
@@ -45,6 +47,7 @@ impl<'a, C: Consumer, K: Disk, D: Disk, B: Basis> TaskMemory<'a, C, K, D, B, Spi
         requires wish { must ≤ wish }
         requires most { wish ≤ 2 ^ 50 }
         ensures enough { IfOk result (λ got. must ≤ got) }
+        ensures few { IfOk result (λ got. got ≤ wish) }
         ensures told { IfOk result (Tells (scene_of (map C.state self.old.boxes.now) (D.files self.old.disk.now) (held_by self.old.account.now.task worker.old) self.old.spills)
             (scene_of (map C.state self.new.boxes.now) (D.files self.new.disk.now) (held_by self.new.account.now.task worker.new) self.new.spills) (slice_index self.old.spills.picks.items consumer)) }
         ensures asked { IfNoRoom result (λ asked held floor. asked ≡ must) }
@@ -84,7 +87,8 @@ impl<'a, C: Consumer, K: Disk, D: Disk, B: Basis> TaskMemory<'a, C, K, D, B, Spi
         result
     }
 
-    /// Feeds a consumer an entry, and gets the bytes that it needs for it: it acquires at most twice.
+    /// Feeds a consumer an entry, and gets the bytes that it needs for it: it acquires at most twice, and not at all
+    /// where the consumer has room for the entry.
     pub fn feed<R: Wait + Sync>(
         &mut self,
         rt: &R,
@@ -104,6 +108,8 @@ impl<'a, C: Consumer, K: Disk, D: Disk, B: Basis> TaskMemory<'a, C, K, D, B, Spi
         ensures tells { IfNoRoom result (λ asked held floor. TellsHeld B.sizes (held_by self.new.account.now.task worker.new) held floor) }
         ensures no_room { IfNoRoom result (λ asked held floor. LacksRoom (scene_of (map C.state self.old.boxes.now) (D.files self.old.disk.now) (held_by self.old.account.now.task worker.old) self.old.spills)
             (scene_of (map C.state self.new.boxes.now) (D.files self.new.disk.now) (held_by self.new.account.now.task worker.new) self.new.spills) (record { key = key.now; value = value.now }) asked) }
+        ensures still { let state = state_at (map C.state self.old.boxes.now) (slice_index self.old.spills.picks.items consumer) in
+            charge state.kind state.entries (record { key = key.now; value = value.now }) ≤ room state → own_entries worker.new ≡ own_entries worker.old }
         ensures when { OnOk result (SpillsWhenShort (scene_of (map C.state self.old.boxes.now) (D.files self.old.disk.now) (held_by self.old.account.now.task worker.old) self.old.spills)
             (scene_of (map C.state self.new.boxes.now) (D.files self.new.disk.now) (held_by self.new.account.now.task worker.new) self.new.spills)) }
         ensures unfed { OnErr result (AllSame (map C.state self.old.boxes.now) (map C.state self.new.boxes.now)) }
@@ -160,6 +166,8 @@ impl<'a, C: Consumer, K: Disk, D: Disk, B: Basis> TaskMemory<'a, C, K, D, B, Spi
             (scene_of (map C.state self.new.boxes.now) (D.files self.new.disk.now) (held_by self.new.account.now.task worker.new) self.new.spills) (slice_index self.old.spills.picks.items consumer) runs.items) }
         ensures new_files { IfOk result (λ runs. TakesNew (scene_of (map C.state self.old.boxes.now) (D.files self.old.disk.now) (held_by self.old.account.now.task worker.old) self.old.spills)
             (slice_index self.old.spills.picks.items consumer) runs.items) }
+        ensures only { IfOk result (λ runs. AddsOnly (scene_of (map C.state self.old.boxes.now) (D.files self.old.disk.now) (held_by self.old.account.now.task worker.old) self.old.spills)
+            (scene_of (map C.state self.new.boxes.now) (D.files self.new.disk.now) (held_by self.new.account.now.task worker.new) self.new.spills) (slice_index self.old.spills.picks.items consumer) runs.items) }
         ensures never { NeverNoRoom result }
         ensures its { IfOk result (λ _. IsBetween (scene_of (map C.state self.new.boxes.now) (D.files self.new.disk.now) (held_by self.new.account.now.task worker.new) self.new.spills) self.new.leasts self.new.roomed) }
         ensures page { IfOk result (λ _. self.new.spills.page ≡ record { rows = []; room = 262144 }) }

@@ -69,6 +69,7 @@ impl<'a, C: Consumer, K: Disk, D: Disk, B: Basis> TaskMemory<'a, C, K, D, B, Spi
         requires wish { must ≤ wish }
         requires most { wish ≤ 2 ^ 50 }
         ensures enough { IfOk result (λ got. must ≤ got) }
+        ensures few { IfOk result (λ got. got ≤ wish) }
         ensures refused { IfErr result (LacksAlone B.sizes (held_by self.old.account.now.task worker.old) (held_by self.new.account.now.task worker.new) must) }
         ensures its { IfOk result (λ _. IsBetween (scene_of (map C.state self.new.boxes.now) (D.files self.new.disk.now) (held_by self.new.account.now.task worker.new) self.new.spills) self.new.leasts self.new.roomed) }
         ensures live { IfOk result (λ _. self.new.live ≡ true) }
