@@ -13,6 +13,11 @@ use Rattle.result_table.specs.Table.{group_table, row_fields, table}
 pub table-append : (xs ys : List (List (List ℕ))) → table (xs ++ ys) ≡ table xs ++ table ys
 table-append xs ys = flat_map-append (row_text default_writer) xs ys
 
+-- the table of one row more
+pub table-next : (rows : List (List (List ℕ))) (fields : List (List ℕ)) → table rows ++ row_text default_writer fields ≡ table (rows ++ fields ∷ [])
+table-next rows fields =
+    ap (λ (t : List ℕ). table rows ++ t) (sym (append-nil (row_text default_writer fields))) ∙ sym (table-append rows (fields ∷ []))
+
 group_table-append : (aggs : List Agg) (head : List (List ℕ)) (xs ys : List (List ℕ × List ℕ))
     → group_table aggs head (xs ++ ys) ≡ group_table aggs head xs ++ table (map (row_fields aggs) ys)
 group_table-append aggs head xs ys =
@@ -69,7 +74,7 @@ front-within a b piece rest first =
     (ap (λ (p : List ℕ). p ++ rest) (sym (take-append-drop first.0 piece)) ∙ append_assoc (take first.0 piece) (drop first.0 piece) rest)
 
 -- where nothing was written, that is a front of all
-appends_none : (a : Option (List ℕ)) → Appends a a []
+pub appends_none : (a : Option (List ℕ)) → Appends a a []
 appends_none None = tt
 appends_none (Some bytes) = sym (append-nil bytes)
 

@@ -54,12 +54,12 @@ GoesTo files after (entry ∷ entries) (Ok true) = (entry_in after ≡ entry) ×
 GoesTo files after (entry ∷ entries) (Ok false) = ⊥
 GoesTo files after (entry ∷ entries) (Err fault) = NotDamaged {T = Bool} (Err fault)
 
--- an entry that it took is of the kind, and is one more that it gave, of those that its run has
+-- an entry that it took is of the kind, and is one more that it gave, of those that its run has; where it took none, it gave none
 abbrev pub Takes : EntryReader → EntryReader → Result Bool RunFault → Type 0
 Takes before after (Ok true) =
     ((kind : Kind) → IsOfKind kind before → StandsAt kind after)
     × (given_by after ≡ given_by before + 1) × (given_by after ≤ (run_in before).count)
-Takes before after (Ok false) = ⊤
+Takes before after (Ok false) = given_by after ≡ given_by before
 Takes before after (Err fault) = ⊤
 
 -- it gave more entries than before, of those that its run has

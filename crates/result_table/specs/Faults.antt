@@ -1,7 +1,8 @@
 -- Why the printing of a table ended early: faults of runs, and what the calls below may tell.
 -- This project's own.
-use Rattle.std.specs.Prelude.{ℕ, ◌<◌, Result, Ok, Err, ⊤}
+use Rattle.std.specs.Prelude.{◌≡◌, ℕ, ◌<◌, Result, Ok, Err, ⊤}
 use Rattle.fault_count.specs.Faults.{Rose}
+use Rattle.run_file.specs.declared.run.Run.{Run}
 use Rattle.run_file.specs.declared.run.RunFault.{RunFault}
 use Rattle.run_file.specs.declared.run.RunFault.TheVariants as run_fault
 use Rattle.result_table.specs.declared.print_fault.PrintFault.{PrintFault}
@@ -20,6 +21,14 @@ NoDamage (Err WriteFault) = ⊤
 NoDamage (Err (DiskFault disk)) = ⊤
 NoDamage (Err (Damaged disk file kept found)) = ⊥
 NoDamage (Err NoMemory) = ⊤
+
+-- damage is told of this run, of which fewer entries were found than it has
+abbrev pub TellsRun : {T : Type 0} → Run → Result T PrintFault → Type 0
+TellsRun run (Ok x) = ⊤
+TellsRun run (Err WriteFault) = ⊤
+TellsRun run (Err (DiskFault disk)) = ⊤
+TellsRun run (Err (Damaged disk file kept found)) = (disk ≡ run.disk) × (file ≡ run.file) × (kept ≡ run.count) × (found < kept)
+TellsRun run (Err NoMemory) = ⊤
 
 -- what a call that reads and doesn't write may tell: a fault of a disk where its count rose, and fewer entries than were kept
 abbrev pub HasCauseRead : {T : Type 0} → (ℕ → ℕ) → (ℕ → ℕ) → Result T PrintFault → Type 0

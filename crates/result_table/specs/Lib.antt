@@ -1,5 +1,5 @@
 pub mod Table
+pub mod Faults
 pub mod Results
 pub mod Ahead
-pub mod Faults
 pub mod Told

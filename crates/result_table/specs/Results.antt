@@ -7,10 +7,14 @@ use Rattle.aggregate.specs.Totals.{Entry}
 use Rattle.aggregate.specs.declared.kind.Kind.{Kind}
 use Rattle.spill_disk.specs.Files.{Files}
 use Rattle.run_file.specs.declared.run.Run.{Run}
+use Rattle.run_file.specs.declared.run.RunFault.{RunFault}
+use Rattle.run_file.specs.Causes.{NotDamaged}
+use Rattle.run_merge.specs.Causes.{IsDamageOf}
 use Rattle.run_merge.specs.Runs.{HasEntries}
 use Rattle.job_plan.specs.Plans.{heading_at, kept_at}
 use Rattle.job_plan.specs.Telling.{is_wide, row_of}
 use Rattle.job_plan.specs.declared.query_plan.Plan.{Plan}
+use Rattle.result_table.specs.Faults.{TellsRun}
 use Rattle.result_table.specs.Table.{table}
 use Rattle.result_table.specs.declared.print_fault.PrintFault.{PrintFault}
 use Rattle.result_table.specs.declared.print_fault.PrintFault.TheVariants.{WriteFault, DiskFault, Damaged, NoMemory}
@@ -19,6 +23,11 @@ use Rattle.result_table.specs.declared.print_fault.PrintFault.TheVariants.{Write
 abbrev pub HasResult : (ℕ → Option Files) → Kind → Option Run → List Entry → Type 0
 HasResult files kind None entries = entries ≡ []
 HasResult files kind (Some run) entries = HasEntries (files run.disk) kind run entries
+
+-- how many entries the result has; none where there is no run
+abbrev pub count_in : Option Run → ℕ
+count_in None = 0
+count_in (Some run) = run.count
 
 -- the bytes of a query's table: its heading, then a row for each entry
 abbrev pub table_of : Plan → ℕ → List Entry → List ℕ
@@ -34,6 +43,16 @@ wide_key count entries = option_map (λ entry. entry.key) (find (is_wide count) 
 abbrev pub FindsNoDamage : Result (Unit {0}) PrintFault → Type 0
 FindsNoDamage (Err (Damaged disk file kept found)) = ⊥
 FindsNoDamage _ = ⊤
+
+-- damage is told of the answer's run; without one there is none
+abbrev pub IsDamageOfResult : {T : Type 0} → Option Run → Result T RunFault → Type 0
+IsDamageOfResult None result = NotDamaged result
+IsDamageOfResult (Some run) result = IsDamageOf run result
+
+-- the same of a table that was printed
+abbrev pub TellsAnswer : Option Run → Result (Unit {0}) PrintFault → Type 0
+TellsAnswer None result = FindsNoDamage result
+TellsAnswer (Some run) result = TellsRun run result
 
 -- a fault of a disk or of the output is told only where its count rose, and damage where fewer entries were found than kept
 abbrev pub HasCauseIn : (before now : ℕ → ℕ) → (written_before written_now : ℕ) → Result (Unit {0}) PrintFault → Type 0

@@ -19,18 +19,19 @@ pub(crate) struct EntryReader {
 }
 
 impl EntryReader {
-    ghost use Rattle.std.specs.Prelude.{◌<◌, ◌≤◌, ◌-◌, List, IfOk};
+    ghost use Rattle.std.specs.Prelude.{◌<◌, ◌≤◌, ◌-◌, ◌↔◌, List, IfOk, Ok, false};
     ghost use Rattle.aggregate.specs.Totals.{Entry};
     ghost use Rattle.aggregate.specs.declared.kind.Kind.{Kind};
     ghost use Rattle.run_file.specs.Forms.{IsValueOf};
     ghost use Rattle.run_file.specs.Shelved.{LeavesFiles, faults_on, files_on};
-    ghost use Rattle.run_merge.specs.Causes.{FindsFewer, HasCauseAmong};
+    ghost use Rattle.run_merge.specs.Causes.{HasCauseAmong, IsDamageOf};
     ghost use Rattle.result_table.specs.Ahead.{AreAhead, BeginsWith, GoesTo, IsOfKind, StandsAt, Takes, entry_in, given_by, run_in};
 
     // A reader of a run's entries, which are of this kind. It reads nothing yet.
     pub(crate) fn new(alloc: Global, run: &Run, kind: &Kind) -> Result<EntryReader, AllocError>
         ensures run { IfOk result (λ reader. run_in reader ≡ run.now) }
         ensures kind { IfOk result (IsOfKind kind.now) }
+        ensures none { IfOk result (λ reader. given_by reader ≡ 0) }
         ensures begins { IfOk result (BeginsWith kind.now run.now) }
     {
         Ok(EntryReader {
@@ -47,8 +48,9 @@ impl EntryReader {
         ensures gives { (entries : List Entry) →
             AreAhead (files_on H.disk_of D.files shelf.old (run_in self.old).disk) self.old entries →
             GoesTo (files_on H.disk_of D.files shelf.new (run_in self.old).disk) self.new entries result }
+        ensures end { (result ≡ Ok false) ↔ ((run_in self.old).count ≤ given_by self.old) }
         ensures takes { Takes self.old self.new result }
-        ensures fewer { FindsFewer result }
+        ensures damaged { IsDamageOf (run_in self.old) result }
         ensures run { run_in self.new ≡ run_in self.old }
         ensures kind { (kind : Kind) → IsOfKind kind self.old → IsOfKind kind self.new }
         ensures cause { HasCauseAmong (faults_on H.disk_of D.faults shelf.old) (faults_on H.disk_of D.faults shelf.new) result }

@@ -1,5 +1,5 @@
 // The table of a query's result, written in blocks.
-ghost use Rattle.std.specs.Prelude.{◌≡◌, ◌<◌, ◌≤◌, ◌++◌, ℕ, All, List, OnErr, OnOk, IfOk, IfSome, Some, is_some, length, map, option_map, true};
+ghost use Rattle.std.specs.Prelude.{◌≡◌, ◌<◌, ◌≤◌, ◌+◌, ◌++◌, ◌∷◌, ℕ, All, List, OnErr, OnOk, IfOk, IfSome, Some, false, is_some, length, map, option_map, true};
 ghost use Rattle.std.specs.Io.KnownBytes.{Appends};
 ghost use Rattle.aggregate.specs.Totals.{Entry};
 ghost use Rattle.byte_io.specs.Sinks.{AppendsPrefix};
@@ -7,11 +7,11 @@ ghost use Rattle.csv.specs.Writing.{default_writer, row_text, text_written};
 ghost use Rattle.row_page.specs.Views.{fields_in};
 ghost use Rattle.run_file.specs.Shelved.{LeavesFiles, faults_on, files_on};
 ghost use Rattle.job_plan.specs.Entries.{kind_of};
-ghost use Rattle.job_plan.specs.Plans.{kept_at, kept_in, kind_at};
+ghost use Rattle.job_plan.specs.Plans.{heading_at, kept_at, kept_in, kind_at};
 ghost use Rattle.job_plan.specs.Telling.{IsTold, row_of};
-ghost use Rattle.result_table.specs.Ahead.{AreAhead, GoesOn, IsOfKind, run_in};
-ghost use Rattle.result_table.specs.Faults.{HasCauseRead, HasCauseWritten, NoDamage};
-ghost use Rattle.result_table.specs.Results.{FindsNoDamage, HasCauseIn, HasResult, table_of};
+ghost use Rattle.result_table.specs.Ahead.{AreAhead, GoesOn, IsOfKind, given_by, run_in};
+ghost use Rattle.result_table.specs.Faults.{HasCauseRead, HasCauseWritten, NoDamage, TellsRun};
+ghost use Rattle.result_table.specs.Results.{FindsNoDamage, HasCauseIn, HasResult, TellsAnswer, count_in, table_of};
 ghost use Rattle.result_table.specs.Table.{IsBetweenRows, table};
 ghost use Rattle.result_table.specs.Told.{TellsFirst};
 
@@ -49,12 +49,15 @@ pub fn print_table<D: Disk, H: Shelf<D>, W: Sink>(
     ensures told { OnOk result ((entries : List Entry) →
         HasResult (files_on H.disk_of D.files shelf.old) (kind_at plan.now query) (option_map (λ run. run.now) answer.entry) entries →
         All (IsTold (kept_at plan.now query)) entries) }
+    ensures rows { OnOk result ((rows : List (List (List ℕ))) × (length rows ≡ count_in (option_map (λ run. run.now) answer.entry))
+        × Appends (W.written output.old) (W.written output.new) (table (heading_at plan.now query ∷ rows))) }
     ensures err { OnErr result ((entries : List Entry) →
         HasResult (files_on H.disk_of D.files shelf.old) (kind_at plan.now query) (option_map (λ run. run.now) answer.entry) entries →
         AppendsPrefix (W.written output.old) (W.written output.new) (table_of plan.now query entries)) }
     ensures undamaged { (entries : List Entry) →
         HasResult (files_on H.disk_of D.files shelf.old) (kind_at plan.now query) (option_map (λ run. run.now) answer.entry) entries →
         All (IsTold (kept_at plan.now query)) entries → FindsNoDamage result }
+    ensures damaged { TellsAnswer (option_map (λ run. run.now) answer.entry) result }
     ensures cause { HasCauseIn (faults_on H.disk_of D.faults shelf.old) (faults_on H.disk_of D.faults shelf.new)
         (W.faults output.old) (W.faults output.new) result }
     ensures tells { is_some (W.written output.new) ≡ is_some (W.written output.old) }
@@ -130,12 +133,15 @@ pub(crate) fn print_entries<D: Disk, H: Shelf<D>, W: Sink>(
     ensures told { OnOk result ((entries : List Entry) →
         AreAhead (files_on H.disk_of D.files shelf.old (run_in reader.old).disk) reader.old entries →
         All (IsTold shape.now) entries) }
+    ensures rows { OnOk result ((rows : List (List (List ℕ))) × (given_by reader.old + length rows ≡ (run_in reader.old).count)
+        × Appends (W.written output.old) (W.written output.new) (text.items ++ table rows)) }
     ensures err { OnErr result ((entries : List Entry) →
         AreAhead (files_on H.disk_of D.files shelf.old (run_in reader.old).disk) reader.old entries →
         AppendsPrefix (W.written output.old) (W.written output.new) (text.items ++ table (map (row_of shape.now) entries))) }
     ensures undamaged { (entries : List Entry) →
         AreAhead (files_on H.disk_of D.files shelf.old (run_in reader.old).disk) reader.old entries →
         All (IsTold shape.now) entries → FindsNoDamage result }
+    ensures damaged { TellsRun (run_in reader.old) result }
     ensures cause { HasCauseIn (faults_on H.disk_of D.faults shelf.old) (faults_on H.disk_of D.faults shelf.new)
         (W.faults output.old) (W.faults output.new) result }
     ensures tells { is_some (W.written output.new) ≡ is_some (W.written output.old) }
@@ -169,10 +175,14 @@ fn fill_block<D: Disk, H: Shelf<D>>(
     ensures tells { IfOk result (λ p. (piece : List ℕ) × (p.0.items ≡ text.items ++ piece) × ((entries : List Entry) →
         AreAhead (files_on H.disk_of D.files shelf.old (run_in reader.old).disk) reader.old entries →
         TellsFirst shape.now (files_on H.disk_of D.files shelf.new (run_in reader.new).disk) reader.new p.1 piece entries)) }
+    ensures rows { IfOk result (λ p. (rows : List (List (List ℕ))) × (given_by reader.old + length rows ≡ given_by reader.new)
+        × (p.0.items ≡ text.items ++ table rows)) }
+    ensures whole { IfOk result (λ p. p.1 ≡ false → given_by reader.new ≡ (run_in reader.old).count) }
     ensures more { IfOk result (λ p. p.1 ≡ true → GoesOn reader.old reader.new) }
     ensures undamaged { (entries : List Entry) →
         AreAhead (files_on H.disk_of D.files shelf.old (run_in reader.old).disk) reader.old entries →
         All (IsTold shape.now) entries → NoDamage result }
+    ensures damaged { TellsRun (run_in reader.old) result }
     ensures run { run_in reader.new ≡ run_in reader.old }
     ensures form { IsOfKind kind.now reader.new }
     ensures cause { HasCauseRead (faults_on H.disk_of D.faults shelf.old) (faults_on H.disk_of D.faults shelf.new) result }
@@ -204,16 +214,20 @@ fn put_rows<D: Disk, H: Shelf<D>>(
         × ((entries : List Entry) →
         AreAhead (files_on H.disk_of D.files shelf.old (run_in reader.old).disk) reader.old entries →
         TellsFirst shape.now (files_on H.disk_of D.files shelf.new (run_in reader.new).disk) reader.new more piece entries)) }
+    ensures rows { IfOk result (λ _. (rows : List (List (List ℕ))) × (given_by reader.old + length rows ≡ given_by reader.new)
+        × Appends (text_written (λ v. Some v.items) writer.old) (text_written (λ v. Some v.items) writer.new) (table rows)) }
+    ensures whole { IfOk result (λ more. more ≡ false → given_by reader.new ≡ (run_in reader.old).count) }
     ensures more { IfOk result (λ more. more ≡ true → GoesOn reader.old reader.new) }
     ensures undamaged { (entries : List Entry) →
         AreAhead (files_on H.disk_of D.files shelf.old (run_in reader.old).disk) reader.old entries →
         All (IsTold shape.now) entries → NoDamage result }
+    ensures damaged { TellsRun (run_in reader.old) result }
     ensures run { run_in reader.new ≡ run_in reader.old }
     ensures form { IsOfKind kind.now reader.new }
     ensures cause { HasCauseRead (faults_on H.disk_of D.faults shelf.old) (faults_on H.disk_of D.faults shelf.new) result }
     ensures shelf { LeavesFiles H.count_of H.named H.disk_of D.files D.faults shelf.old shelf.new }
 {
-    while reader.go_on(shelf)? {
+    'entries: while reader.go_on(shelf)? {
         if !line.tell(shape, kind, reader.key(), reader.value())? {
             return Err(reader.damage());
         }

@@ -1,15 +1,15 @@
 // Sums that are too wide to be printed.
-ghost use Rattle.std.specs.Prelude.{◌≡◌, ◌<◌, ◌*◌, Err, IfOk, IfSome, List, OnErr, Some, length, not, option_map};
+ghost use Rattle.std.specs.Prelude.{◌≡◌, ◌<◌, ◌*◌, Err, IfOk, IfSome, List, None, OnErr, Some, length, not, option_map};
 ghost use Rattle.std.specs.List.{list_any};
 ghost use Rattle.aggregate.specs.Partial.{fits_i64};
 ghost use Rattle.aggregate.specs.Totals.{Entry};
 ghost use Rattle.aggregate.specs.declared.kind.Kind.TheVariants.{Group};
 ghost use Rattle.run_file.specs.Causes.{NotDamaged};
 ghost use Rattle.run_file.specs.Shelved.{LeavesFiles, faults_on, files_on};
-ghost use Rattle.run_merge.specs.Causes.{FindsFewer, HasCauseAmong};
+ghost use Rattle.run_merge.specs.Causes.{HasCauseAmong, IsDamageOf};
 ghost use Rattle.job_plan.specs.Telling.{value_numbers};
-ghost use Rattle.result_table.specs.Ahead.{AreAhead, IsOfKind, run_in};
-ghost use Rattle.result_table.specs.Results.{HasResult, wide_key};
+ghost use Rattle.result_table.specs.Ahead.{AreAhead, IsOfKind, given_by, run_in};
+ghost use Rattle.result_table.specs.Results.{HasResult, IsDamageOfResult, wide_key};
 
 use crate::entry_reader::EntryReader;
 use aggregate::{AggList, Key, Kind, finish};
@@ -32,7 +32,7 @@ pub fn too_wide<D: Disk, H: Shelf<D>>(
     ensures undamaged { (entries : List Entry) →
         HasResult (files_on H.disk_of D.files shelf.old) (Group aggs.now) (option_map (λ run. run.now) answer.entry) entries →
         NotDamaged result }
-    ensures fewer { FindsFewer result }
+    ensures damaged { IsDamageOfResult (option_map (λ run. run.now) answer.entry) result }
     ensures cause { HasCauseAmong (faults_on H.disk_of D.faults shelf.old) (faults_on H.disk_of D.faults shelf.new) result }
     ensures shelf { LeavesFiles H.count_of H.named H.disk_of D.files D.faults shelf.old shelf.new }
 {
@@ -60,13 +60,14 @@ fn first_wide<D: Disk, H: Shelf<D>>(
     ensures ok { IfOk result (λ key. (entries : List Entry) →
         AreAhead (files_on H.disk_of D.files shelf.old (run_in reader.old).disk) reader.old entries →
         key ≡ wide_key (length aggs.now) entries) }
+    ensures whole { IfOk result (λ key. key ≡ None → given_by reader.new ≡ (run_in reader.old).count) }
     ensures undamaged { (entries : List Entry) →
         AreAhead (files_on H.disk_of D.files shelf.old (run_in reader.old).disk) reader.old entries → NotDamaged result }
-    ensures fewer { FindsFewer result }
+    ensures damaged { IsDamageOf (run_in reader.old) result }
     ensures cause { HasCauseAmong (faults_on H.disk_of D.faults shelf.old) (faults_on H.disk_of D.faults shelf.new) result }
     ensures shelf { LeavesFiles H.count_of H.named H.disk_of D.files D.faults shelf.old shelf.new }
 {
-    while reader.go_on(shelf)? {
+    'entries: while reader.go_on(shelf)? {
         if has_wide(aggs, reader.value()) {
             return copy_key(alloc, reader.key());
         }

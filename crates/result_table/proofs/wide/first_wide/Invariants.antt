@@ -6,8 +6,8 @@ use Rattle.result_table.specs.Ahead.{AreAhead, IsOfKind, given_by, run_in}
 use Rattle.result_table.proofs.WideKeys.{StillWide}
 use Rattle.result_table.proofs.wide.first_wide.Given as goal
 
-abbrev pub invariant-loop-reader : goal.invariant-loop-reader
-invariant-loop-reader g l = record {
+abbrev pub invariant-entries : goal.invariant-entries
+invariant-entries g l = record {
   run : run_in l.reader ≡ run_in l.initial.reader;
   kind : IsOfKind (Group l.aggs) l.reader;
   shelf : LeavesFiles g.H.Shelf.count_of g.H.Shelf.named g.H.Shelf.disk_of g.D.Disk.files g.D.Disk.faults l.initial.shelf l.shelf;
@@ -15,5 +15,5 @@ invariant-loop-reader g l = record {
       → StillWide (length l.aggs) (files_on g.H.Shelf.disk_of g.D.Disk.files l.shelf (run_in l.reader).disk) l.reader entries;
 }
 
-abbrev pub decreases-loop-reader : goal.decreases-loop-reader
-decreases-loop-reader g l = (run_in l.reader).count - given_by l.reader
+abbrev pub decreases-entries : goal.decreases-entries
+decreases-entries g l = (run_in l.reader).count - given_by l.reader
