@@ -1,5 +1,5 @@
 -- The runs that a task's one consumer leaves.
-use Rattle.std.proofs.Common.{◌≡◌, ◌∙◌, ℕ, ◌<◌, List, [], Option, sym, ap, subst, arith, inl, inr, length, get_or}
+use Rattle.std.proofs.Common.{◌≡◌, ◌≢◌, ◌∙◌, ℕ, ◌<◌, List, [], Option, sym, ap, subst, arith, inl, inr, length, get_or}
 use Rattle.std.specs.Prelude.{All, slice_index}
 use Rattle.std.proofs.lemmas.List.{get_or_append_left}
 use mathlib.Core.List.{IsPrefix}
@@ -9,16 +9,17 @@ use Rattle.consumer_trait.specs.Members.{state_at}
 use Rattle.consumer_trait.specs.States.{State, total_by}
 use Rattle.run_file.specs.declared.run.Run.{Run}
 use Rattle.spill_disk.specs.Files.{Files}
-use Rattle.spill_stack.specs.Disks.{KeepsFiles}
+use Rattle.spill_stack.specs.Disks.{KeepsFiles, SameAt}
 use Rattle.spill_stack.specs.RunLists.{HaveEntries, IsBounded, no_run, runs_at}
 use Rattle.spill_stack.specs.Scenes.{IsDry, Scene}
 use Rattle.spill_stack.specs.Writing.{WasNotThere}
 use Rattle.spill_stack.proofs.Holding.{not_there_before}
 use Rattle.spill_stack.proofs.Places.{at_or_not, less_or_not}
-use Rattle.spill_stack.proofs.Sameness.{files_trans}
-use Rattle.task_memory.specs.Draining.{DrainsTotals, TakesNew, taken_at}
+use Rattle.spill_stack.proofs.Sameness.{files_trans, same_at_trans}
+use Rattle.task_memory.specs.Draining.{AddsOnly, DrainsTotals, TakesNew, taken_at}
 use Rattle.task_memory.specs.Live.{IsBetween}
 use Rattle.task_runner.specs.Spilling.{AllNew, IsFed, LeavesRuns}
+use Rattle.task_runner.proofs.Feeds.{front_below}
 
 -- a list with a beginning has its items at the same places
 front_at : (front runs : List Run) (k : ℕ) → IsPrefix front runs → k < length front → taken_at runs k ≡ taken_at front k
@@ -32,10 +33,31 @@ taken_new before old who taken stay fresh takes k below = elim (less_or_not k (l
   | inr later ↦ not_there_before before old.files (taken_at taken k).file stay (takes.added k later below)
 ]
 
+-- where none of them is in a file, it is as it was
+taken_only : (states : List State) (before : Option Files) (place : ℕ) (kind : Kind) (entries : List Entry) (old new : Scene) (taken : List Run) → TakesNew old place taken → AddsOnly old new place taken
+    → IsFed states before place kind entries old → (file : ℕ) → ((k : ℕ) → k < length taken → (taken_at taken k).file ≢ file) → SameAt before new.files file
+taken_only states before place kind entries old new taken takes adds fed file none =
+    same_at_trans before old.files new.files file fed.stay
+    (fed.only file (λ i k below is. elim (at_or_not i place) [
+      | inl here ↦
+          let within : k < length (runs_at old.runs place) = rw here at below in
+          none k (front_below (runs_at old.runs place) taken k takes.had within)
+          (ap (λ (run : Run). run.file) (front_at (runs_at old.runs place) taken k takes.had within) ∙ (rw here at is))
+      | inr other ↦ absurd (let count = ap (λ (list : List Run). length list) (fed.idle i other).1 in omega (arith, below, count))
+    ]))
+    (adds.only file none (λ added. elim (at_or_not added.0 place) [
+      | inl here ↦
+          let count : length (runs_at new.runs added.0) ≡ 0 = rw here (ap (λ (list : List Run). length list) adds.emptied) in
+          absurd (omega (arith, added.3, count))
+      | inr other ↦
+          let count = ap (λ (list : List Run). length list) (adds.unbegun added.0 (fed.idle added.0 other).0 other) in
+          absurd (omega (arith, added.2, added.3, count))
+    ]))
+
 leaves_runs : (states : List State) (before : Option Files) (place : ℕ) (kind : Kind) (entries : List Entry) (old new : Scene) (taken : List Run)
-    → All IsBounded taken → DrainsTotals old new place taken → TakesNew old place taken → KeepsFiles old.files new.files
+    → All IsBounded taken → DrainsTotals old new place taken → TakesNew old place taken → AddsOnly old new place taken → KeepsFiles old.files new.files
     → IsFed states before place kind entries old → LeavesRuns before new.files kind entries taken
-leaves_runs states before place kind entries old new taken bounded totals takes kept fed = record {
+leaves_runs states before place kind entries old new taken bounded totals takes adds kept fed = record {
   bounded = bounded;
   fresh = taken_new before old place taken fed.stay fed.fresh takes;
   stay = files_trans before old.files new.files fed.stay kept;
@@ -47,22 +69,23 @@ leaves_runs states before place kind entries old new taken bounded totals takes 
         comes = subst (λ (k : Option Kind). total_by k drains.drained ≡ total kind entries) fed.kind_is (drains.total ∙ was.comes);
         apart = drains.apart;
       };
+  only = taken_only states before place kind entries old new taken takes adds fed;
 }
 
 -- the same at the place that is the first of the task's own
 leaves_first : (states : List State) (before : Option Files) (place : ℕ) (kind : Kind) (entries : List Entry) (old new : Scene) (taken : List Run)
-    → All IsBounded taken → DrainsTotals old new (slice_index old.picks 0) taken → TakesNew old (slice_index old.picks 0) taken → KeepsFiles old.files new.files
+    → All IsBounded taken → DrainsTotals old new (slice_index old.picks 0) taken → TakesNew old (slice_index old.picks 0) taken → AddsOnly old new (slice_index old.picks 0) taken → KeepsFiles old.files new.files
     → IsFed states before place kind entries old → LeavesRuns before new.files kind entries taken
-leaves_first states before place kind entries old new taken bounded totals takes kept fed =
+leaves_first states before place kind entries old new taken bounded totals takes adds kept fed =
     let first : slice_index old.picks 0 ≡ place = ap (λ (picks : List ℕ). slice_index picks 0) fed.picks in
-    leaves_runs states before place kind entries old new taken bounded (subst (λ (who : ℕ). DrainsTotals old new who taken) first totals) (subst (λ (who : ℕ). TakesNew old who taken) first takes) kept fed
+    leaves_runs states before place kind entries old new taken bounded (subst (λ (who : ℕ). DrainsTotals old new who taken) first totals) (subst (λ (who : ℕ). TakesNew old who taken) first takes) (subst (λ (who : ℕ). AddsOnly old new who taken) first adds) kept fed
 
 -- and later, where the files stayed
 pub leaves_now : (states : List State) (before : Option Files) (place : ℕ) (kind : Kind) (entries : List Entry) (old new : Scene) (now : Option Files) (taken : List Run) → now ≡ new.files
-    → All IsBounded taken → DrainsTotals old new (slice_index old.picks 0) taken → TakesNew old (slice_index old.picks 0) taken → KeepsFiles old.files new.files
+    → All IsBounded taken → DrainsTotals old new (slice_index old.picks 0) taken → TakesNew old (slice_index old.picks 0) taken → AddsOnly old new (slice_index old.picks 0) taken → KeepsFiles old.files new.files
     → IsFed states before place kind entries old → LeavesRuns before now kind entries taken
-leaves_now states before place kind entries old new now taken same bounded totals takes kept fed =
-    subst (λ (files : Option Files). LeavesRuns before files kind entries taken) (sym same) (leaves_first states before place kind entries old new taken bounded totals takes kept fed)
+leaves_now states before place kind entries old new now taken same bounded totals takes adds kept fed =
+    subst (λ (files : Option Files). LeavesRuns before files kind entries taken) (sym same) (leaves_first states before place kind entries old new taken bounded totals takes adds kept fed)
 
 -- where the task's one consumer is drained, none has an entry
 pub dry_of : (old new : Scene) (leasts roomed : ℕ) → IsBetween new leasts roomed → new.picks ≡ old.picks → length old.picks ≡ 1 → (state_at new.states (slice_index old.picks 0)).entries ≡ [] → IsDry new.states

@@ -2,6 +2,7 @@
 use Rattle.std.proofs.Common.{◌≡◌, ◌≢◌, ◌∙◌, ℕ, zero, suc, ◌+◌, ◌-◌, ◌^◌, ◌<◌, min, List, [], ◌∷◌, ◌++◌, Option, Some, refl, sym, ap, subst, arith, inl, inr, length}
 use Rattle.std.specs.Prelude.{slice_index}
 use Rattle.std.proofs.lemmas.List.{get_or_past, length-append}
+use mathlib.Core.List.{IsPrefix}
 use Rattle.aggregate.specs.Totals.{Entry, TotalsStayEqual, total}
 use Rattle.aggregate.specs.declared.kind.Kind.{Kind}
 use Rattle.consumer_trait.specs.Members.{blank, state_at}
@@ -17,7 +18,7 @@ use Rattle.spill_stack.specs.Serving.{RunsGrow}
 use Rattle.spill_stack.specs.Writing.{AddedAreNew, WasNotThere}
 use Rattle.spill_stack.proofs.Holding.{not_there_before, stays_at}
 use Rattle.spill_stack.proofs.Places.{at_or_not, less_or_not}
-use Rattle.spill_stack.proofs.Sameness.{files_trans, same_self}
+use Rattle.spill_stack.proofs.Sameness.{files_trans, same_at_trans, same_self}
 use Rattle.task_runner.specs.Consumers.{FeedsOne, KeepsConsumers, fed_after}
 use Rattle.task_runner.specs.Spilling.{AllNew, IsFed}
 
@@ -93,6 +94,12 @@ all_new_more before middle runs runs' stay grow first added i k below = elim (le
   | inr later ↦ not_there_before before middle (run_at runs' i k).file stay (added i k later below)
 ]
 
+-- what is below the length of a list's beginning is below that of the list
+pub front_below : (front runs : List Run) (k : ℕ) → IsPrefix front runs → k < length front → k < length runs
+front_below front runs k begins below =
+    let count = ap (λ (list : List Run). length list) (sym begins.1) ∙ length-append front begins.0 in
+    omega (arith, below, count)
+
 -- ---- one entry more
 
 pub fed_entry : ((kind : Kind) → TotalsStayEqual kind) → (states : List State) (before : Option Files) (place : ℕ) (kind : Kind) (entries : List Entry) (entry : Entry) (old new : Scene)
@@ -106,6 +113,14 @@ fed_entry laws states before place kind entries entry old new step same so_far =
       (feeds_more states old.states new.states place (length entries) so_far.feeds step.members step.takes.fed (λ i below other. same.each i below other));
   stay = files_trans before old.files new.files so_far.stay step.stay;
   fresh = all_new_more before old.files old.runs new.runs so_far.stay step.grow so_far.fresh step.added;
+  only = λ file none. same_at_trans before old.files new.files file so_far.stay
+      (so_far.only file (λ i k below is. none i k (front_below (runs_at old.runs i) (runs_at new.runs i) k (step.grow i) below)
+      (ap (λ (run : Run). run.file) (stays_at old.runs new.runs i k step.grow below) ∙ is)))
+      (step.only file (λ added. none added.0 added.1 added.3 added.4));
+  idle = λ i other.
+      let was = so_far.idle i other in
+      let kind_same = others_or_one old.states new.states place (λ (a b : State). b.kind ≡ a.kind) same.members refl same.kind (λ j below apart. (same.each j below apart).kind) i in
+      (kind_same ∙ was.0, step.unbegun i was.0 ∙ was.1);
   gathers = λ telling.
       let was = so_far.gathers telling in
       let now = step.totals was.spilled was.hold in

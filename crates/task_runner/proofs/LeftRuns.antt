@@ -1,5 +1,5 @@
 -- What a merge of the runs that a consumer left comes to, and what it leaves of the disk.
-use Rattle.std.proofs.Common.{◌≡◌, ◌∙◌, ℕ, suc, ◌<◌, ◌≤◌, List, [], ◌∷◌, ◌++◌, Option, Some, None, Ok, Err, refl, sym, ap, subst, arith, length}
+use Rattle.std.proofs.Common.{◌≡◌, ◌∙◌, ℕ, suc, ◌<◌, ◌≤◌, List, [], ◌∷◌, ◌++◌, Option, Some, None, Ok, Err, refl, sym, ap, subst, arith, inl, inr, length}
 use Rattle.std.specs.Prelude.{◌↔◌, All, IfOk, IfSome, IsSome, Result, is_some}
 use Rattle.std.specs.List.{AllByRecursion}
 use Rattle.std.specs.FinMap as map
@@ -12,17 +12,18 @@ use Rattle.run_file.specs.declared.form.Form.TheVariants.{Entries}
 use Rattle.run_file.specs.declared.run.Run.{Run}
 use Rattle.run_file.specs.Forms.{HasForm}
 use Rattle.spill_disk.specs.Files.{Files}
-use Rattle.spill_stack.specs.Disks.{KeepsFiles}
+use Rattle.spill_stack.specs.Disks.{KeepsFiles, SameAt}
 use Rattle.spill_stack.specs.RunLists.{IsBounded, IsRunOf}
 use Rattle.spill_stack.specs.RunLists.{HaveEntries as HaveSpilled}
 use Rattle.spill_stack.specs.Writing.{WasNotThere}
 use Rattle.spill_stack.proofs.Holding.{not_there_before}
 use Rattle.spill_stack.proofs.LongerTotals.{total_not_none}
 use Rattle.task_memory.specs.Draining.{taken_at}
-use Rattle.run_merge.specs.Merged.{IsFileAmong, IsFresh, IsGone, KeepsFile, answered}
+use Rattle.run_merge.specs.Merged.{IsFileAmong, IsFresh, IsGone, KeepsFile, LeavesOnly, SameFile, answered}
+use Rattle.run_merge.proofs.Among.{among_none, among_one, among_or_not}
 use Rattle.run_merge.specs.Runs.{AreApart, HasEntries, HaveEntries, concatenated}
 use Rattle.task_runner.specs.Answers.{MergesTotal}
-use Rattle.task_runner.specs.Parts.{IsMade, TellsTotal}
+use Rattle.task_runner.specs.Parts.{IsMade, LeavesOnlyAnswer, TellsTotal}
 use Rattle.task_runner.specs.Spilling.{LeavesRuns}
 use Rattle.task_runner.specs.declared.work_fault.WorkFault.{WorkFault}
 use Rattle.task_runner.specs.declared.work_fault.WorkFault.TheVariants.{NoRoom, DiskFault, Damaged, NoMemory}
@@ -172,3 +173,34 @@ made_left before old kind entries runs (Ok (Some run)) left alone none on bounde
   fresh = new_file before old runs run.file left.fresh left.stay (λ apart. fresh 0 run.file (0, omega arith, refl, refl) apart);
 }
 made_left before old kind entries runs (Err fault) left alone none on bounded fresh = tt
+
+-- ---- the other files
+
+-- a file that wasn't there before, and is gone, is as it was
+same_gone : (before new : Option Files) (file : ℕ) → WasNotThere before file → IsGone new file → SameAt before new file
+same_gone None new file fresh gone = tt
+same_gone (Some before) None file fresh gone = tt
+same_gone (Some before) (Some new) file fresh gone = gone ∙ sym fresh
+
+same_then : (before old new : Option Files) (file : ℕ) → KeepsFiles before old → SameAt before old file → SameFile old new file → SameAt before new file
+same_then None old new file stay first then = tt
+same_then (Some before) None new file stay first then = absurd stay
+same_then (Some before) (Some old) None file stay first then = tt
+same_then (Some before) (Some old) (Some new) file stay first then = then ∙ first
+
+-- the runs' files are gone, and weren't there before; all others are as they were
+same_left : (before old new : Option Files) (kind : Kind) (entries : List Entry) (runs answer : List Run) → LeavesRuns before old kind entries runs
+    → LeavesOnly (λ _. 0) (λ _. old) (λ _. new) runs answer → (file : ℕ) → (Among answer file → ⊥) → SameAt before new file
+same_left before old new kind entries runs answer left leaves file other = elim (among_or_not (λ _. 0) runs 0 file) [
+  | inl among ↦ same_gone before new file (subst (λ (f : ℕ). WasNotThere before f) among.3 (left.fresh among.0 among.1)) (leaves.gone 0 file among other)
+  | inr apart ↦ same_then before old new file left.stay (left.only file (λ k below is. apart (k, below, refl, is))) (leaves.others 0 file apart other)
+]
+
+-- a merge of the runs leaves the answer's file alone
+pub only_left : (before old new : Option Files) (kind : Kind) (entries : List Entry) (runs : List Run) (result : Result (Option Run) WorkFault) → LeavesRuns before old kind entries runs
+    → IfOk result (λ answer. LeavesOnly (λ _. 0) (λ _. old) (λ _. new) runs (answered answer)) → IfOk result (λ answer. LeavesOnlyAnswer before new answer)
+only_left before old new kind entries runs (Ok None) left leaves = λ file.
+    same_left before old new kind entries runs [] left leaves file (among_none (λ _. 0) 0 file)
+only_left before old new kind entries runs (Ok (Some run)) left leaves = λ file other.
+    same_left before old new kind entries runs (run ∷ []) left leaves file (λ among. other (sym (among_one (λ _. 0) run 0 file among).1))
+only_left before old new kind entries runs (Err fault) left leaves = tt

@@ -1,6 +1,7 @@
--- A fault of a call whose disks had failed before, maybe.
-use Rattle.std.proofs.Common.{ℕ, ◌≤◌, Err, arith}
-use Rattle.task_runner.specs.Answers.{HasCauseAmong}
+-- A fault of a call whose disks had failed before, maybe, and the post that it names.
+use Rattle.std.proofs.Common.{ℕ, ◌≤◌, Err, refl, arith}
+use Rattle.task_runner.specs.AllWorkers.{named_as}
+use Rattle.task_runner.specs.Answers.{HasCauseAmong, NamesPost}
 use Rattle.task_runner.specs.declared.work_fault.WorkFault.{WorkFault}
 use Rattle.task_runner.specs.declared.work_fault.WorkFault.TheVariants.{NoRoom, DiskFault, Damaged, NoMemory}
 
@@ -10,3 +11,10 @@ cause_of T before mid now (NoRoom asked held floor) later cause = tt
 cause_of T before mid now (DiskFault post) later cause = let least = later post in omega (arith, least, cause)
 cause_of T before mid now (Damaged post file kept found) later cause = cause
 cause_of T before mid now NoMemory later cause = tt
+
+-- a fault that was given the number of a post names it
+pub names_post : (T : Type 0) (number : ℕ) (fault : WorkFault) → NamesPost {T = T} number (Err (named_as number fault))
+names_post T number (NoRoom asked held floor) = tt
+names_post T number (DiskFault post) = refl
+names_post T number (Damaged post file kept found) = refl
+names_post T number NoMemory = tt

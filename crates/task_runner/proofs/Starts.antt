@@ -1,10 +1,11 @@
 -- A task's consumers as they start.
-use Rattle.std.proofs.Common.{◌≡◌, ◌∙◌, ℕ, zero, suc, ◌<◌, List, [], ◌∷◌, ◌++◌, Option, Some, refl, sym, ap, subst, arith, length, get_or, replicate}
-use Rattle.std.proofs.lemmas.List.{length-replicate}
+use Rattle.std.proofs.Common.{◌≡◌, ◌≢◌, ◌∙◌, ℕ, zero, suc, ◌<◌, List, [], ◌∷◌, ◌++◌, Option, Some, None, refl, sym, ap, subst, arith, inl, inr, length, get_or, replicate}
+use Rattle.std.specs.Prelude.{slice_index}
+use Rattle.std.proofs.lemmas.List.{get_or_past, length-replicate}
 use Rattle.aggregate.specs.Totals.{Entry}
 use Rattle.aggregate.specs.declared.kind.Kind.{Kind}
 use Rattle.aggregate.specs.declared.kind.Kind.TheVariants.{Group, Order}
-use Rattle.consumer_trait.specs.Members.{state_at}
+use Rattle.consumer_trait.specs.Members.{blank, state_at}
 use Rattle.consumer_trait.specs.States.{State, as_reset, total_by}
 use Rattle.run_file.specs.declared.run.Run.{Run}
 use Rattle.spill_disk.specs.Files.{Files}
@@ -12,7 +13,8 @@ use Rattle.spill_stack.specs.Accounts.{Held}
 use Rattle.spill_stack.specs.RunLists.{lists_of, runs_at}
 use Rattle.spill_stack.specs.Scenes.{scene_of}
 use Rattle.spill_stack.specs.declared.spills.Spills.{Spills}
-use Rattle.spill_stack.proofs.Sameness.{files_self}
+use Rattle.spill_stack.proofs.Places.{less_or_not}
+use Rattle.spill_stack.proofs.Sameness.{files_self, same_at_self}
 use Rattle.task_memory.specs.Live.{IsBetween}
 use Rattle.task_memory.specs.Starting.{AreAlike, Begins}
 use Rattle.task_runner.specs.Consumers.{FeedsOne, HasConsumers, KeepsConsumers, place_for}
@@ -23,6 +25,15 @@ none_at : {A : Type 0} (nothing : A) (n i : ℕ) → get_or (replicate n nothing
 none_at nothing zero i = refl
 none_at nothing (suc n) zero = refl
 none_at nothing (suc n) (suc i) = none_at nothing n i
+
+-- no other consumer was begun
+reset_at : (states states' : List State) (place : ℕ) (kind : Kind) → Begins (place ∷ []) (kind ∷ []) states states' → (i : ℕ) → i ≢ place → (state_at states' i).kind ≡ None
+reset_at states states' place kind begins i other = elim (less_or_not i (length states)) [
+  | inl below ↦ ap (λ (s : State). s.kind) (begins.others i below (λ j within there.
+      let first : j ≡ 0 = omega (arith, within) in
+      other (sym there ∙ ap (λ (n : ℕ). slice_index (place ∷ []) n) first)))
+  | inr above ↦ ap (λ (s : State). s.kind) (get_or_past states' i blank (omega (arith, above, begins.members)))
+]
 
 -- the one consumer that was begun was fed nothing yet
 pub starts_fed : (states states' : List State) (files : Option Files) (account : Held) (spills : Spills) (leasts n place : ℕ) (kind : Kind) → IsBetween (scene_of states' files account spills) leasts 0
@@ -44,6 +55,8 @@ starts_fed states states' files account spills leasts n place kind its begins pi
       feeds = record { fed = refl; others = λ i other. refl };
       stay = files_self files;
       fresh = λ i k below. absurd (no_run_at i k below);
+      only = λ file none. same_at_self files file;
+      idle = λ i other. (reset_at states states' place kind begins i other, no_runs i);
       gathers = λ telling. record {
         spilled = replicate (length states') [];
         hold = record {

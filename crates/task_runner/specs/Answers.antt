@@ -1,11 +1,13 @@
 -- What a merge of runs answers, and why a task gave up.
 -- This project's own.
-use Rattle.std.specs.Prelude.{◌≡◌, ℕ, ◌<◌, List, [], Option, Some, None, Result, Ok, Err, ⊤}
+use Rattle.std.specs.Prelude.{◌≡◌, ℕ, ◌<◌, false, List, [], Option, Some, None, Result, Ok, Err, ⊤}
 use Rattle.fault_count.specs.Faults.{Rose}
 use Rattle.aggregate.specs.Totals.{Entry, total}
 use Rattle.aggregate.specs.declared.kind.Kind.{Kind}
 use Rattle.spill_disk.specs.Files.{Files}
 use Rattle.run_file.specs.declared.run.Run.{Run}
+use Rattle.run_merge.specs.Causes.{is_run_in}
+use Rattle.run_merge.specs.Merged.{IsFileAmong, IsGone}
 use Rattle.run_merge.specs.Runs.{HasEntries, concatenated}
 use Rattle.task_runner.specs.declared.work_fault.WorkFault.{WorkFault}
 use Rattle.task_runner.specs.declared.work_fault.WorkFault.TheVariants.{NoRoom, DiskFault, Damaged, NoMemory}
@@ -26,3 +28,29 @@ MergesTotal files kind lists (Err (NoRoom asked held floor)) = ⊤
 MergesTotal files kind lists (Err (DiskFault post)) = ⊤
 MergesTotal files kind lists (Err (Damaged post file kept found)) = ⊥
 MergesTotal files kind lists (Err NoMemory) = ⊤
+
+-- a fault of a disk, and damage, names this post
+abbrev pub NamesPost : {T : Type 0} → ℕ → Result T WorkFault → Type 0
+NamesPost number (Ok x) = ⊤
+NamesPost number (Err (NoRoom asked held floor)) = ⊤
+NamesPost number (Err (DiskFault post)) = post ≡ number
+NamesPost number (Err (Damaged post file kept found)) = post ≡ number
+NamesPost number (Err NoMemory) = ⊤
+
+-- a fault of a disk, and damage, names one of so many posts
+abbrev pub NamesSomePost : {T : Type 0} → ℕ → Result T WorkFault → Type 0
+NamesSomePost count (Ok x) = ⊤
+NamesSomePost count (Err (NoRoom asked held floor)) = ⊤
+NamesSomePost count (Err (DiskFault post)) = post < count
+NamesSomePost count (Err (Damaged post file kept found)) = post < count
+NamesSomePost count (Err NoMemory) = ⊤
+
+-- damage is told of one of these runs, or of one that was made of them on the disk `to`, whose file is one of theirs or wasn't
+-- there before
+abbrev pub TellsAmong : {T : Type 0} → (ℕ → ℕ) → (ℕ → Option Files) → List Run → ℕ → Result T WorkFault → Type 0
+TellsAmong named before runs to (Ok x) = ⊤
+TellsAmong named before runs to (Err (NoRoom asked held floor)) = ⊤
+TellsAmong named before runs to (Err (DiskFault post)) = ⊤
+TellsAmong named before runs to (Err (Damaged post file kept found)) =
+    (is_run_in runs post file kept ≡ false → post ≡ to) × ((IsFileAmong named runs post file → ⊥) → IsGone (before post) file) × (found < kept)
+TellsAmong named before runs to (Err NoMemory) = ⊤

@@ -12,7 +12,7 @@ use Rattle.spill_stack.specs.Disks.{LeavesDisk}
 use Rattle.job_plan.specs.Plans.{form_in, kind_at}
 use Rattle.job_plan.specs.declared.query_plan.Plan.{Plan}
 use Rattle.task_runner.specs.Consumers.{FeedsOne, KeepsConsumers, place_for}
-use Rattle.task_runner.specs.Parts.{HoldsRows, IsMade, entries_in}
+use Rattle.task_runner.specs.Parts.{HoldsRows, IsMade, LeavesOnlyAnswer, entries_in}
 use Rattle.task_runner.specs.Workers.{AreMade, DoesTasks, HasAnswer, TellParts, part_at, rows_to}
 use Rattle.task_runner.specs.Works.{Works}
 
@@ -47,6 +47,7 @@ pub record DoesOne (plan : Plan) (landed : Run) (part : ℕ) (before after : Sce
   pub tells : (rows : List (List (List ℕ))) → HoldsRows before.files (form_in plan) landed rows
       → HasAnswer after.files (kind_at plan 0) answer (entries_in plan 0 rows)
   pub made : IfSome answer (IsMade before.files)
+  pub only : LeavesOnlyAnswer before.files after.files answer
   pub fed : FeedsOne before.states after.states (place_for (kind_at plan 0)) landed.count
   pub works : Works part before.worker after.worker
 

@@ -1,6 +1,6 @@
 -- A partition's rows as the entries of a query, and the run that a task makes of them.
 -- This project's own.
-use Rattle.std.specs.Prelude.{◌≡◌, ℕ, ◌≤◌, List, [], Option, Some, None, Result, Ok, Err, map, ⊤}
+use Rattle.std.specs.Prelude.{◌≡◌, ◌≢◌, ℕ, ◌≤◌, List, [], Option, Some, None, Result, Ok, Err, map, ⊤}
 use Rattle.std.specs.List.{AllByRecursion}
 use Rattle.aggregate.specs.Totals.{Entry, total}
 use Rattle.aggregate.specs.declared.kind.Kind.{Kind}
@@ -10,6 +10,7 @@ use Rattle.run_file.specs.Runs.{Stands}
 use Rattle.run_file.specs.declared.form.Form.{Form}
 use Rattle.run_file.specs.declared.run.Run.{Run}
 use Rattle.run_merge.specs.Runs.{HasEntries}
+use Rattle.spill_stack.specs.Disks.{SameAt}
 use Rattle.spill_stack.specs.Writing.{WasNotThere}
 use Rattle.job_plan.specs.Entries.{entry_of}
 use Rattle.job_plan.specs.Plans.{kept_at}
@@ -34,6 +35,11 @@ TellsTotal files kind entries (Err (NoRoom asked held floor)) = ⊤
 TellsTotal files kind entries (Err (DiskFault post)) = ⊤
 TellsTotal files kind entries (Err (Damaged post file kept found)) = ⊥
 TellsTotal files kind entries (Err NoMemory) = ⊤
+
+-- no file was made or changed but the answer's
+abbrev pub LeavesOnlyAnswer : Option Files → Option Files → Option Run → Type 0
+LeavesOnlyAnswer before after None = (file : ℕ) → SameAt before after file
+LeavesOnlyAnswer before after (Some run) = (file : ℕ) → file ≢ run.file → SameAt before after file
 
 -- a run that a task made: in a file that wasn't there before, its rows of a cost that a merge can count on
 pub record IsMade (before : Option Files) (run : Run) : Type 0 where

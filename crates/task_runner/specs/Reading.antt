@@ -1,9 +1,10 @@
 -- A landed run that is read whole.
 -- This project's own.
-use Rattle.std.specs.Prelude.{◌≡◌, ℕ, Bool, true, false, List, Result, Ok, Err, ⊤}
+use Rattle.std.specs.Prelude.{◌≡◌, ℕ, ◌<◌, Bool, true, false, List, Result, Ok, Err, ⊤}
 use Rattle.row_page.specs.Pages.{PageView}
 use Rattle.run_file.specs.declared.form.Form.{Form}
 use Rattle.run_file.specs.declared.form.Form.TheVariants.{Entries, Landed}
+use Rattle.run_file.specs.declared.run.Run.{Run}
 use Rattle.task_runner.specs.declared.work_fault.WorkFault.{WorkFault}
 use Rattle.task_runner.specs.declared.work_fault.WorkFault.TheVariants.{NoRoom, DiskFault, Damaged, NoMemory}
 
@@ -14,6 +15,18 @@ GivesRows rows (Err (NoRoom asked held floor)) = ⊤
 GivesRows rows (Err (DiskFault post)) = ⊤
 GivesRows rows (Err (Damaged post file kept found)) = ⊥
 GivesRows rows (Err NoMemory) = ⊤
+
+-- damage is told of this run, on this disk, of which fewer rows were found than it has
+abbrev pub TellsRunOn : {T : Type 0} → ℕ → Run → Result T WorkFault → Type 0
+TellsRunOn disk run (Ok x) = ⊤
+TellsRunOn disk run (Err (NoRoom asked held floor)) = ⊤
+TellsRunOn disk run (Err (DiskFault post)) = ⊤
+TellsRunOn disk run (Err (Damaged post file kept found)) = (post ≡ disk) × (file ≡ run.file) × (kept ≡ run.count) × (found < kept)
+TellsRunOn disk run (Err NoMemory) = ⊤
+
+-- damage is told of this run, on the one disk that there is
+abbrev pub TellsRun : {T : Type 0} → Run → Result T WorkFault → Type 0
+TellsRun run result = TellsRunOn 0 run result
 
 -- whether it is a form of landed rows
 abbrev pub is_landed : Form → Bool

@@ -1,6 +1,6 @@
 -- What a task's one consumer was fed, and the runs that it leaves.
 -- This project's own.
-use Rattle.std.specs.Prelude.{◌≡◌, ℕ, ◌<◌, ◌≤◌, List, [], ◌∷◌, Option, Some, IsSome, Result, Ok, Err, All, length, slice_index_or, ⊤}
+use Rattle.std.specs.Prelude.{◌≡◌, ◌≢◌, ℕ, ◌<◌, ◌≤◌, List, [], ◌∷◌, Option, Some, None, IsSome, Result, Ok, Err, All, length, slice_index_or, ⊤}
 use Rattle.aggregate.specs.Totals.{Entry, total}
 use Rattle.aggregate.specs.declared.kind.Kind.{Kind}
 use Rattle.consumer_trait.specs.Members.{state_at}
@@ -11,7 +11,7 @@ use Rattle.run_file.specs.declared.run.Run.{Run}
 use Rattle.spill_disk.specs.Files.{Files}
 use Rattle.pool_ledger.specs.Sizes.{Sizes, floor_of}
 use Rattle.spill_stack.specs.Accounts.{Held}
-use Rattle.spill_stack.specs.Disks.{KeepsFiles}
+use Rattle.spill_stack.specs.Disks.{KeepsFiles, SameAt}
 use Rattle.spill_stack.specs.RunLists.{HaveEntries, HoldRuns, IsBounded, gathered_total, run_at, runs_at}
 use Rattle.spill_stack.specs.Scenes.{Scene}
 use Rattle.spill_stack.specs.Writing.{WasNotThere}
@@ -40,7 +40,8 @@ pub record Gathers (scene : Scene) (place : ℕ) (kind : Kind) (entries : List E
   pub hold : HoldRuns scene.files scene.states scene.runs spilled
   pub comes : gathered_total scene.states spilled place ≡ total kind entries
 
--- the task's one consumer was fed these entries since its consumers and its files were so
+-- the task's one consumer was fed these entries since its consumers and its files were so; no file was made or changed but those
+-- of its runs, and no other consumer was begun
 pub record IsFed (states : List State) (before : Option Files) (place : ℕ) (kind : Kind) (entries : List Entry) (scene : Scene) : Type 0 where
   pub picks : scene.picks ≡ place ∷ []
   pub within : place < length scene.states
@@ -50,6 +51,8 @@ pub record IsFed (states : List State) (before : Option Files) (place : ℕ) (ki
   pub stay : KeepsFiles before scene.files
   pub fresh : AllNew before scene.runs
   pub gathers : IsSome before → Gathers scene place kind entries
+  pub only : (file : ℕ) → ((i k : ℕ) → k < length (runs_at scene.runs i) → (run_at scene.runs i k).file ≢ file) → SameAt before scene.files file
+  pub idle : (i : ℕ) → i ≢ place → ((state_at scene.states i).kind ≡ None) × (runs_at scene.runs i ≡ [])
 
 -- the runs stand with entries that come to what these come to, in different files
 pub record HaveTotal (files : Option Files) (kind : Kind) (entries : List Entry) (runs : List Run) : Type 0 where
@@ -58,12 +61,14 @@ pub record HaveTotal (files : Option Files) (kind : Kind) (entries : List Entry)
   pub comes : total kind drained ≡ total kind entries
   pub apart : (k l : ℕ) → k < length runs → l < length runs → (taken_at runs k).file ≡ (taken_at runs l).file → k ≡ l
 
--- runs that a consumer leaves: in files that weren't there before, and where the disk told, with the total of these entries
+-- runs that a consumer leaves: in files that weren't there before, and where the disk told, with the total of these entries; no
+-- other file was made or changed
 pub record LeavesRuns (before after : Option Files) (kind : Kind) (entries : List Entry) (runs : List Run) : Type 0 where
   pub bounded : All IsBounded runs
   pub fresh : (k : ℕ) → k < length runs → WasNotThere before (taken_at runs k).file
   pub stay : KeepsFiles before after
   pub total_is : IsSome before → HaveTotal after kind entries runs
+  pub only : (file : ℕ) → ((k : ℕ) → k < length runs → (taken_at runs k).file ≢ file) → SameAt before after file
 
 -- no damage is told
 abbrev pub NeverDamaged : {T : Type 0} → Result T WorkFault → Type 0

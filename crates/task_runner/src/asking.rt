@@ -74,11 +74,14 @@ pub(crate) fn ask_readers<K: Disk, B: Basis, R: Wait + Sync>(
     }
 }
 
-// How many runs are merged at once with these bytes.
+// How many runs are merged at once with these bytes: as many as they pay readers for, up to eight.
+#[tactic(auto, using(crate::proofs::Readers::paid_for))]
 pub(crate) fn fan_in_of(got: u64, reader: u64) -> usize
     requires some { 64 ≤ reader }
     requires enough { 2 * reader ≤ got }
-    ensures { 2 ≤ result }
+    ensures enough { 2 ≤ result }
+    ensures most { result ≤ 8 }
+    ensures paid { result * reader ≤ got }
 {
     (got / reader).min(MOST_READERS) as usize
 }

@@ -11,7 +11,7 @@ ghost use Rattle.turn_lock.specs.Passes.{PassState};
 ghost use Rattle.job_plan.specs.Planning.{columns_of};
 ghost use Rattle.job_plan.specs.Plans.{form_in, kept_in};
 ghost use Rattle.task_runner.specs.AllWorkers.{Finished, Reached};
-ghost use Rattle.task_runner.specs.Answers.{HasCauseAmong};
+ghost use Rattle.task_runner.specs.Answers.{HasCauseAmong, NamesSomePost};
 ghost use Rattle.task_runner.specs.Consumers.{HasConsumers};
 ghost use Rattle.task_runner.specs.Parts.{HoldsRows};
 ghost use Rattle.task_runner.specs.Workers.{IfSound};
@@ -59,6 +59,7 @@ pub(crate) fn run_each<K: Disk, D: Disk, C: Consumer, B: Basis, R: Wait + Sync>(
         IfSound (λ _. ⊤) result }
     ensures no_room { IfNoRoom result (λ asked held floor. (worker task : ℕ) × (worker < B.sizes.workers)
         × ((any : PassState) → ShowsNoRoom B.sizes (own_of (slice_index_or workers.new.items worker any)) task asked held floor)) }
+    ensures names { NamesSomePost B.sizes.workers result }
     ensures workers { AreWorkers manager.now B.sizes.workers workers.new.items }
     ensures cause { HasCauseAmong (faults_on (disk_at (λ post. post.disk)) D.faults posts.old)
         (faults_on (disk_at (λ post. post.disk)) D.faults posts.new) result }

@@ -1,12 +1,13 @@
 //! The rows of a partition, fed to the consumer of a task.
 
-ghost use Rattle.std.specs.Prelude.{◌≡◌, ◌∷◌, ◌++◌, ◌<◌, [], List, map, true, length, OnOk, Option, ℕ};
-ghost use Rattle.aggregate.specs.Totals.{Entry};
+ghost use Rattle.std.specs.Prelude.{◌≡◌, ◌∷◌, ◌++◌, ◌<◌, ◌≤◌, [], List, map, true, length, OnOk, Option, ℕ};
+ghost use Rattle.aggregate.specs.Totals.{Entry, cost};
 ghost use Rattle.aggregate.specs.declared.kind.Kind.{Kind};
 ghost use Rattle.consumer_trait.specs.States.{IsEntryOf, State};
 ghost use Rattle.spill_disk.specs.Files.{Files};
 ghost use Rattle.spill_stack.specs.Attempts.{held_by};
 ghost use Rattle.spill_stack.specs.Disks.{LeavesDisk};
+ghost use Rattle.spill_stack.specs.Feeding.{EmptyUseNothing};
 ghost use Rattle.spill_stack.specs.Going.{Goes, IsAtWork};
 ghost use Rattle.spill_stack.specs.Scenes.{scene_of};
 ghost use Rattle.task_memory.specs.Live.{IsBetween};
@@ -106,6 +107,8 @@ pub(crate) fn feed_entry<C: Consumer, K: Disk, D: Disk, B: Basis, R: Wait + Sync
     ensures page { OnOk result (memory.new.spills.page ≡ record { rows = []; room = 262144 }) }
     ensures live { OnOk result (memory.new.live ≡ true) }
     ensures refused { IfNoRoom result (FallsShort B.sizes (held_by memory.new.account.now.task worker.new)) }
+    ensures few { IfNoRoom result (λ asked held floor. EmptyUseNothing (map C.state memory.old.boxes.now)
+        → asked ≤ cost (record { key = key.now; value = value.now })) }
     ensures undamaged { NeverDamaged result }
     ensures keeps { KeepsConsumers (map C.state memory.old.boxes.now) (map C.state memory.new.boxes.now) }
     ensures at_work { IsAtWork memory.new.account.now.manager.now memory.new.account.now.task worker.new }

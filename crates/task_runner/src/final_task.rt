@@ -8,7 +8,7 @@ ghost use Rattle.run_file.specs.declared.run.Run.{Run};
 ghost use Rattle.run_file.specs.Shelved.{faults_on, files_on};
 ghost use Rattle.run_merge.specs.Merged.{KeepsOthers, KeepsShelf, LeavesOnly, answered};
 ghost use Rattle.run_merge.specs.Runs.{AreApart, AreOn, HaveEntries};
-ghost use Rattle.task_runner.specs.Answers.{HasCauseAmong, MergesTotal};
+ghost use Rattle.task_runner.specs.Answers.{HasCauseAmong, MergesTotal, TellsAmong};
 ghost use Rattle.task_runner.specs.Merging.{reader_of, told_with};
 ghost use Rattle.task_runner.specs.Works.{IfNoRoom, MayWork, ShowsNoRoom, Works};
 
@@ -68,6 +68,7 @@ pub fn run_final<K: Disk, D: Disk, H: Shelf<D>, B: Basis, R: Wait + Sync>(
         (files_on H.disk_of D.files shelf.old) (files_on H.disk_of D.files shelf.new) runs.items }
     ensures shelf { KeepsShelf H.count_of H.named H.disk_of D.files D.faults shelf.old shelf.new }
     ensures cause { HasCauseAmong (faults_on H.disk_of D.faults shelf.old) (faults_on H.disk_of D.faults shelf.new) result }
+    ensures damaged { TellsAmong (H.named shelf.old) (files_on H.disk_of D.files shelf.old) runs.items 0 result }
 {
     let Ok(task) = manager.begin(rt, worker, number) else {
         return Err(WorkFault::NoMemory);

@@ -10,7 +10,7 @@ ghost use Rattle.spill_stack.specs.RunLists.{IsBounded};
 ghost use Rattle.job_plan.specs.Plans.{form_in, kept_in, kind_at};
 ghost use Rattle.task_runner.specs.Answers.{HasCauseAmong};
 ghost use Rattle.task_runner.specs.Consumers.{FeedsOne, HasConsumers, KeepsConsumers, place_for};
-ghost use Rattle.task_runner.specs.Parts.{IsMade, TellsTotal, entries_in};
+ghost use Rattle.task_runner.specs.Parts.{IsMade, LeavesOnlyAnswer, TellsTotal, entries_in};
 ghost use Rattle.task_runner.specs.Spilling.{AreShort, IsRefused, LeavesRuns};
 ghost use Rattle.task_runner.specs.Works.{IfNoRoom};
 
@@ -47,6 +47,7 @@ pub(crate) fn make_run<C: Consumer, K: Disk, D: Disk, B: Basis, R: Wait + Sync>(
     requires rows { AreShort (form_in plan.now) page.now.rows }
     ensures answer { IsSome (D.files post.old.disk) → TellsTotal (D.files post.new.disk) (kind_at plan.now 0) (entries_in plan.now 0 page.now.rows) result }
     ensures made { IfOk result (λ answer. IfSome answer (IsMade (D.files post.old.disk))) }
+    ensures only { IfOk result (λ answer. LeavesOnlyAnswer (D.files post.old.disk) (D.files post.new.disk) answer) }
     ensures fed { OnOk result (FeedsOne (map C.state post.old.consumers.items) (map C.state post.new.consumers.items) (place_for (kind_at plan.now 0)) (length page.now.rows)) }
     ensures keeps { KeepsConsumers (map C.state post.old.consumers.items) (map C.state post.new.consumers.items) }
     ensures refused { IfNoRoom result (λ asked held floor. IsRefused B.sizes (held_by account.now.task worker.new) asked floor) }
@@ -87,6 +88,8 @@ fn merge_left<C: Consumer, K: Disk, D: Disk, B: Basis, R: Wait + Sync>(
         → TellsTotal (D.files post.new.disk) kind.now entries result }
     ensures made { (before : Option Files) (entries : List Entry) → LeavesRuns before (D.files post.old.disk) kind.now entries runs.items
         → IfOk result (λ answer. IfSome answer (IsMade before)) }
+    ensures only { (before : Option Files) (entries : List Entry) → LeavesRuns before (D.files post.old.disk) kind.now entries runs.items
+        → IfOk result (λ answer. LeavesOnlyAnswer before (D.files post.new.disk) answer) }
     ensures files { (before : Option Files) (entries : List Entry) → LeavesRuns before (D.files post.old.disk) kind.now entries runs.items
         → KeepsFiles before (D.files post.new.disk) }
     ensures later { D.faults post.old.disk ≤ D.faults post.new.disk }

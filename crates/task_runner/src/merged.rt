@@ -1,24 +1,31 @@
 //! Runs that are merged, with faults of tasks.
 
-ghost use Rattle.std.specs.Prelude.{◌≡◌, ◌≤◌, ◌<◌, ◌↔◌, [], ◌∷◌, All, List, None, Some, Ok, IfOk, IfSome, IsSome, length};
+ghost use Rattle.std.specs.Prelude.{◌≡◌, ◌≤◌, ◌<◌, ◌↔◌, ◌*◌, [], ◌∷◌, All, List, None, Some, Ok, IfOk, IfSome, IsSome, length};
 ghost use Rattle.aggregate.specs.Totals.{Entry};
 ghost use Rattle.run_file.specs.declared.run.Run.{Run};
 ghost use Rattle.run_file.specs.Shelved.{faults_on, files_on};
 ghost use Rattle.run_merge.specs.Merged.{IsFresh, KeepsOthers, KeepsShelf, LeavesOnly, answered};
 ghost use Rattle.run_merge.specs.Runs.{AreApart, AreOn, HaveEntries};
-ghost use Rattle.task_runner.specs.Answers.{HasCauseAmong, MergesTotal};
+ghost use Rattle.spill_stack.specs.Attempts.{held_by};
+ghost use Rattle.task_runner.specs.Answers.{HasCauseAmong, MergesTotal, TellsAmong};
+ghost use Rattle.task_runner.specs.Merging.{reader_of};
 ghost use Rattle.task_runner.specs.Works.{IfNoRoom};
 
 use crate::work_fault::WorkFault;
 use aggregate::Kind;
+use memory_lock::{Basis, Worker};
 use run_file::{Run, RunFault};
 use run_merge::merge_all;
 use spill_disk::{Disk, Shelf};
+use spill_stack::Account;
 use std::alloc::Global;
 
 // Merges runs, at most `fan_in` at once, and tells a fault as one of a task.
-pub(crate) fn merge_at<D: Disk, H: Shelf<D>>(
+// The task holds the bytes of as many readers while they are merged.
+pub(crate) fn merge_at<K: Disk, D: Disk, H: Shelf<D>, B: Basis>(
     alloc: Global,
+    _account: &Account<'_, K, B>,
+    _worker: &Worker<B>,
     kind: &Kind,
     shelf: &mut H,
     runs: Vec<Run>,
@@ -26,6 +33,7 @@ pub(crate) fn merge_at<D: Disk, H: Shelf<D>>(
     to: u32,
 ) -> Result<Option<Run>, WorkFault>
     requires fan_in { 2 ≤ fan_in }
+    requires paid { 2 ≤ length runs.items → fan_in * reader_of runs.items ≤ (held_by _account.now.task _worker.now).held }
     requires to { to < H.count_of shelf.old }
     requires there { AreOn (H.count_of shelf.old) runs.items }
     requires bounded { All (λ run. run.greatest ≤ 196752) runs.items }
@@ -47,6 +55,7 @@ pub(crate) fn merge_at<D: Disk, H: Shelf<D>>(
         (files_on H.disk_of D.files shelf.old) (files_on H.disk_of D.files shelf.new) runs.items }
     ensures shelf { KeepsShelf H.count_of H.named H.disk_of D.files D.faults shelf.old shelf.new }
     ensures cause { HasCauseAmong (faults_on H.disk_of D.faults shelf.old) (faults_on H.disk_of D.faults shelf.new) result }
+    ensures damaged { TellsAmong (H.named shelf.old) (files_on H.disk_of D.files shelf.old) runs.items to result }
 {
     match merge_all(alloc, shelf, runs, kind, fan_in, to) {
         Ok(answer) => Ok(answer),

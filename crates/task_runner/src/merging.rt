@@ -8,7 +8,7 @@ ghost use Rattle.run_merge.specs.Merged.{IsFresh, KeepsOthers, KeepsShelf, Leave
 ghost use Rattle.run_merge.specs.Runs.{AreApart, AreOn, HaveEntries};
 ghost use Rattle.spill_stack.specs.Attempts.{held_by};
 ghost use Rattle.spill_stack.specs.Going.{Goes, IsAtWork};
-ghost use Rattle.task_runner.specs.Answers.{HasCauseAmong, MergesTotal};
+ghost use Rattle.task_runner.specs.Answers.{HasCauseAmong, MergesTotal, TellsAmong};
 ghost use Rattle.task_runner.specs.Merging.{IsShort, reader_of, wish_of};
 ghost use Rattle.task_runner.specs.Works.{FallsShort, IfNoRoom};
 
@@ -72,15 +72,17 @@ pub(crate) fn merge_runs<K: Disk, D: Disk, H: Shelf<D>, B: Basis, R: Wait + Sync
         (files_on H.disk_of D.files shelf.old) (files_on H.disk_of D.files shelf.new) runs.items }
     ensures shelf { KeepsShelf H.count_of H.named H.disk_of D.files D.faults shelf.old shelf.new }
     ensures cause { HasCauseAmong (faults_on H.disk_of D.faults shelf.old) (faults_on H.disk_of D.faults shelf.new) result }
+    ensures damaged { TellsAmong (H.named shelf.old) (files_on H.disk_of D.files shelf.old) runs.items to result }
 {
     account.goes_on();
     if runs.len() < 2 {
         // One run alone stays as it is, and takes no bytes.
-        return merge_at(alloc, kind, shelf, runs, 2, to);
+        return merge_at(alloc, account, worker, kind, shelf, runs, 2, to);
     }
     let reader = reader_cost(&runs);
     let got = ask_readers(rt, account, worker, reader, runs.len(), held)?;
-    let answer = merge_at(alloc, kind, shelf, runs, fan_in_of(got, reader), to);
+    let fan_in = fan_in_of(got, reader);
+    let answer = merge_at(alloc, account, worker, kind, shelf, runs, fan_in, to);
     match account.release(rt, worker, got) {
         Ok(()) => answer,
         Err(_) => Err(WorkFault::NoMemory),

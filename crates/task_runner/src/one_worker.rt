@@ -10,7 +10,7 @@ ghost use Rattle.turn_lock.specs.Passes.{PassState};
 ghost use Rattle.job_plan.specs.Planning.{columns_of};
 ghost use Rattle.job_plan.specs.Plans.{form_in, kept_in};
 ghost use Rattle.task_runner.specs.AllWorkers.{Finishes, HoldsOwn, Leaves, files_of, named_as};
-ghost use Rattle.task_runner.specs.Answers.{HasCauseAmong};
+ghost use Rattle.task_runner.specs.Answers.{HasCauseAmong, NamesPost};
 ghost use Rattle.task_runner.specs.Consumers.{HasConsumers};
 ghost use Rattle.task_runner.specs.Pass.{states_at};
 ghost use Rattle.task_runner.specs.Workers.{IfSound, part_at};
@@ -60,6 +60,7 @@ pub(crate) fn run_one<K: Disk, D: Disk, C: Consumer, B: Basis, R: Wait + Sync>(
         → HoldsOwn (files_of D.files (slice_get posts.old.items number)) plan.now parts.now B.sizes.workers number rows → IfSound (λ _. ⊤) result }
     ensures no_room { IfNoRoom result (λ asked held floor. (worker task : ℕ) × (worker < B.sizes.workers)
         × ((any : PassState) → ShowsNoRoom B.sizes (own_of (slice_index_or workers.new.items worker any)) task asked held floor)) }
+    ensures names { NamesPost number result }
     ensures workers { AreWorkers manager.now B.sizes.workers workers.new.items }
     ensures still { (place : ℕ) (any : PassState) → place ≢ number
         → slice_index_or workers.new.items place any ≡ slice_index_or workers.old.items place any }
@@ -85,6 +86,7 @@ pub(crate) fn run_one<K: Disk, D: Disk, C: Consumer, B: Basis, R: Wait + Sync>(
 }
 
 // The same of a worker and a post, of which a fault of the disk gives this number.
+#[tactic(auto, using(crate::proofs::OtherFaults::names_post))]
 fn run_as<K: Disk, D: Disk, C: Consumer, B: Basis, R: Wait + Sync>(
     rt: &R,
     alloc: Global,
@@ -113,6 +115,7 @@ fn run_as<K: Disk, D: Disk, C: Consumer, B: Basis, R: Wait + Sync>(
     ensures sound { (rows : ℕ → List (List (List ℕ)))
         → HoldsOwn (D.files post.old.disk) plan.now parts.now workers worker.old.number rows → IfSound (λ _. ⊤) result }
     ensures no_room { IfNoRoom result (λ asked held floor. (task : ℕ) × ShowsNoRoom B.sizes (own_of worker.new) task asked held floor) }
+    ensures names { NamesPost number result }
     ensures rests { worker.new.base ≡ None }
     ensures cause { (before now : ℕ → ℕ) → before number ≡ D.faults post.old.disk → now number ≡ D.faults post.new.disk
         → HasCauseAmong before now result }

@@ -7,11 +7,11 @@ ghost use Rattle.run_file.specs.Forms.{HasForm, IsWellFormed};
 ghost use Rattle.run_file.specs.Reading.{IsAhead, form_of, found_of, run_of};
 ghost use Rattle.run_file.specs.Runs.{Stands};
 ghost use Rattle.run_file.specs.Shelved.{LeavesFiles, faults_on, files_on};
-ghost use Rattle.run_merge.specs.Causes.{FindsFewer, HasCauseAmong as HasRunCause};
+ghost use Rattle.run_merge.specs.Causes.{HasCauseAmong as HasRunCause, IsDamageOf};
 ghost use Rattle.job_plan.specs.Plans.{form_in};
 ghost use Rattle.task_runner.specs.Answers.{HasCauseAmong};
 ghost use Rattle.task_runner.specs.Parts.{HoldsRows};
-ghost use Rattle.task_runner.specs.Reading.{GivesRows, is_landed};
+ghost use Rattle.task_runner.specs.Reading.{GivesRows, TellsRun, TellsRunOn, is_landed};
 ghost use Rattle.task_runner.specs.Works.{IfNoRoom};
 
 use crate::post::Post;
@@ -34,6 +34,7 @@ pub(crate) fn read_landed<D: Disk, C: Consumer>(
     ensures rows { (rows : List (List (List ℕ))) → HoldsRows (D.files post.old.disk) (form_in plan.now) landed.now rows → GivesRows rows result }
     ensures formed { IfOk result (λ page. AllByRecursion (IsWellFormed (form_in plan.now) landed.now.greatest) page.rows) }
     ensures count { IfOk result (λ page. length page.rows ≡ landed.now.count) }
+    ensures damaged { TellsRun landed.now result }
     ensures landed { IfOk result (λ page. is_landed (form_in plan.now) ≡ true) }
     ensures never { IfNoRoom result (λ asked held floor. ⊥) }
     ensures consumers { post.new.consumers.items ≡ post.old.consumers.items }
@@ -81,6 +82,7 @@ fn read_rows<D: Disk, H: Shelf<D>>(
         → AllByRecursion (HasForm form) rows → GivesRows rows result }
     ensures formed { IfOk result (λ page. AllByRecursion (IsWellFormed form run.now.greatest) page.rows) }
     ensures count { IfOk result (λ page. length page.rows ≡ run.now.count) }
+    ensures damaged { TellsRunOn run.now.disk run.now result }
     ensures never { IfNoRoom result (λ asked held floor. ⊥) }
     ensures cause { HasCauseAmong (faults_on H.disk_of D.faults shelf.old) (faults_on H.disk_of D.faults shelf.new) result }
     ensures shelf { LeavesFiles H.count_of H.named H.disk_of D.files D.faults shelf.old shelf.new }
@@ -122,7 +124,7 @@ fn fill_page<D: Disk, H: Shelf<D>>(
         → IsAhead (files_on H.disk_of D.files shelf.old (run_of reader.old).disk) reader.old rows → NotDamaged result }
     ensures formed { OnOk result (AllByRecursion (IsWellFormed (form_of reader.old) (run_of reader.old).greatest) page.new.rows) }
     ensures count { OnOk result (length page.new.rows ≡ (run_of reader.old).count) }
-    ensures fewer { FindsFewer result }
+    ensures damaged { IsDamageOf (run_of reader.old) result }
     ensures cause { HasRunCause (faults_on H.disk_of D.faults shelf.old) (faults_on H.disk_of D.faults shelf.new) result }
     ensures shelf { LeavesFiles H.count_of H.named H.disk_of D.files D.faults shelf.old shelf.new }
 {

@@ -1,6 +1,6 @@
 //! The entries of a partition, spilled as runs by the consumer of a task.
 
-ghost use Rattle.std.specs.Prelude.{◌≡◌, [], List, map, true, length, IfOk, OnOk, Option, ℕ};
+ghost use Rattle.std.specs.Prelude.{◌≡◌, ◌+◌, [], List, map, true, length, IfOk, OnOk, Option, ℕ};
 ghost use Rattle.aggregate.specs.Totals.{Entry};
 ghost use Rattle.aggregate.specs.declared.kind.Kind.{Kind};
 ghost use Rattle.consumer_trait.specs.States.{State};
@@ -9,7 +9,7 @@ ghost use Rattle.spill_stack.specs.Attempts.{held_by};
 ghost use Rattle.spill_stack.specs.Disks.{LeavesDisk};
 ghost use Rattle.spill_stack.specs.Going.{Goes, IsAtWork};
 ghost use Rattle.spill_stack.specs.Pauses.{AllSame};
-ghost use Rattle.spill_stack.specs.Scenes.{scene_of};
+ghost use Rattle.spill_stack.specs.Scenes.{scene_of, used_by};
 ghost use Rattle.task_memory.specs.Live.{IsBetween};
 ghost use Rattle.job_plan.specs.Plans.{form_in, kept_in, kind_at};
 ghost use Rattle.task_runner.specs.Answers.{HasCauseAmong};
@@ -50,6 +50,7 @@ pub(crate) fn spill_rows<C: Consumer, K: Disk, D: Disk, B: Basis, R: Wait + Sync
     requires rows { AreShort (form_in plan.now) page.now.rows }
     ensures runs { IfOk result (λ runs. LeavesRuns (D.files disk.old) (D.files disk.new) (kind_at plan.now 0) (entries_in plan.now 0 page.now.rows) runs.items) }
     ensures fed { OnOk result (FeedsOne (map C.state consumers.old) (map C.state consumers.new) (place_for (kind_at plan.now 0)) (length page.now.rows)) }
+    ensures freed { OnOk result ((held_by account.now.task worker.new).held ≡ used_by (map C.state consumers.new)) }
     ensures keeps { KeepsConsumers (map C.state consumers.old) (map C.state consumers.new) }
     ensures refused { IfNoRoom result (FallsShort B.sizes (held_by account.now.task worker.new)) }
     ensures undamaged { NeverDamaged result }
@@ -108,6 +109,7 @@ fn drain_started<C: Consumer, K: Disk, D: Disk, B: Basis, R: Wait + Sync>(
         (scene_of (map C.state consumers.old) (D.files disk.old) (held_by account.now.task worker.old) started.spills) }
     ensures runs { IfOk result (λ runs. LeavesRuns (D.files disk.old) (D.files disk.new) (kind_at plan.now 0) (entries_in plan.now 0 page.now.rows) runs.items) }
     ensures fed { OnOk result (FeedsOne (map C.state consumers.old) (map C.state consumers.new) (place_for (kind_at plan.now 0)) (length page.now.rows)) }
+    ensures freed { OnOk result ((held_by account.now.task worker.new).held ≡ used_by (map C.state consumers.new)) }
     ensures keeps { KeepsConsumers (map C.state consumers.old) (map C.state consumers.new) }
     ensures refused { IfNoRoom result (FallsShort B.sizes (held_by account.now.task worker.new)) }
     ensures undamaged { NeverDamaged result }
@@ -143,6 +145,7 @@ fn drain_rows<C: Consumer, K: Disk, D: Disk, B: Basis, R: Wait + Sync>(
         (scene_of (map C.state memory.old.boxes.now) (D.files memory.old.disk.now) (held_by memory.old.account.now.task worker.old) memory.old.spills) }
     ensures runs { IfOk result (λ runs. LeavesRuns (D.files memory.old.disk.now) (D.files memory.new.disk.now) (kind_at plan.now 0) (entries_in plan.now 0 page.now.rows) runs.items) }
     ensures fed { OnOk result (FeedsOne (map C.state memory.old.boxes.now) (map C.state memory.new.boxes.now) (place_for (kind_at plan.now 0)) (length page.now.rows)) }
+    ensures freed { OnOk result ((held_by memory.new.account.now.task worker.new).held ≡ used_by (map C.state memory.new.boxes.now) + memory.new.roomed) }
     ensures keeps { KeepsConsumers (map C.state memory.old.boxes.now) (map C.state memory.new.boxes.now) }
     ensures refused { IfNoRoom result (FallsShort B.sizes (held_by memory.new.account.now.task worker.new)) }
     ensures undamaged { NeverDamaged result }
@@ -151,6 +154,7 @@ fn drain_rows<C: Consumer, K: Disk, D: Disk, B: Basis, R: Wait + Sync>(
     ensures account { memory.new.account.now ≡ memory.old.account.now }
     ensures boxes { memory.new.boxes.ghost_name ≡ memory.old.boxes.ghost_name }
     ensures lent { memory.new.disk.ghost_name ≡ memory.old.disk.ghost_name }
+    ensures roomed { memory.new.roomed ≡ memory.old.roomed }
     ensures disk { LeavesDisk (D.files memory.old.disk.now) (D.files memory.new.disk.now) (D.faults memory.old.disk.now) (D.faults memory.new.disk.now) }
     ensures cause { HasCauseAmong (λ _. D.faults memory.old.disk.now) (λ _. D.faults memory.new.disk.now) result }
 {
@@ -177,6 +181,7 @@ fn drain_all<C: Consumer, K: Disk, D: Disk, B: Basis, R: Wait + Sync>(
     ensures runs { IfOk result (λ runs. (states : List State) (before : Option Files) (place : ℕ) (kind : Kind) (entries : List Entry)
         → IsFed states before place kind entries (scene_of (map C.state memory.old.boxes.now) (D.files memory.old.disk.now) (held_by memory.old.account.now.task worker.old) memory.old.spills)
         → LeavesRuns before (D.files memory.new.disk.now) kind entries runs.items) }
+    ensures freed { OnOk result ((held_by memory.new.account.now.task worker.new).held ≡ used_by (map C.state memory.new.boxes.now) + memory.new.roomed) }
     ensures same { AllSame (map C.state memory.old.boxes.now) (map C.state memory.new.boxes.now) }
     ensures never { IfNoRoom result (λ asked held floor. ⊥) }
     ensures undamaged { NeverDamaged result }
@@ -185,6 +190,7 @@ fn drain_all<C: Consumer, K: Disk, D: Disk, B: Basis, R: Wait + Sync>(
     ensures account { memory.new.account.now ≡ memory.old.account.now }
     ensures boxes { memory.new.boxes.ghost_name ≡ memory.old.boxes.ghost_name }
     ensures lent { memory.new.disk.ghost_name ≡ memory.old.disk.ghost_name }
+    ensures roomed { memory.new.roomed ≡ memory.old.roomed }
     ensures disk { LeavesDisk (D.files memory.old.disk.now) (D.files memory.new.disk.now) (D.faults memory.old.disk.now) (D.faults memory.new.disk.now) }
     ensures cause { HasCauseAmong (λ _. D.faults memory.old.disk.now) (λ _. D.faults memory.new.disk.now) result }
 {

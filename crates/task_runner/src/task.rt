@@ -8,7 +8,7 @@ ghost use Rattle.job_plan.specs.Planning.{columns_of};
 ghost use Rattle.job_plan.specs.Plans.{form_in, kept_in, kind_at};
 ghost use Rattle.task_runner.specs.Answers.{HasCauseAmong};
 ghost use Rattle.task_runner.specs.Consumers.{FeedsOne, HasConsumers, KeepsConsumers, place_for};
-ghost use Rattle.task_runner.specs.Parts.{HoldsRows, IsMade, TellsTotal, entries_in};
+ghost use Rattle.task_runner.specs.Parts.{HoldsRows, IsMade, LeavesOnlyAnswer, TellsTotal, entries_in};
 ghost use Rattle.task_runner.specs.Works.{IfNoRoom, MayWork, ShowsNoRoom, Works};
 
 use crate::final_task::told;
@@ -49,6 +49,7 @@ pub fn run_task<K: Disk, D: Disk, C: Consumer, B: Basis, R: Wait + Sync>(
     ensures answer { (rows : List (List (List ℕ))) → HoldsRows (D.files post.old.disk) (form_in plan.now) landed.now rows
         → TellsTotal (D.files post.new.disk) (kind_at plan.now 0) (entries_in plan.now 0 rows) result }
     ensures made { IfOk result (λ answer. IfSome answer (IsMade (D.files post.old.disk))) }
+    ensures only { IfOk result (λ answer. LeavesOnlyAnswer (D.files post.old.disk) (D.files post.new.disk) answer) }
 
     // The consumers.
     ensures fed { OnOk result (FeedsOne (map C.state post.old.consumers.items) (map C.state post.new.consumers.items)

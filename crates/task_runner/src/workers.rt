@@ -11,7 +11,7 @@ ghost use Rattle.spill_disk.specs.Shelves.{disk_at};
 ghost use Rattle.turn_lock.specs.Passes.{PassState};
 ghost use Rattle.job_plan.specs.Planning.{columns_of};
 ghost use Rattle.job_plan.specs.Plans.{form_in, kept_in, kind_at};
-ghost use Rattle.task_runner.specs.Answers.{HasCauseAmong};
+ghost use Rattle.task_runner.specs.Answers.{HasCauseAmong, NamesSomePost};
 ghost use Rattle.task_runner.specs.Consumers.{HasConsumers, KeepsConsumers, place_for};
 ghost use Rattle.task_runner.specs.Parts.{HoldsRows};
 ghost use Rattle.task_runner.specs.Pass.{AreInNewFiles, FeedsParts, KeepsAll, TellAllParts, states_at};
@@ -88,6 +88,7 @@ pub fn run_workers<K: Disk, D: Disk, C: Consumer, B: Basis, R: Wait + Sync>(
     // The disks.
     ensures files { KeepsAll (files_on (disk_at (λ post. post.disk)) D.files posts.old) (files_on (disk_at (λ post. post.disk)) D.files posts.new) }
     ensures later { (disk : ℕ) → faults_on (disk_at (λ post. post.disk)) D.faults posts.old disk ≤ faults_on (disk_at (λ post. post.disk)) D.faults posts.new disk }
+    ensures names { NamesSomePost B.sizes.workers result }
     ensures cause { HasCauseAmong (faults_on (disk_at (λ post. post.disk)) D.faults posts.old)
         (faults_on (disk_at (λ post. post.disk)) D.faults posts.new) result }
 {

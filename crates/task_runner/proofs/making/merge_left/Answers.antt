@@ -1,4 +1,4 @@
-use Rattle.task_runner.proofs.LeftRuns.{kept_left, made_left, tells_left}
+use Rattle.task_runner.proofs.LeftRuns.{kept_left, made_left, only_left, tells_left}
 use Rattle.task_runner.proofs.making.merge_left.Goals as goal
 
 pub returns-clause-answer : goal.returns-clause-answer
@@ -18,3 +18,7 @@ returns-clause-files g c before entries left =
 
 pub returns-clause-later : goal.returns-clause-later
 returns-clause-later g c = c.merge_runs-answer.ensures.shelf.later 0
+
+pub returns-clause-only : goal.returns-clause-only
+returns-clause-only g c before entries left =
+    only_left before (g.D.Disk.files c.args.post.now.disk) (g.D.Disk.files c.merge_runs-answer.new.shelf.disk) c.args.kind.now entries c.args.runs.items c.merge_runs-answer.result left c.merge_runs-answer.ensures.files

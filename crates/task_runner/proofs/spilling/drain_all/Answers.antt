@@ -18,7 +18,7 @@ returns-in-Ok-free_leasts-clause-runs g c states before place kind entries fed =
     let after = c.drain.new.self in
     let new = scene_of (map g.C.Consumer.state after.boxes.now) (g.D.Disk.files after.disk.now) (held_by after.account.now.task c.drain.new.worker) after.spills in
     leaves_now states before place kind entries _ new (g.D.Disk.files c.free_leasts.new.self.disk.now) c.in-Ok.runs.items (ap (λ d. g.D.Disk.files d.now) c.free_leasts.ensures.disk)
-    c.in-Ok.ensures.bounded c.in-Ok.ensures.totals c.in-Ok.ensures.new_files c.drain.ensures.disk.kept fed
+    c.in-Ok.ensures.bounded c.in-Ok.ensures.totals c.in-Ok.ensures.new_files c.in-Ok.ensures.only c.drain.ensures.disk.kept fed
 
 pub returns-in-Ok-free_leasts-clause-goes : goal.returns-in-Ok-free_leasts-clause-goes
 returns-in-Ok-free_leasts-clause-goes g c =
