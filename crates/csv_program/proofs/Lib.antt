@@ -16,3 +16,4 @@ pub mod Followed
 pub mod Worked
 pub mod Making
 pub mod StillThere
+pub mod Named

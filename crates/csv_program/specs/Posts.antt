@@ -1,9 +1,10 @@
 -- The posts of a run: their disks, and how often their consumers were fed.
 -- This project's own.
-use Rattle.std.specs.Prelude.{ℕ, zero, suc, ◌+◌, ◌<◌, List, [], ◌∷◌, Option, IsSome, length}
+use Rattle.std.specs.Prelude.{◌≡◌, ℕ, zero, suc, ◌+◌, ◌<◌, List, [], ◌∷◌, Option, Some, None, Result, Ok, Err, IsSome, length, ⊤}
 use Rattle.std.specs.Global.{Vec}
 use Rattle.spill_disk.specs.Files.{Files}
 use Rattle.spill_disk.specs.Shelves.{disk_at}
+use Rattle.run_file.specs.declared.run.Run.{Run}
 use Rattle.run_file.specs.Shelved.{faults_on, files_on}
 use Rattle.consumer_trait.specs.States.{State}
 use Rattle.job_plan.specs.Columns.{Fields}
@@ -15,6 +16,8 @@ use Rattle.landing.specs.Landed.{partition_count, partition_of}
 use Rattle.task_runner.specs.Consumers.{FeedsOne}
 use Rattle.task_runner.specs.Workers.{IsCount, part_at}
 use Rattle.task_runner.specs.declared.post.Post.{Post}
+use Rattle.task_runner.specs.declared.work_fault.WorkFault.{WorkFault}
+use Rattle.task_runner.specs.declared.work_fault.WorkFault.TheVariants.{NoRoom, DiskFault, Damaged, NoMemory}
 use Rattle.csv_program.specs.Endings.{part_rows}
 
 -- the files of a post's disk, where it tells
@@ -24,6 +27,19 @@ post_files files posts place = files_on (disk_at (λ post. post.disk)) files pos
 -- the count of faults of a post's disk
 abbrev pub post_faults : {D C : Type 0} → (D → ℕ) → Vec (Post D C) → ℕ → ℕ
 post_faults faults posts place = faults_on (disk_at (λ post. post.disk)) faults posts place
+
+-- this is the disk of the answer's run
+abbrev pub IsDiskOf : Option Run → ℕ → Type 0
+IsDiskOf None disk = ⊥
+IsDiskOf (Some run) disk = disk ≡ run.disk
+
+-- where tasks end with damage, P of the post on whose disk it was found
+abbrev pub DamagedOn : {T : Type 0} → Result T WorkFault → (ℕ → Type 0) → Type 0
+DamagedOn (Ok x) P = ⊤
+DamagedOn (Err (NoRoom asked held floor)) P = ⊤
+DamagedOn (Err (DiskFault post)) P = ⊤
+DamagedOn (Err (Damaged post file kept found)) P = P post
+DamagedOn (Err NoMemory) P = ⊤
 
 -- the disks of the workers' posts tell
 abbrev pub AllTell : ℕ → (ℕ → Option Files) → Type 0

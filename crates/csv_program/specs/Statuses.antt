@@ -3,6 +3,8 @@
 use Rattle.std.specs.Prelude.{ℕ, ⊤}
 use Rattle.csv_program.specs.declared.outcome.Status.{Status}
 use Rattle.csv_program.specs.declared.outcome.Status.TheVariants as status
+use Rattle.csv_program.specs.declared.spill.SpillFault.{SpillFault}
+use Rattle.csv_program.specs.declared.spill.SpillFault.TheVariants as spill_fault
 
 -- the number that a process ends with
 abbrev pub number_of : Status → ℕ
@@ -69,10 +71,28 @@ abbrev pub IsDamaged : Status → (ℕ → ℕ → Type 0) → Type 0
 IsDamaged (status.Damaged post file kept found) P = P kept found
 IsDamaged _ P = ⊤
 
+-- where it tells damage, P of the post on whose disk it was found
+abbrev pub IsDamagedOn : Status → (ℕ → Type 0) → Type 0
+IsDamagedOn (status.Damaged post file kept found) P = P post
+IsDamagedOn _ P = ⊤
+
 -- after these a pool was made
 abbrev pub MakesPool : Status → Type 0
 MakesPool status.Done = ⊤
 MakesPool (status.SumTooWide query key) = ⊤
 MakesPool (status.NoRoom asked held floor) = ⊤
 MakesPool status.WriteFault = ⊤
+MakesPool (status.Damaged post file kept found) = ⊤
 MakesPool _ = ⊥
+
+-- after these the input wasn't read, nothing was written, and no post was used
+abbrev pub IsUnread : Status → Type 0
+IsUnread status.BadWords = ⊤
+IsUnread (status.BadJob place) = ⊤
+IsUnread _ = ⊥
+
+-- the number that a process ends with where it can't use the folder `spill/`
+abbrev pub number_of_spill : SpillFault → ℕ
+number_of_spill spill_fault.InUse = 16
+number_of_spill spill_fault.Failed = 16
+number_of_spill spill_fault.NoMemory = 18

@@ -1,6 +1,6 @@
 -- What the words of a call ask for.
 -- This project's own.
-use Rattle.std.specs.Prelude.{ℕ, ◌&&◌, Bool, List, [], ◌∷◌, Option, Some, None, length, codes, nat_le, nat_lt, option_and_then, if◌then◌else◌}
+use Rattle.std.specs.Prelude.{ℕ, ◌&&◌, Bool, false, List, [], ◌∷◌, Option, Some, None, length, codes, nat_le, nat_lt, option_and_then, if◌then◌else◌}
 use Rattle.std.specs.Char.{is_ascii_digit}
 use Rattle.std.specs.List.{list_all}
 use Rattle.std.specs.Str.{bytes_eq}
@@ -40,6 +40,11 @@ asked_with (Some heap) text = Asks (pool_with heap) text
 unfoldable pub behind_word : List ℕ → List (List ℕ) → Option (List (List ℕ))
 behind_word word [] = None
 behind_word word (first ∷ rest) = if bytes_eq first word then Some rest else None
+
+-- whether words may be those of a run: `run`, and some behind it
+abbrev pub may_run : List (List ℕ) → Bool
+may_run [] = false
+may_run (first ∷ rest) = bytes_eq first (codes "run") && nat_lt 0 (length rest)
 
 -- the words behind an option and its value
 abbrev pub behind_option : List ℕ → List ℕ → List (List ℕ) → Option (List (List ℕ))

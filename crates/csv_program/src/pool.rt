@@ -23,7 +23,7 @@ ghost use Rattle.task_runner.specs.Workers.{IfSound};
 ghost use Rattle.task_runner.specs.Works.{IfNoRoom, MayWork, ShowsNoRoom, Works};
 ghost use Rattle.turn_lock.specs.Passes.{PassState};
 ghost use Rattle.csv_program.specs.Doing.{BeginsOwn, HasDone};
-ghost use Rattle.csv_program.specs.Posts.{post_faults, post_files};
+ghost use Rattle.csv_program.specs.Posts.{DamagedOn, post_faults, post_files};
 ghost use Rattle.csv_program.specs.Tasks.{BeginsAll, FollowsPlan, ShowsShort, owner_of};
 
 use aggregate::Kind;
@@ -77,6 +77,7 @@ pub fn run_tasks<K: Disk, D: Disk, C: Consumer, B: Basis, R: Wait + Sync>(
     ensures files { KeepsAll (post_files D.files posts.old) (post_files D.files posts.new) }
     ensures later { (place : ℕ) → post_faults D.faults posts.old place ≤ post_faults D.faults posts.new place }
     ensures cause { HasCauseAmong (post_faults D.faults posts.old) (post_faults D.faults posts.new) result.0 }
+    ensures named { DamagedOn result.0 (λ post. post < pool.workers) }
 
     // The journal.
     ensures none { IfNone result.1 (result.0 ≡ Err WorkFault.NoMemory) }
@@ -135,6 +136,7 @@ fn work<K: Disk, D: Disk, C: Consumer, B: Basis, R: Wait + Sync>(
     ensures files { KeepsAll (post_files D.files posts.old) (post_files D.files posts.new) }
     ensures later { (place : ℕ) → post_faults D.faults posts.old place ≤ post_faults D.faults posts.new place }
     ensures cause { HasCauseAmong (post_faults D.faults posts.old) (post_faults D.faults posts.new) result }
+    ensures named { DamagedOn result (λ post. post < B.sizes.workers) }
 
     // The workers' own entries.
     ensures workers { AreWorkers manager.now B.sizes.workers workers.new.items }
@@ -214,6 +216,7 @@ fn finish<K: Disk, D: Disk, C: Consumer, B: Basis, R: Wait + Sync>(
     ensures files { KeepsOthers (λ disk. disk) (post_files D.files posts.old) (post_files D.files posts.new) runs.items }
     ensures later { (place : ℕ) → post_faults D.faults posts.old place ≤ post_faults D.faults posts.new place }
     ensures cause { HasCauseAmong (post_faults D.faults posts.old) (post_faults D.faults posts.new) result }
+    ensures named { (count : ℕ) → 0 < count → AreOn count runs.items → DamagedOn result (λ post. post < count) }
 {
     merge_aside(
         rt,
@@ -269,6 +272,7 @@ fn merge_aside<K: Disk, D: Disk, C: Consumer, B: Basis, R: Wait + Sync>(
     ensures files { KeepsOthers (λ disk. disk) (post_files D.files posts.old) (post_files D.files posts.new) runs.items }
     ensures later { (place : ℕ) → post_faults D.faults posts.old place ≤ post_faults D.faults posts.new place }
     ensures cause { HasCauseAmong (post_faults D.faults posts.old) (post_faults D.faults posts.new) result }
+    ensures named { (count : ℕ) → 0 < count → AreOn count runs.items → DamagedOn result (λ post. post < count) }
 {
     let Ok(mut aside) = take_consumers(alloc, posts) else {
         let _number = worker.number();

@@ -13,7 +13,7 @@ ghost use Rattle.task_runner.specs.Consumers.{HasConsumers, KeepsConsumers, plac
 ghost use Rattle.task_runner.specs.Pass.{FeedsParts, KeepsAll, states_at};
 ghost use Rattle.csv_program.specs.Endings.{EndsAs, ending_of_totals, part_rows, printed_in, totals_of};
 ghost use Rattle.csv_program.specs.Posts.{AllTell, post_faults, post_files};
-ghost use Rattle.csv_program.specs.Statuses.{IsCut, IsDamaged, IsDiskFault, IsJudged, IsNoRoom, IsOutside, MakesPool, WritesNothing};
+ghost use Rattle.csv_program.specs.Statuses.{IsCut, IsDamaged, IsDamagedOn, IsDiskFault, IsJudged, IsNoRoom, IsOutside, MakesPool, WritesNothing};
 ghost use Rattle.csv_program.specs.Tasks.{BeginsAll, FollowsPlan, ShowsShort, owner_of};
 ghost use Rattle.csv_program.specs.Telling.{status_of_work};
 
@@ -95,6 +95,7 @@ pub fn run_query<K: Disk, D: Disk, C: Consumer, W: Sink, B: Basis, R: Wait + Syn
     ensures write { result.status ≡ Status.WriteFault → Rose (W.faults output.old) (W.faults output.new) }
     ensures disk { IsDiskFault result.status (λ post. Rose (post_faults D.faults posts.old post) (post_faults D.faults posts.new post)) }
     ensures damaged { IsDamaged result.status (λ kept found. found < kept) }
+    ensures named { IsDamagedOn result.status (λ post. post < pool.workers) }
     ensures no_room { IsNoRoom result.status (ShowsShort pool result.journal) }
     ensures judged { IsJudged result.status }
 

@@ -1,8 +1,10 @@
 //! The folder `spill/`, in which a process keeps what it lands and spills.
 
-ghost use Rattle.std.specs.Prelude.{◌≡◌, All, IfOk, map};
+ghost use Rattle.std.specs.Prelude.{◌≡◌, All, IfOk, is_some, length, map};
 ghost use Rattle.task_runner.specs.Consumers.{HasConsumers};
 ghost use Rattle.csv_program.specs.QueryConsumers.{state_in};
+ghost use Rattle.csv_program.specs.Statuses.{number_of_spill};
+ghost use Rattle.csv_program.specs.Words.{may_run};
 
 use crate::consumers::{QueryConsumer, make_consumers};
 use spill_disk::FolderDisk;
@@ -32,7 +34,9 @@ pub enum SpillFault {
 
 impl SpillFault {
     /// The number that the process ends with.
-    pub fn number(&self) -> u8 {
+    pub fn number(&self) -> u8
+        ensures { result ≡ number_of_spill self.now }
+    {
         match self {
             SpillFault::InUse | SpillFault::Failed => 16,
             SpillFault::NoMemory => 18,
@@ -133,7 +137,8 @@ fn make_post<R: Files + Drop>(
 fn make_posts<R: Files + AllocGlobal + Clone + Drop>(
     rt: &R,
 ) -> Result<Vec<Post<FolderDisk<R>, QueryConsumer>>, AllocError>
-    ensures { IfOk result (λ posts. All (λ post. HasConsumers (map state_in post.consumers.items)) posts.items) }
+    ensures count { IfOk result (λ posts. length posts.items ≡ 16) }
+    ensures consumers { IfOk result (λ posts. All (λ post. HasConsumers (map state_in post.consumers.items)) posts.items) }
 {
     let mut posts = Vec::new(rt.alloc());
     for place in 0..POSTS {
@@ -144,7 +149,9 @@ fn make_posts<R: Files + AllocGlobal + Clone + Drop>(
 }
 
 // Whether words may be those of a run: others make no file.
-fn may_run(words: &[&str]) -> bool {
+fn may_run(words: &[&str]) -> bool
+    ensures { result ≡ may_run (map (λ word. word.now) words.now) }
+{
     match words.split_first() {
         Some((first, rest)) => *first == "run" && !rest.is_empty(),
         None => false,
@@ -164,7 +171,9 @@ pub fn prepare<R: Files<File = File> + AllocGlobal + Clone + Drop>(
     ),
     SpillFault,
 >
-    ensures { IfOk result (λ made. All (λ post. HasConsumers (map state_in post.consumers.items)) made.0.items) }
+    ensures count { IfOk result (λ made. length made.0.items ≡ 16) }
+    ensures consumers { IfOk result (λ made. All (λ post. HasConsumers (map state_in post.consumers.items)) made.0.items) }
+    ensures lock { IfOk result (λ made. is_some made.2 ≡ may_run (map (λ word. word.now) words.now)) }
 {
     let lock = if may_run(words) {
         Some(take_folder(rt)?)

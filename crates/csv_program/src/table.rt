@@ -8,14 +8,14 @@ ghost use Rattle.fault_count.specs.Faults.{Rose};
 ghost use Rattle.job_answer.specs.Laws.{wide_total};
 ghost use Rattle.job_plan.specs.Plans.{kept_at, kept_in, kind_at};
 ghost use Rattle.job_plan.specs.Telling.{IsTold};
-ghost use Rattle.result_table.specs.Results.{HasResult};
+ghost use Rattle.result_table.specs.Results.{HasResult, IsDamageOfResult};
 ghost use Rattle.run_file.specs.Causes.{NotDamaged};
 ghost use Rattle.run_file.specs.Shelved.{LeavesFiles, faults_on, files_on};
-ghost use Rattle.run_merge.specs.Causes.{FindsFewer, HasCauseAmong};
+ghost use Rattle.run_merge.specs.Causes.{HasCauseAmong};
 ghost use Rattle.csv_program.specs.Endings.{EndsAs, ending_of_totals, printed_in};
-ghost use Rattle.csv_program.specs.Posts.{post_faults, post_files};
+ghost use Rattle.csv_program.specs.Posts.{IsDiskOf, post_faults, post_files};
 ghost use Rattle.csv_program.specs.Telling.{status_of_print, status_of_run};
-ghost use Rattle.csv_program.specs.Statuses.{IsCut, IsDamaged, IsDiskFault, IsJudged, IsNoRoom, IsOutside, WritesNothing};
+ghost use Rattle.csv_program.specs.Statuses.{IsCut, IsDamaged, IsDamagedOn, IsDiskFault, IsJudged, IsNoRoom, IsOutside, WritesNothing};
 
 use crate::outcome::Status;
 use aggregate::{Key, Kind};
@@ -43,7 +43,7 @@ fn find_wide<D: Disk, H: Shelf<D>>(
     ensures undamaged { (entries : List Entry) →
         HasResult (files_on H.disk_of D.files shelf.old) (kind_at plan.now 0) (option_map (λ run. run.now) answer.entry) entries →
         NotDamaged result }
-    ensures fewer { FindsFewer result }
+    ensures damaged { IsDamageOfResult (option_map (λ run. run.now) answer.entry) result }
     ensures cause { HasCauseAmong (faults_on H.disk_of D.faults shelf.old) (faults_on H.disk_of D.faults shelf.new) result }
     ensures shelf { LeavesFiles H.count_of H.named H.disk_of D.files D.faults shelf.old shelf.new }
 {
@@ -121,6 +121,7 @@ fn check_and_print<D: Disk, H: Shelf<D>, W: Sink>(
     ensures write { result ≡ Status.WriteFault → Rose (W.faults output.old) (W.faults output.new) }
     ensures disk { IsDiskFault result (λ post. Rose (faults_on H.disk_of D.faults shelf.old post) (faults_on H.disk_of D.faults shelf.new post)) }
     ensures damaged { IsDamaged result (λ kept found. found < kept) }
+    ensures named { IsDamagedOn result (IsDiskOf (option_map (λ run. run.now) answer.entry)) }
     ensures no_room { IsNoRoom result (λ asked held floor. ⊥) }
     ensures judged { IsJudged result }
     ensures shelf { LeavesFiles H.count_of H.named H.disk_of D.files D.faults shelf.old shelf.new }
@@ -162,6 +163,7 @@ pub fn print_answer<D: Disk, C: Consumer, W: Sink>(
     ensures write { result ≡ Status.WriteFault → Rose (W.faults output.old) (W.faults output.new) }
     ensures disk { IsDiskFault result (λ post. Rose (post_faults D.faults posts.old post) (post_faults D.faults posts.new post)) }
     ensures damaged { IsDamaged result (λ kept found. found < kept) }
+    ensures named { IsDamagedOn result (IsDiskOf (option_map (λ run. run.now) answer.entry)) }
     ensures no_room { IsNoRoom result (λ asked held floor. ⊥) }
     ensures judged { IsJudged result }
     ensures consumers { map (λ post. post.consumers) posts.new.items ≡ map (λ post. post.consumers) posts.old.items }

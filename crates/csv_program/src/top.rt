@@ -15,7 +15,7 @@ ghost use Rattle.csv_program.specs.Calls.{ForJob, NoCall, NoJob, call_of};
 ghost use Rattle.csv_program.specs.Complete.{FailsNothing, GrantsAll, HasTasks};
 ghost use Rattle.csv_program.specs.Endings.{EndsAs, Prints, Refuses, ending_of, partitions_of, printed_in, rows_read, status_of};
 ghost use Rattle.csv_program.specs.Posts.{AllTell, FeedsRows, place_in, post_faults, post_files};
-ghost use Rattle.csv_program.specs.Statuses.{IsCut, IsDamaged, IsDiskFault, IsJudged, IsNoRoom, IsOutside, MakesPool, WritesNothing};
+ghost use Rattle.csv_program.specs.Statuses.{IsCut, IsDamaged, IsDamagedOn, IsDiskFault, IsJudged, IsNoRoom, IsOutside, IsUnread, MakesPool, WritesNothing};
 ghost use Rattle.csv_program.specs.Tasks.{BeginsAll, FollowsPlan, ShowsShort};
 
 use crate::input::land_on;
@@ -90,6 +90,7 @@ fn run_job<X: Threads + Wait + Sync, S: Source, W: Sink, D: Disk, C: Consumer>(
     ensures write { result.status ≡ Status.WriteFault → Rose (W.faults output.old) (W.faults output.new) }
     ensures disk { IsDiskFault result.status (λ post. Rose (post_faults D.faults posts.old post) (post_faults D.faults posts.new post)) }
     ensures damaged { IsDamaged result.status (λ kept found. found < kept) }
+    ensures named { IsDamagedOn result.status (λ post. post < pool.workers) }
     ensures undamaged { AllTell pool.workers (post_files D.files posts.old) → IsDamaged result.status (λ kept found. ⊥) }
     ensures no_room { IsNoRoom result.status (ShowsShort pool result.journal) }
     ensures judged { IsJudged result.status }
@@ -187,11 +188,14 @@ pub fn run<X: Threads + Wait + Sync, S: Source, W: Sink, D: Disk + Send, C: Cons
     ensures write { result.status ≡ Status.WriteFault → Rose (W.faults output.old) (W.faults output.new) }
     ensures disk { IsDiskFault result.status (λ post. Rose (post_faults D.faults posts.old post) (post_faults D.faults posts.new post)) }
     ensures damaged { IsDamaged result.status (λ kept found. found < kept) }
+    ensures named { ForJob (call_of (length posts.old.items) (map (λ word. word.now) words.now)) (λ pool job.
+        IsDamagedOn result.status (λ post. post < pool.workers)) }
     ensures undamaged { ForJob (call_of (length posts.old.items) (map (λ word. word.now) words.now)) (λ pool job.
         AllTell pool.workers (post_files D.files posts.old) → IsDamaged result.status (λ kept found. ⊥)) }
     ensures no_room { IfSome result.setup (λ pool. IsNoRoom result.status (ShowsShort pool result.journal)) }
 
     // What was written.
+    ensures unread { IsUnread result.status → (input.new ≡ input.old) × (output.new ≡ output.old) × (posts.new ≡ posts.old) }
     ensures nothing { WritesNothing result.status → Keeps (W.written output.old) (W.written output.new) }
     ensures prefix { IsCut result.status →
         ForJob (call_of (length posts.old.items) (map (λ word. word.now) words.now)) (λ pool job.

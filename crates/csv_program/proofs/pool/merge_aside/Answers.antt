@@ -1,7 +1,9 @@
-use Rattle.std.proofs.Common.{sym, subst, arith}
+use Rattle.std.proofs.Common.{Option, sym, subst, arith}
 use Rattle.std.specs.Prelude.{IsSome}
+use Rattle.run_file.specs.declared.run.Run.{Run}
 use Rattle.csv_program.specs.Posts.{post_faults, post_files}
 use Rattle.csv_program.proofs.Aside.{cause_around, faults_alike, files_alike, have_alike, merges_alike}
+use Rattle.csv_program.proofs.Named.{final_named}
 use Rattle.csv_program.proofs.StillThere.{others_around, tells_around}
 use Rattle.csv_program.proofs.pool.merge_aside.Goals as goal
 
@@ -37,6 +39,9 @@ returns-clause-later g c =
     let given = faults_alike faults c.swap_consumers.new.posts c.run_final-answer.new.shelf c.swap_consumers.ensures.disks place in
     let later = c.run_final-answer.ensures.shelf.later place in
     omega (arith, taken, given, later)
+
+pub returns-clause-named : goal.returns-clause-named
+returns-clause-named g c = final_named (Option Run) (λ disk. disk) (post_files g.D.Disk.files c.take_consumers.new.posts) c.args.runs.items c.run_final-answer.result c.run_final-answer.ensures.damaged
 
 pub returns-clause-cause : goal.returns-clause-cause
 returns-clause-cause g c =
