@@ -18,7 +18,7 @@ use Rattle.task_runner.specs.declared.work_fault.WorkFault.{WorkFault}
 use Rattle.task_runner.specs.declared.work_fault.WorkFault.TheVariants.{NoRoom, DiskFault, Damaged, NoMemory}
 use Rattle.task_runner.proofs.BegunTasks.{does_more, does_none, does_same, parts_rise}
 use Rattle.task_runner.proofs.FedOn.{feeds_more, feeds_none, keeps_self, keeps_trans}
-use Rattle.task_runner.proofs.KeptRuns.{made_more, made_none, rows_kept, tell_more, tell_none}
+use Rattle.task_runner.proofs.KeptRuns.{made_more, made_none, only_more, only_none, rows_kept, tell_more, tell_none}
 
 sees_self : (worker : PassState) → SeesMore worker worker
 sees_self worker = record { lock_is = refl; number_is = refl; speaks_is = refl; spare_is = refl; begins = prefix_self worker.seen }
@@ -59,6 +59,7 @@ first_none plan parts workers start free = record {
   within = λ k below. absurd (omega arith);
   tells = λ rows hold. tell_none start.files (kind_at plan 0) plan workers start.worker.number rows;
   made = made_none start.files;
+  only = only_none start.files;
   fed = feeds_none start.states (place_for (kind_at plan 0));
   works = does_none workers start.worker;
 }
@@ -84,6 +85,7 @@ first_more plan parts workers start now after answers answers' answer below firs
       tells = λ rows hold. tell_more now.files after.files (kind_at plan 0) plan workers number rows answers answer one.stays.disk.kept (first.tells rows hold) one.made
           (one.tells (rows part) (rows_kept start.files now.files (form_in plan) (run_at parts part) (rows part) first.stays.disk.kept (hold (length answers) below)));
       made = made_more start.files now.files answers answer first.stays.disk.kept first.made one.made;
+      only = only_more start.files now.files after.files answers answer first.stays.disk.kept first.only one.only;
       fed = subst (λ (n : ℕ). FeedsOne start.states after.states place (rows_to parts workers number n)) (sym count)
           (subst (FeedsOne start.states after.states place) (sym (rows_more parts workers number (length answers)))
           (feeds_more start.states now.states after.states place (rows_to parts workers number (length answers)) (run_at parts part).count first.fed one.fed));

@@ -1,5 +1,5 @@
 -- What the runs of all workers' answers are, in the order of the partitions.
-use Rattle.std.proofs.Common.{◌≡◌, ◌∙◌, ℕ, zero, suc, ◌<◌, ◌≤◌, ◌+◌, ◌%◌, ◌/◌, List, [], ◌∷◌, ◌++◌, Option, Some, None, map, refl, sym, ap, subst, arith}
+use Rattle.std.proofs.Common.{◌≡◌, ◌∙◌, ℕ, zero, suc, ◌<◌, ◌≤◌, ◌+◌, ◌%◌, ◌/◌, List, [], ◌∷◌, ◌++◌, Option, Some, None, map, refl, sym, ap, subst, inl, inr, arith}
 use Rattle.std.specs.Prelude.{IfSome}
 use Rattle.std.specs.List.{AllByRecursion, range_with_len}
 use Rattle.std.proofs.Math.Nat.{mod-lt}
@@ -11,11 +11,12 @@ use Rattle.run_file.specs.Runs.{Stands}
 use Rattle.run_file.specs.declared.run.Run.{Run}
 use Rattle.run_merge.specs.Merged.{IsFileAmong}
 use Rattle.run_merge.specs.Runs.{AreApart, HaveEntries, concatenated}
-use Rattle.run_merge.proofs.Among.{all_at, all_join, apart_join}
+use Rattle.run_merge.proofs.Among.{all_at, all_join, among_left, among_right, apart_join, is_among_one}
 use Rattle.run_merge.proofs.Rising.{all_weaker}
 use Rattle.run_merge.proofs.Ascending.{concatenated-append}
 use Rattle.run_merge.proofs.Kept.{have_join}
 use Rattle.spill_stack.specs.Writing.{WasNotThere}
+use Rattle.spill_stack.proofs.Places.{last_or_before}
 use Rattle.task_runner.specs.AllWorkers.{answers_of}
 use Rattle.task_runner.specs.Gathered.{answer_for, gathered, placed}
 use Rattle.task_runner.specs.Workers.{AnswersApart, HasAnswer, answer_at, part_at}
@@ -173,3 +174,20 @@ gathered_apart all workers (suc part) some apart =
     subst (λ (rs : List Run). AreApart (λ n. n) rs) (sym (gathered_next all workers part))
     (apart_join (λ n. n) (gathered all workers part) (placed (part % workers) (answer_for all workers part)) (gathered_apart all workers part some apart) (one_apart (part % workers) (answer_for all workers part))
     (λ disk file. new_apart all workers part disk file (answer_for all workers part) some apart refl))
+
+-- ---- each answer is among them
+
+one_among : (disk : ℕ) (answer : Option Run) (run : Run) → answer ≡ Some run → IsFileAmong (λ n. n) (placed disk answer) disk run.file
+one_among disk answer run is = subst (λ (a : Option Run). IsFileAmong (λ n. n) (placed disk a) disk run.file) (sym is) (is_among_one (λ n. n) (record run { disk = disk }) disk run.file refl refl)
+
+pub gathered_among : (all : List (List (Option Run))) (workers partitions part : ℕ) (run : Run) → part < partitions → answer_for all workers part ≡ Some run
+    → IsFileAmong (λ n. n) (gathered all workers partitions) (part % workers) run.file
+gathered_among all workers zero part run below is = absurd (omega (arith, below))
+gathered_among all workers (suc partitions) part run below is =
+    subst (λ (rs : List Run). IsFileAmong (λ n. n) rs (part % workers) run.file) (sym (gathered_next all workers partitions))
+    (elim (last_or_before part partitions (omega (arith, below))) [
+      | inl front ↦ among_left (λ n. n) (gathered all workers partitions) (placed (partitions % workers) (answer_for all workers partitions)) (part % workers) run.file
+          (gathered_among all workers partitions part run front is)
+      | inr last ↦ among_right (λ n. n) (gathered all workers partitions) (placed (partitions % workers) (answer_for all workers partitions)) (part % workers) run.file
+          (subst (λ (p : ℕ). IsFileAmong (λ n. n) (placed (p % workers) (answer_for all workers p)) (part % workers) run.file) last (one_among (part % workers) (answer_for all workers part) run is))
+    ])

@@ -1,5 +1,5 @@
 -- Runs of a disk, and what a worker's answers tell of them, while further tasks make files.
-use Rattle.std.proofs.Common.{◌≡◌, ◌≢◌, ◌∙◌, ◌∷◌, ◌++◌, ◌+◌, ◌<◌, ◌⊎◌, [], ℕ, zero, suc, List, Option, Some, None, length, take, sym, ap, subst, inl, inr, arith}
+use Rattle.std.proofs.Common.{◌≡◌, ◌≢◌, ◌∙◌, ◌∷◌, ◌++◌, ◌+◌, ◌<◌, ◌⊎◌, [], ℕ, zero, suc, List, Option, Some, None, length, take, refl, sym, ap, subst, inl, inr, arith}
 use Rattle.std.specs.Prelude.{IfSome, is_some, unwrap_or}
 use Rattle.std.specs.FinMap as map
 use Rattle.std.proofs.lemmas.Bool.{false≢true}
@@ -13,12 +13,13 @@ use Rattle.run_file.specs.declared.form.Form.{Form}
 use Rattle.run_file.specs.declared.run.Run.{Run}
 use Rattle.run_file.specs.Runs.{Stands}
 use Rattle.run_merge.specs.Runs.{HasEntries}
-use Rattle.spill_stack.specs.Disks.{KeepsFiles}
+use Rattle.spill_stack.specs.Disks.{KeepsFiles, SameAt}
 use Rattle.spill_stack.specs.Writing.{WasNotThere}
 use Rattle.spill_stack.proofs.Holding.{not_there_before}
+use Rattle.spill_stack.proofs.Sameness.{same_at_self, same_at_trans}
 use Rattle.job_plan.specs.declared.query_plan.Plan.{Plan}
-use Rattle.task_runner.specs.Parts.{HoldsRows, IsMade, entries_in}
-use Rattle.task_runner.specs.Workers.{AreMade, HasAnswer, TellParts, answer_at, part_at}
+use Rattle.task_runner.specs.Parts.{HoldsRows, IsMade, LeavesOnlyAnswer, entries_in}
+use Rattle.task_runner.specs.Workers.{AreMade, HasAnswer, LeavesOnlyAnswers, TellParts, answer_at, part_at}
 
 stands_kept : (before after : Option Files) (run : Run) (rows : List (List (List ℕ))) → KeepsFiles before after → Stands before run rows → Stands after run rows
 stands_kept None after run rows kept h = absurd h
@@ -87,6 +88,30 @@ made_more start now answers answer kept made one k = elim (where_is k (length an
   ]
 ]
 
+-- an answer's place is among them
+pub at_within : (answers : List (Option Run)) (k : ℕ) (run : Run) → answer_at answers k ≡ Some run → k < length answers
+at_within [] k run is = absurd (none_some (sym (get_or_past [] k None (omega arith)) ∙ is))
+  where
+    none_some : None ≡ Some run → ⊥
+    none_some is = absurd (cc)
+at_within (answer ∷ answers) zero run is = omega arith
+at_within (answer ∷ answers) (suc k) run is = let below = at_within answers k run is in omega (arith, below)
+
+-- ---- the other files
+
+only_by : (now after : Option Files) (answer : Option Run) (file : ℕ) → LeavesOnlyAnswer now after answer → ((run : Run) → answer ≡ Some run → run.file ≢ file) → SameAt now after file
+only_by now after None file leaves none = leaves file
+only_by now after (Some run) file leaves none = leaves file (λ same. none run refl (sym same))
+
+pub only_none : (files : Option Files) → LeavesOnlyAnswers files files []
+only_none files file none = same_at_self files file
+
+pub only_more : (start now after : Option Files) (answers : List (Option Run)) (answer : Option Run) → KeepsFiles start now → LeavesOnlyAnswers start now answers → LeavesOnlyAnswer now after answer → LeavesOnlyAnswers start after (answers ++ answer ∷ [])
+only_more start now after answers answer kept first last file none =
+    same_at_trans start now after file kept
+    (first file (λ k run is. none k run (get_or_append_left answers (answer ∷ []) None k (at_within answers k run is) ∙ is)))
+    (only_by now after answer file last (λ run is. none (length answers) run (get_or-append_seam answers answer [] None ∙ is)))
+
 -- ---- what they tell
 
 pub tell_none : (files : Option Files) (kind : Kind) (plan : Plan) (workers worker : ℕ) (rows : ℕ → List (List (List ℕ))) → TellParts files kind plan workers worker rows []
@@ -107,15 +132,6 @@ stands_apart files kind (Some run) (Some new) entries has made one other first t
     let old : run ≡ one = cc in
     let young : new ≡ other = cc in
     not_fresh files kind run (total kind entries) new.file has made.fresh (ap (λ (r : Run). r.file) old ∙ same ∙ sym (ap (λ (r : Run). r.file) young))
-
--- an answer's place is among them
-at_within : (answers : List (Option Run)) (k : ℕ) (run : Run) → answer_at answers k ≡ Some run → k < length answers
-at_within [] k run is = absurd (none_some (sym (get_or_past [] k None (omega arith)) ∙ is))
-  where
-    none_some : None ≡ Some run → ⊥
-    none_some is = absurd (cc)
-at_within (answer ∷ answers) zero run is = omega arith
-at_within (answer ∷ answers) (suc k) run is = let below = at_within answers k run is in omega (arith, below)
 
 pub tell_more : (now after : Option Files) (kind : Kind) (plan : Plan) (workers worker : ℕ) (rows : ℕ → List (List (List ℕ))) (answers : List (Option Run)) (answer : Option Run)
     → KeepsFiles now after → TellParts now kind plan workers worker rows answers → IfSome answer (IsMade now)

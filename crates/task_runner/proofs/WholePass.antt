@@ -6,10 +6,11 @@ use Rattle.std.proofs.Math.Nat.{mod-lt}
 use Rattle.std.proofs.lemmas.Bool.{cases_lt}
 use Rattle.spill_disk.specs.Files.{Files}
 use Rattle.run_file.specs.declared.run.Run.{Run}
-use Rattle.run_merge.specs.Merged.{KeepsFile}
+use Rattle.run_merge.specs.Merged.{IsFileAmong, KeepsFile}
 use Rattle.run_merge.specs.Runs.{run_at}
-use Rattle.spill_stack.specs.Disks.{KeepsFiles}
+use Rattle.spill_stack.specs.Disks.{KeepsFiles, SameAt}
 use Rattle.spill_stack.specs.Writing.{WasNotThere}
+use Rattle.spill_stack.proofs.Sameness.{same_at_self}
 use Rattle.turn_lock.specs.Passes.{LockId, PassState}
 use Rattle.memory_lock.specs.Crew.{AreWorkers}
 use Rattle.consumer_trait.specs.States.{State}
@@ -19,12 +20,13 @@ use Rattle.task_runner.specs.AllWorkers.{Finished, HoldsOwn, Reached, answers_of
 use Rattle.task_runner.specs.Consumers.{KeepsConsumers, place_for, FeedsOne}
 use Rattle.task_runner.specs.Gathered.{answer_for, gathered}
 use Rattle.task_runner.specs.Parts.{HoldsRows, IsMade, entries_in}
-use Rattle.task_runner.specs.Pass.{FeedsParts, TellAllParts}
-use Rattle.task_runner.specs.Workers.{HasAnswer, IsCount, TellParts, rows_to}
+use Rattle.task_runner.specs.Pass.{FeedsParts, LeavesOnlyRuns, TellAllParts}
+use Rattle.task_runner.specs.Workers.{HasAnswer, IsCount, TellParts, answer_at, part_at, rows_to}
 use Rattle.task_runner.specs.declared.post.Post.{Post}
-use Rattle.task_runner.proofs.Gathers.{gathered_apart, gathered_have, gathered_new, gathered_small}
+use Rattle.task_runner.proofs.Gathers.{gathered_among, gathered_apart, gathered_have, gathered_new, gathered_small}
 use Rattle.task_runner.proofs.Idle.{keeps_consumers}
-use Rattle.task_runner.proofs.OfPartitions.{part_is, task_within}
+use Rattle.task_runner.proofs.KeptRuns.{at_within}
+use Rattle.task_runner.proofs.OfPartitions.{part_is, task_of, task_within, worker_of}
 use Rattle.task_runner.proofs.Reaching.{holds_of}
 
 -- each worker answered all of its partitions
@@ -147,4 +149,31 @@ consumers_kept {D = D} {C = C} state files faults workers partitions n olds news
     elim (cases_lt w n) [
       | inl low ↦ (so_far.each w any low).consumers
       | inr high ↦ subst (λ (p : Option (Post D C)). KeepsConsumers (states_of state (slice_get posts w)) (states_of state p)) (sym (so_far.others w high)) (keeps_consumers (states_of state (slice_get posts w)))
+    ]
+
+-- ---- the other files
+
+-- an answer of a worker is among the runs
+answer_among : (workers size partitions disk k : ℕ) (all : List (List (Option Run))) (run : Run) (runs : List Run) → disk < workers → size ≡ workers → part_at workers disk k < partitions
+    → answer_at (answers_of all disk) k ≡ Some run → runs ≡ gathered all size partitions → IsFileAmong (λ n. n) runs disk run.file
+answer_among workers size partitions disk k all run runs below same within is are =
+    let part : ℕ = part_at workers disk k in
+    let worker : part % workers ≡ disk = worker_of workers disk k below in
+    let task : part / workers ≡ k = task_of workers disk k below in
+    let answer : answer_for all workers part ≡ Some run = ap (λ (w : ℕ). answer_at (answers_of all w) (part / workers)) worker ∙ ap (λ (n : ℕ). answer_at (answers_of all disk) n) task ∙ is in
+    subst (λ (rs : List Run). IsFileAmong (λ n. n) rs disk run.file) (sym (are ∙ ap (λ (n : ℕ). gathered all n partitions) same))
+    (subst (λ (d : ℕ). IsFileAmong (λ n. n) (gathered all workers partitions) d run.file) worker (gathered_among all workers partitions part run within answer))
+
+-- no file was made or changed but those of the runs
+pub only_all : {D C : Type 0} (state : C → State) (files : D → Option Files) (faults : D → ℕ) (workers size : ℕ) (plan : Plan) (parts : List Run) (lock : LockId) (olds news : List PassState) (posts posts' : List (Post D C)) (all : List (List (Option Run))) (any : PassState) (runs : List Run)
+    → size ≡ workers → AreWorkers lock workers olds → Reached state files faults workers (length parts) workers olds news posts posts' → Finished state files workers workers plan parts olds news posts posts' all
+    → runs ≡ gathered all size (length parts) → LeavesOnlyRuns (λ place. files_of files (slice_get posts place)) (λ place. files_of files (slice_get posts' place)) runs
+only_all {D = D} {C = C} state files faults workers size plan parts lock olds news posts posts' all any runs same are so_far done is disk file apart =
+    elim (cases_lt disk workers) [
+      | inl low ↦
+          let counts = counts_of state files workers workers plan parts lock olds news posts posts' all any refl are done in
+          (done.each disk any low).only file (λ k run answer called.
+          apart (subst (λ (f : ℕ). IsFileAmong (λ n. n) runs disk f) called
+          (answer_among workers size (length parts) disk k all run runs low same ((counts disk low).within k (at_within (answers_of all disk) k run answer)) answer is)))
+      | inr high ↦ subst (λ (p : Option (Post D C)). SameAt (files_of files (slice_get posts disk)) (files_of files p) file) (sym (so_far.others disk high)) (same_at_self (files_of files (slice_get posts disk)) file)
     ]

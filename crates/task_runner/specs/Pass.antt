@@ -7,9 +7,10 @@ use Rattle.aggregate.specs.Totals.{Entry, total}
 use Rattle.aggregate.specs.declared.kind.Kind.{Kind}
 use Rattle.spill_disk.specs.Files.{Files}
 use Rattle.run_file.specs.declared.run.Run.{Run}
-use Rattle.run_merge.specs.Merged.{KeepsFile}
+use Rattle.run_merge.specs.Merged.{IsFileAmong, KeepsFile}
 use Rattle.run_merge.specs.Runs.{AreApart, HaveEntries, concatenated}
 use Rattle.consumer_trait.specs.States.{State}
+use Rattle.spill_stack.specs.Disks.{SameAt}
 use Rattle.spill_stack.specs.Writing.{WasNotThere}
 use Rattle.job_plan.specs.declared.query_plan.Plan.{Plan}
 use Rattle.task_runner.specs.Consumers.{FeedsOne}
@@ -37,6 +38,11 @@ pub record TellAllParts (files : ℕ → Option Files) (kind : Kind) (plan : Pla
 -- each run is in a file that wasn't there before
 abbrev pub AreInNewFiles : (ℕ → Option Files) → List Run → Type 0
 AreInNewFiles before runs = All (λ run. WasNotThere (before run.disk) run.file) runs
+
+-- no file of a disk was made or changed but those of these runs
+abbrev pub LeavesOnlyRuns : (ℕ → Option Files) → (ℕ → Option Files) → List Run → Type 0
+LeavesOnlyRuns before after runs =
+    (disk file : ℕ) → (IsFileAmong (λ number. number) runs disk file → ⊥) → SameAt (before disk) (after disk) file
 
 -- all files that were there are as they were
 abbrev pub KeepsAll : (ℕ → Option Files) → (ℕ → Option Files) → Type 0

@@ -1,12 +1,13 @@
 -- A worker's tasks in a pass: with so many workers, those of worker `w` are for the partitions w, w + workers and so on.
 -- This project's own.
-use Rattle.std.specs.Prelude.{◌≡◌, ℕ, zero, suc, ◌+◌, ◌*◌, ◌<◌, List, [], ◌++◌, Option, Some, None, Result, Ok, Err, IfSome, length, slice_index_or, ⊤}
+use Rattle.std.specs.Prelude.{◌≡◌, ◌≢◌, ℕ, zero, suc, ◌+◌, ◌*◌, ◌<◌, List, [], ◌++◌, Option, Some, None, Result, Ok, Err, IfSome, length, slice_index_or, ⊤}
 use Rattle.aggregate.specs.Totals.{Entry, total}
 use Rattle.aggregate.specs.declared.kind.Kind.{Kind}
 use Rattle.pool_ledger.specs.declared.entry.Entry.{Entry as JournalEntry}
 use Rattle.spill_disk.specs.Files.{Files}
 use Rattle.run_file.specs.declared.run.Run.{Run}
 use Rattle.run_merge.specs.Runs.{HasEntries, run_at}
+use Rattle.spill_stack.specs.Disks.{SameAt}
 use Rattle.turn_lock.specs.Passes.{PassState}
 use Rattle.memory_lock.specs.Workers.{own_entries}
 use Rattle.job_plan.specs.declared.query_plan.Plan.{Plan}
@@ -73,6 +74,11 @@ AnswersApart answers =
 -- each answer is a run in a file that wasn't there before
 abbrev pub AreMade : Option Files → List (Option Run) → Type 0
 AreMade before answers = (k : ℕ) → IfSome (answer_at answers k) (IsMade before)
+
+-- no file was made or changed but the answers'
+abbrev pub LeavesOnlyAnswers : Option Files → Option Files → List (Option Run) → Type 0
+LeavesOnlyAnswers before after answers =
+    (file : ℕ) → ((k : ℕ) (run : Run) → answer_at answers k ≡ Some run → run.file ≢ file) → SameAt before after file
 
 -- a worker's answers tell what the rows of its partitions come to, in files of their own; and no damage is found
 pub record TellParts (files : Option Files) (kind : Kind) (plan : Plan) (workers worker : ℕ) (rows : ℕ → List (List (List ℕ))) (answers : List (Option Run)) : Type 0 where

@@ -14,7 +14,7 @@ ghost use Rattle.job_plan.specs.Plans.{form_in, kept_in, kind_at};
 ghost use Rattle.task_runner.specs.Answers.{HasCauseAmong, NamesSomePost};
 ghost use Rattle.task_runner.specs.Consumers.{HasConsumers, KeepsConsumers, place_for};
 ghost use Rattle.task_runner.specs.Parts.{HoldsRows};
-ghost use Rattle.task_runner.specs.Pass.{AreInNewFiles, FeedsParts, KeepsAll, TellAllParts, states_at};
+ghost use Rattle.task_runner.specs.Pass.{AreInNewFiles, FeedsParts, KeepsAll, LeavesOnlyRuns, TellAllParts, states_at};
 ghost use Rattle.task_runner.specs.Workers.{DoesAll, DoesSome, IfSound};
 ghost use Rattle.task_runner.specs.Works.{IfNoRoom, ShowsNoRoom};
 
@@ -63,6 +63,8 @@ pub fn run_workers<K: Disk, D: Disk, C: Consumer, B: Basis, R: Wait + Sync>(
     ensures there { IfOk result (λ runs. AreOn B.sizes.workers runs.items) }
     ensures bounded { IfOk result (λ runs. All (λ run. run.greatest ≤ 196752) runs.items) }
     ensures made { IfOk result (λ runs. AreInNewFiles (files_on (disk_at (λ post. post.disk)) D.files posts.old) runs.items) }
+    ensures only { IfOk result (λ runs. LeavesOnlyRuns (files_on (disk_at (λ post. post.disk)) D.files posts.old)
+        (files_on (disk_at (λ post. post.disk)) D.files posts.new) runs.items) }
 
     // The posts.
     ensures fed { OnOk result ((worker : ℕ) → worker < B.sizes.workers → FeedsParts (states_at C.state posts.old.items worker)

@@ -6,7 +6,7 @@ use Rattle.spill_stack.specs.Writing.{WasNotThere}
 use Rattle.task_runner.specs.AllWorkers.{files_of}
 use Rattle.task_runner.proofs.Gathers.{all_on}
 use Rattle.task_runner.proofs.Reaching.{later_of}
-use Rattle.task_runner.proofs.WholePass.{all_new, all_of, all_small, consumers_kept, counts_of, feeds_parts, keeps_all, tell_all}
+use Rattle.task_runner.proofs.WholePass.{all_new, all_of, all_small, consumers_kept, counts_of, feeds_parts, keeps_all, only_all, tell_all}
 use Rattle.task_runner.proofs.workers.run_workers.Goals as goal
 
 pub returns-in-Err-clause-consumers : goal.returns-in-Err-clause-consumers
@@ -55,6 +55,12 @@ returns-in-Ok-gather-clause-made g c =
     all_of (λ run. WasNotThere (files_of g.D.Disk.files (slice_get c.args.posts.now.items run.disk)) run.file) c.in-Ok-gather.runs.items
     (all_new g.C.Consumer.state g.D.Disk.files g.B.Basis.sizes.workers (length c.in-Ok.all.items) c.args.plan.now c.args.parts.now c.args.workers.now.items c.run_each.new.workers.items c.args.posts.now.items c.run_each.new.posts.items
     (map (λ answers. answers.items) c.in-Ok.all.items) (new_worker c.args.manager.now 0 0) c.in-Ok-gather.runs.items c.requires.some size c.in-Ok.ensures.finished c.in-Ok-gather.ensures)
+
+pub returns-in-Ok-gather-clause-only : goal.returns-in-Ok-gather-clause-only
+returns-in-Ok-gather-clause-only g c =
+    let size : length c.in-Ok.all.items ≡ g.B.Basis.sizes.workers = omega (arith, length-map c.in-Ok.all.items (λ answers. answers.items), c.in-Ok.ensures.finished.count) in
+    only_all g.C.Consumer.state g.D.Disk.files g.D.Disk.faults g.B.Basis.sizes.workers (length c.in-Ok.all.items) c.args.plan.now c.args.parts.now c.args.manager.now c.args.workers.now.items c.run_each.new.workers.items c.args.posts.now.items c.run_each.new.posts.items
+    (map (λ answers. answers.items) c.in-Ok.all.items) (new_worker c.args.manager.now 0 0) c.in-Ok-gather.runs.items size c.requires.workers c.run_each.ensures.reached c.in-Ok.ensures.finished c.in-Ok-gather.ensures
 
 pub returns-in-Ok-gather-clause-fed : goal.returns-in-Ok-gather-clause-fed
 returns-in-Ok-gather-clause-fed g c =
