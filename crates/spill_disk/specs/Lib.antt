@@ -1,5 +1,6 @@
 pub mod Files
 pub mod Kept
+pub mod Ahead
 pub mod Memory
 pub mod Folder
 pub mod Shelves

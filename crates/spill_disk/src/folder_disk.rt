@@ -1,11 +1,14 @@
 //! A disk in a folder, which tells nothing.
 
-ghost use Rattle.std.specs.Prelude.{◌≡◌, ◌<◌, ◌≤◌, ◌+◌, None, length, vec_len, IfOk, OnOk};
+ghost use Rattle.std.specs.Prelude.{◌≡◌, ◌≢◌, ◌<◌, ◌≤◌, ◌+◌, ℕ, [], None, Some, nat_eq, length, IfOk, OnOk, OnErr};
+ghost use Rattle.indexmap.specs.IndexMap.{get, spare, Updates};
 ghost use Rattle.fault_count.specs.Faults.{HasCauseAt};
-ghost use Rattle.spill_disk.specs.Folder.{folder_faults, folder_next};
+ghost use Rattle.spill_disk.specs.Ahead.{Covers};
+ghost use Rattle.spill_disk.specs.Folder.{folder_faults, folder_next, open_of, collected_of, collected_in, collected_with, IsNew, HoldsOthers, Gives, GivesAgain, StaysOpen};
 
 use crate::opened::Opened;
 use crate::{Disk, DiskError};
+use indexmap::IndexMap;
 use std::alloc::{AllocError, Global};
 use std::fs;
 use std::fs::File;
@@ -18,6 +21,9 @@ const OPEN_FILES: usize = 32;
 /// A disk whose files lie in a folder under their numbers. It makes the folder at the first `create`,
 /// and removes nothing that it did not make. It keeps some files open, collects small appends and
 /// reads ahead; what is collected is on a file before it is read and before the disk is dropped.
+///
+/// No contract sees the bytes of a file. What one sees is what the disk has in memory: which files
+/// are open, what is collected for each, and what was read ahead.
 #[derive(Drop)]
 pub struct FolderDisk<R: Files + Drop> {
     rt: R,
@@ -25,7 +31,7 @@ pub struct FolderDisk<R: Files + Drop> {
     folder: String,
     is_made: bool,
     next: u64,
-    kept: Vec<Opened<R::File>>,
+    kept: IndexMap<u64, Opened<R::File>>,
     faults: u64,
 }
 
@@ -34,6 +40,7 @@ impl<R: Files + Drop> FolderDisk<R> {
     pub fn new(rt: R, folder: String) -> FolderDisk<R>
         ensures next { folder_next result ≡ 0 }
         ensures faults { folder_faults result ≡ 0 }
+        ensures closed { (file : ℕ) → open_of result file ≡ None }
     {
         let alloc = *folder.allocator();
         FolderDisk {
@@ -42,7 +49,7 @@ impl<R: Files + Drop> FolderDisk<R> {
             folder,
             is_made: false,
             next: 0,
-            kept: Vec::new(alloc),
+            kept: IndexMap::new(alloc),
             faults: 0,
         }
     }
@@ -51,11 +58,21 @@ impl<R: Files + Drop> FolderDisk<R> {
 impl<R: Files + Drop> Disk for FolderDisk<R> {
     ghost files = { λ _. None };
 
-    ghost faults = { λ disk. disk.faults };
+    ghost faults = { folder_faults };
 
-    ghost next_number = { λ disk. disk.next };
+    ghost next_number = { folder_next };
 
-    fn create(&mut self) -> Result<u64, DiskError> {
+    fn create(&mut self) -> Result<u64, DiskError>
+        ensures fresh { IfOk result (λ file. folder_next self.old ≤ file) }
+        ensures given { IfOk result (λ file. file < folder_next self.new) }
+        ensures later { folder_next self.old ≤ folder_next self.new }
+        ensures cause { HasCauseAt DiskError.Failed (folder_faults self.old) (folder_faults self.new) result }
+
+        // The file is open, with nothing collected. Another one may be closed for it.
+        ensures opened { IfOk result (λ file. IsNew (open_of self.new file)) }
+        ensures others { (other : ℕ) → other ≢ folder_next self.old
+            → StaysOpen (open_of self.old other) (open_of self.new other) }
+    {
         if self.next == u64::MAX {
             return counted(&mut self.faults, Err(DiskError::Failed));
         }
@@ -74,7 +91,16 @@ impl<R: Files + Drop> Disk for FolderDisk<R> {
         counted(&mut self.faults, made)
     }
 
-    fn append(&mut self, file: u64, bytes: &[u8]) -> Result<(), DiskError> {
+    fn append(&mut self, file: u64, bytes: &[u8]) -> Result<(), DiskError>
+        ensures same { folder_next self.new ≡ folder_next self.old }
+        ensures cause { HasCauseAt DiskError.Failed (folder_faults self.old) (folder_faults self.new) result }
+
+        // Short ones are collected. Another file may be closed.
+        ensures collected { OnOk result
+            (collected_of self.new file ≡ collected_with (collected_of self.old file) bytes.now) }
+        ensures others { (other : ℕ) → other ≢ file
+            → StaysOpen (open_of self.old other) (open_of self.new other) }
+    {
         let added = append_to(
             &self.rt,
             self.alloc,
@@ -86,7 +112,21 @@ impl<R: Files + Drop> Disk for FolderDisk<R> {
         counted(&mut self.faults, added)
     }
 
-    fn read_at(&mut self, file: u64, place: u64, buf: &mut [u8]) -> Result<usize, DiskError> {
+    fn read_at(&mut self, file: u64, place: u64, buf: &mut [u8]) -> Result<usize, DiskError>
+        ensures bound { IfOk result (λ count. count ≤ length buf.old) }
+        ensures numbers { folder_next self.new ≡ folder_next self.old }
+        ensures cause { HasCauseAt DiskError.Failed (folder_faults self.old) (folder_faults self.new) result }
+
+        // What was collected is written first. A short read is given from what is ahead, which is read
+        // anew only where it hasn't all that is wanted. Another file may be closed.
+        ensures collected { OnOk result (collected_of self.new file ≡ []) }
+        ensures given { length buf.old < 65536
+            → IfOk result (Gives (open_of self.new file) place buf.old buf.new) }
+        ensures again { OnOk result
+            (GivesAgain (open_of self.old file) (open_of self.new file) place (length buf.old)) }
+        ensures others { (other : ℕ) → other ≢ file
+            → StaysOpen (open_of self.old other) (open_of self.new other) }
+    {
         let read = read_in(
             &self.rt,
             self.alloc,
@@ -99,7 +139,16 @@ impl<R: Files + Drop> Disk for FolderDisk<R> {
         counted(&mut self.faults, read)
     }
 
-    fn remove(&mut self, file: u64) -> Result<(), DiskError> {
+    fn remove(&mut self, file: u64) -> Result<(), DiskError>
+        ensures same { folder_next self.new ≡ folder_next self.old }
+        ensures cause { HasCauseAt DiskError.Failed (folder_faults self.old) (folder_faults self.new) result }
+
+        // The file is closed, and what is collected for it is forgotten. After an `Err` nothing is.
+        ensures closed { file < folder_next self.old → OnOk result (open_of self.new file ≡ None) }
+        ensures kept { OnErr result (open_of self.new file ≡ open_of self.old file) }
+        ensures others { (other : ℕ) → other ≢ file
+            → open_of self.new other ≡ open_of self.old other }
+    {
         if file >= self.next {
             return Ok(());
         }
@@ -130,121 +179,136 @@ fn path_of(alloc: Global, folder: &str, number: u64) -> Result<String, AllocErro
     format!(in alloc; "{folder}/{number}")
 }
 
+/// Makes the folder; one that is there already serves.
+fn make_folder<R: Files>(rt: &R, folder: &str) -> Result<(), DiskError> {
+    match fs::create_dir(rt, folder) {
+        Err(error) if error.kind() != ErrorKind::AlreadyExists => Err(DiskError::Failed),
+        _ => Ok(()),
+    }
+}
+
 /// Makes an empty file, and the folder before the first.
 fn make_file<R: Files + Drop>(
     rt: &R,
     alloc: Global,
     folder: &str,
     is_made: &mut bool,
-    kept: &mut Vec<Opened<R::File>>,
+    kept: &mut IndexMap<u64, Opened<R::File>>,
     number: u64,
 ) -> Result<u64, DiskError>
-    ensures { IfOk result (λ made. made ≡ number) }
+    ensures number { IfOk result (λ made. made ≡ number) }
+    ensures opened { OnOk result (IsNew (get nat_eq kept.new number)) }
+    ensures others { HoldsOthers kept.old kept.new number }
 {
     if !*is_made {
         make_folder(rt, folder)?;
         *is_made = true;
     }
+    let opened = open_file(rt, alloc, folder, true, kept, number)?;
+    keep_open(kept, number, opened);
+    Ok(number)
+}
+
+/// Opens a file that isn't open, or makes it. Where as many are open as may be, the one that was opened
+/// first is closed.
+fn open_file<R: Files + Drop>(
+    rt: &R,
+    alloc: Global,
+    folder: &str,
+    is_new: bool,
+    kept: &mut IndexMap<u64, Opened<R::File>>,
+    number: u64,
+) -> Result<Opened<R::File>, DiskError>
+    ensures opened { IfOk result (λ opened. IsNew (Some opened)) }
+    ensures room { OnOk result (0 < spare kept.new) }
+    ensures others { HoldsOthers kept.old kept.new number }
+{
     let path = path_of(alloc, folder, number)?;
     make_room(kept)?;
     let file = File::options()
         .read(true)
         .write(true)
-        .create_new(true)
+        .create_new(is_new)
         .open(rt, path.as_str())?;
-    keep_open(kept, Opened::new(alloc, number, file))?;
-    Ok(number)
+    Ok(Opened::new(alloc, file))
 }
 
-/// Makes the folder; one that is there already serves.
-fn make_folder<R: Files>(rt: &R, folder: &str) -> Result<(), DiskError> {
-    match fs::create_dir(rt, folder) {
-        Ok(()) => Ok(()),
-        Err(error) => {
-            if error.kind() == ErrorKind::AlreadyExists {
-                Ok(())
-            } else {
-                Err(DiskError::Failed)
-            }
-        }
-    }
-}
-
-/// Closes the file that was opened first, where as many are open as may be.
-fn make_room<F: Read + Write + Seek + Drop>(kept: &mut Vec<Opened<F>>) -> Result<(), DiskError> {
+/// Makes room for one more open file: closes the one that was opened first, where as many are open as
+/// may be.
+fn make_room<F: Read + Write + Seek + Drop>(
+    kept: &mut IndexMap<u64, Opened<F>>,
+) -> Result<(), DiskError>
+    ensures room { OnOk result (0 < spare kept.new) }
+    ensures all { (file : ℕ) → StaysOpen (get nat_eq kept.old file) (get nat_eq kept.new file) }
+{
     kept.reserve(1)?;
     if kept.len() >= OPEN_FILES {
-        let mut oldest = kept.remove(0);
-        oldest.flush()?;
+        if let Some((_, mut oldest)) = kept.shift_remove_index(0) {
+            oldest.flush()?;
+        }
     }
     Ok(())
 }
 
 /// Keeps an open file.
 fn keep_open<F: Read + Write + Seek + Drop>(
-    kept: &mut Vec<Opened<F>>,
-    file: Opened<F>,
-) -> Result<(), DiskError>
-    ensures { OnOk result (0 < vec_len kept.new) }
-{
-    if kept.push(file).is_err() {
-        return Err(DiskError::NoMemory);
-    }
-    Ok(())
-}
-
-/// The place of an open file, which is opened where it isn't.
-fn place_of<R: Files + Drop>(
-    rt: &R,
-    alloc: Global,
-    folder: &str,
-    kept: &mut Vec<Opened<R::File>>,
+    kept: &mut IndexMap<u64, Opened<F>>,
     number: u64,
-) -> Result<usize, DiskError>
-    ensures { IfOk result (λ place. place < vec_len kept.new) }
+    opened: Opened<F>,
+)
+    requires room { 0 < spare kept.old }
+    ensures { Updates nat_eq kept.old kept.new number (Some opened) }
 {
-    for i in 0..kept.len() {
-        if kept[i].number == number {
-            return Ok(i);
-        }
-    }
-    let path = path_of(alloc, folder, number)?;
-    make_room(kept)?;
-    let file = File::options()
-        .read(true)
-        .write(true)
-        .open(rt, path.as_str())?;
-    keep_open(kept, Opened::new(alloc, number, file))?;
-    Ok(kept.len() - 1)
+    let _ = kept.insert(number, opened);
 }
 
+/// Adds bytes at the end of a file, which is opened where it isn't.
 fn append_to<R: Files + Drop>(
     rt: &R,
     alloc: Global,
     folder: &str,
-    kept: &mut Vec<Opened<R::File>>,
+    kept: &mut IndexMap<u64, Opened<R::File>>,
     number: u64,
     bytes: &[u8],
-) -> Result<(), DiskError> {
-    let place = place_of(rt, alloc, folder, kept, number)?;
-    let file = &mut kept[place];
-    file.append(bytes)
+) -> Result<(), DiskError>
+    ensures collected { OnOk result
+        (collected_in kept.new number ≡ collected_with (collected_in kept.old number) bytes.now) }
+    ensures others { HoldsOthers kept.old kept.new number }
+{
+    if let Some(opened) = kept.get_mut(&number) {
+        return opened.append(bytes);
+    }
+    let mut opened = open_file(rt, alloc, folder, false, kept, number)?;
+    let added = opened.append(bytes);
+    keep_open(kept, number, opened);
+    added
 }
 
+/// Reads from a file, which is opened where it isn't.
 fn read_in<R: Files + Drop>(
     rt: &R,
     alloc: Global,
     folder: &str,
-    kept: &mut Vec<Opened<R::File>>,
+    kept: &mut IndexMap<u64, Opened<R::File>>,
     number: u64,
     place: u64,
     buf: &mut [u8],
 ) -> Result<usize, DiskError>
-    ensures { IfOk result (λ count. count ≤ length buf.old) }
+    ensures bound { IfOk result (λ count. count ≤ length buf.old) }
+    ensures collected { OnOk result (collected_in kept.new number ≡ []) }
+    ensures given { length buf.old < 65536
+        → IfOk result (Gives (get nat_eq kept.new number) place buf.old buf.new) }
+    ensures again { OnOk result
+        (GivesAgain (get nat_eq kept.old number) (get nat_eq kept.new number) place (length buf.old)) }
+    ensures others { HoldsOthers kept.old kept.new number }
 {
-    let at = place_of(rt, alloc, folder, kept, number)?;
-    let file = &mut kept[at];
-    file.read_at(place, buf)
+    if let Some(opened) = kept.get_mut(&number) {
+        return opened.read_at(place, buf);
+    }
+    let mut opened = open_file(rt, alloc, folder, false, kept, number)?;
+    let read = opened.read_at(place, buf);
+    keep_open(kept, number, opened);
+    read
 }
 
 /// Takes a file away; one that isn't there is no fault.
@@ -252,28 +316,21 @@ fn remove_file<R: Files + Drop>(
     rt: &R,
     alloc: Global,
     folder: &str,
-    kept: &mut Vec<Opened<R::File>>,
+    kept: &mut IndexMap<u64, Opened<R::File>>,
     number: u64,
-) -> Result<(), DiskError> {
+) -> Result<(), DiskError>
+    ensures ok { OnOk result (get nat_eq kept.new number ≡ None) }
+    ensures err { OnErr result (get nat_eq kept.new number ≡ get nat_eq kept.old number) }
+    ensures others { (other : ℕ) → other ≢ number
+        → get nat_eq kept.new other ≡ get nat_eq kept.old other }
+{
     let path = path_of(alloc, folder, number)?;
-    let mut place = kept.len();
-    for i in 0..kept.len() {
-        if kept[i].number == number {
-            place = i;
-        }
+    match fs::remove_file(rt, path.as_str()) {
+        Err(error) if error.kind() != ErrorKind::NotFound => return Err(DiskError::Failed),
+        _ => {}
     }
-    if place < kept.len() {
-        let mut file = kept.remove(place);
+    if let Some(mut file) = kept.shift_remove(&number) {
         file.forget();
     }
-    match fs::remove_file(rt, path.as_str()) {
-        Ok(()) => Ok(()),
-        Err(error) => {
-            if error.kind() == ErrorKind::NotFound {
-                Ok(())
-            } else {
-                Err(DiskError::Failed)
-            }
-        }
-    }
+    Ok(())
 }

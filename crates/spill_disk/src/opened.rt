@@ -1,9 +1,11 @@
 //! An open file of a folder disk, with what is collected for its end and what was read ahead.
 
-ghost use Rattle.std.specs.Prelude.{◌≡◌, ◌≤◌, [], length, IfOk, OnOk};
+ghost use Rattle.std.specs.Prelude.{◌≡◌, ◌≤◌, ◌<◌, ◌↔◌, [], length, IsTrue, IfOk, OnOk};
+ghost use Rattle.spill_disk.specs.Ahead.{Covers, GivesAhead};
 ghost use Rattle.spill_disk.specs.Folder.{collected_with};
 
 use crate::DiskError;
+use crate::slots::fill;
 use std::alloc::Global;
 use std::io::{Read, Seek, SeekFrom, Write};
 
@@ -13,7 +15,6 @@ pub const BUFFER_BYTES: usize = 65_536;
 /// An open file: what is collected stands behind what it has, and what was read ahead began at
 /// `ahead_at`. What is collected is written when the file is closed.
 pub struct Opened<F: Read + Write + Seek + Drop> {
-    pub number: u64,
     file: F,
     collected: Vec<u8>,
     ahead: Vec<u8>,
@@ -21,13 +22,11 @@ pub struct Opened<F: Read + Write + Seek + Drop> {
 }
 
 impl<F: Read + Write + Seek + Drop> Opened<F> {
-    pub fn new(alloc: Global, number: u64, file: F) -> Opened<F>
-        ensures number { result.number ≡ number }
+    pub fn new(alloc: Global, file: F) -> Opened<F>
         ensures collected { result.collected.items ≡ [] }
         ensures ahead { result.ahead.items ≡ [] }
     {
         Opened {
-            number,
             file,
             collected: Vec::new(alloc),
             ahead: Vec::new(alloc),
@@ -38,7 +37,6 @@ impl<F: Read + Write + Seek + Drop> Opened<F> {
     /// Writes what is collected. After an `Err` what wasn't written is lost.
     pub fn flush(&mut self) -> Result<(), DiskError>
         ensures collected { self.new.collected.items ≡ [] }
-        ensures number { self.new.number ≡ self.old.number }
         ensures ahead { self.new.ahead.items ≡ self.old.ahead.items }
         ensures ahead_at { self.new.ahead_at ≡ self.old.ahead_at }
     {
@@ -54,7 +52,8 @@ impl<F: Read + Write + Seek + Drop> Opened<F> {
     pub fn append(&mut self, bytes: &[u8]) -> Result<(), DiskError>
         ensures collected { OnOk result
             (self.new.collected.items ≡ collected_with self.old.collected.items bytes.now) }
-        ensures number { self.new.number ≡ self.old.number }
+        ensures ahead { self.new.ahead.items ≡ self.old.ahead.items }
+        ensures ahead_at { self.new.ahead_at ≡ self.old.ahead_at }
     {
         if bytes.len() >= BUFFER_BYTES || self.collected.len() >= BUFFER_BYTES - bytes.len() {
             self.flush()?;
@@ -70,7 +69,14 @@ impl<F: Read + Write + Seek + Drop> Opened<F> {
     pub fn read_at(&mut self, place: u64, buf: &mut [u8]) -> Result<usize, DiskError>
         ensures bound { IfOk result (λ count. count ≤ length buf.old) }
         ensures collected { self.new.collected.items ≡ [] }
-        ensures number { self.new.number ≡ self.old.number }
+
+        // A short read is given from what is ahead, which stays where it has all that is wanted.
+        ensures given { length buf.old < 65536 → IfOk result (λ count.
+            GivesAhead self.new.ahead_at self.new.ahead.items place buf.old buf.new count) }
+        ensures again { Covers self.old.ahead_at self.old.ahead.items place (length buf.old)
+            → self.new.ahead.items ≡ self.old.ahead.items }
+        ensures again_at { Covers self.old.ahead_at self.old.ahead.items place (length buf.old)
+            → self.new.ahead_at ≡ self.old.ahead_at }
     {
         self.flush()?;
         if buf.len() >= BUFFER_BYTES {
@@ -79,14 +85,13 @@ impl<F: Read + Write + Seek + Drop> Opened<F> {
         if !covers(&self.ahead, self.ahead_at, place, buf.len()) {
             self.read_ahead(place)?;
         }
-        Ok(copy_from(&self.ahead, self.ahead_at, place, buf))
+        Ok(fill(&self.ahead, place - self.ahead_at, buf))
     }
 
     /// Reads a buffer ahead, from a place on.
     fn read_ahead(&mut self, place: u64) -> Result<(), DiskError>
         ensures place { OnOk result (self.new.ahead_at ≡ place) }
         ensures collected { self.new.collected.items ≡ self.old.collected.items }
-        ensures number { self.new.number ≡ self.old.number }
     {
         self.ahead.resize(BUFFER_BYTES, 0)?;
         self.ahead_at = place;
@@ -105,7 +110,6 @@ impl<F: Read + Write + Seek + Drop> Opened<F> {
     /// Forgets what is collected, of a file that is taken away.
     pub fn forget(&mut self)
         ensures collected { self.new.collected.items ≡ [] }
-        ensures number { self.new.number ≡ self.old.number }
     {
         self.collected.clear();
     }
@@ -114,7 +118,6 @@ impl<F: Read + Write + Seek + Drop> Opened<F> {
 impl<F: Read + Write + Seek + Drop> Drop for Opened<F> {
     fn drop(self) {
         let Opened {
-            number: _,
             mut file,
             collected,
             ahead: _,
@@ -149,23 +152,10 @@ fn read_from<F: Read + Seek>(file: &mut F, place: u64, buf: &mut [u8]) -> Result
 }
 
 /// Whether the bytes ahead, which begin at `from`, have so many bytes at a place.
-fn covers(ahead: &[u8], from: u64, place: u64, count: usize) -> bool {
-    if place < from {
-        return false;
-    }
-    let skipped = place - from;
-    skipped <= ahead.len() as u64 && count <= ahead.len() - skipped as usize
-}
-
-/// Copies what stands ahead at a place.
-fn copy_from(ahead: &[u8], from: u64, place: u64, buf: &mut [u8]) -> usize
-    ensures { result ≤ length buf.old }
+fn covers(ahead: &[u8], from: u64, place: u64, count: usize) -> bool
+    ensures { IsTrue result ↔ Covers from ahead.now place count }
 {
-    if place < from || place - from >= ahead.len() as u64 {
-        return 0;
-    }
-    let rest = &ahead[(place - from) as usize..];
-    let count = rest.len().min(buf.len());
-    buf[..count].copy_from_slice(&rest[..count]);
-    count
+    place >= from
+        && place - from <= ahead.len() as u64
+        && count <= ahead.len() - (place - from) as usize
 }

@@ -137,6 +137,53 @@ fn a_folder_disk_gives_back_a_long_file_row_by_row_and_removes_it(
     Ok(())
 }
 
+#[test]
+fn a_folder_disk_has_more_files_than_are_kept_open(rt: HostRuntime) -> Result<(), Fail> {
+    let folder = String::from_str(rt.alloc(), "many")?;
+    let mut disk = FolderDisk::new(rt.clone()?, folder);
+    for i in 0..70u64 {
+        assert_eq!(rt; disk.create()?, i);
+        disk.append(i, &[i as u8; 2])?;
+    }
+    for i in 0..70u64 {
+        disk.append(69 - i, &[100; 1])?;
+    }
+    let mut buf = [0u8; 4];
+    for i in 0..70u64 {
+        assert_eq!(rt; disk.read_at(i, 0, &mut buf)?, 3, "file {i}");
+        assert_eq!(rt; buf.as_slice(), [i as u8, i as u8, 100, 0].as_slice());
+        buf = [0u8; 4];
+        disk.remove(i)?;
+    }
+    drop(disk);
+    fs::remove_dir(&rt, "many")?;
+    Ok(())
+}
+
+#[test]
+fn a_removal_that_fails_leaves_what_was_collected(rt: HostRuntime) -> Result<(), Fail> {
+    let folder = String::from_str(rt.alloc(), "stuck")?;
+    let mut disk = FolderDisk::new(rt.clone()?, folder);
+    let file = disk.create()?;
+    disk.append(file, b"abc")?;
+    // A folder in the file's place can't be removed as a file. The disk has the file open.
+    fs::remove_file(&rt, "stuck/0")?;
+    fs::create_dir(&rt, "stuck/0")?;
+    assert_eq!(rt; disk.remove(file), Err(DiskError::Failed));
+    let mut buf = [0u8; 4];
+    assert_eq!(rt; disk.read_at(file, 0, &mut buf)?, 3);
+    assert_eq!(rt; buf.as_slice(), b"abc\0".as_slice());
+    fs::remove_dir(&rt, "stuck/0")?;
+    assert_eq!(rt;
+        disk.remove(file),
+        Ok(()),
+        "a file that is gone is no fault"
+    );
+    drop(disk);
+    fs::remove_dir(&rt, "stuck")?;
+    Ok(())
+}
+
 /// An owner of a disk.
 #[derive(Drop)]
 struct Owner {
