@@ -35,3 +35,15 @@ state_of spiller = record {
   least = spiller.least;
   serves = is_order;
 }
+
+-- the numbers that its spills keep to: the bytes that they ask for, the entries that they write in all and on a page,
+-- and the bytes that they give back first
+pub record Told : Type 0 where
+  pub asks : ℕ
+  pub most : ℕ
+  pub part : ℕ
+  pub early : ℕ
+
+-- what it was told
+abbrev pub told_of : PartSpiller → Told
+told_of spiller = record { asks = spiller.asks; most = spiller.most; part = spiller.part; early = spiller.early }
