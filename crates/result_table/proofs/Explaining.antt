@@ -1,5 +1,5 @@
 -- Why the printing of a table ended early, from what the calls below told.
-use Rattle.std.proofs.Common.{ℕ, List, [], ◌∷◌, Option, Err}
+use Rattle.std.proofs.Common.{List, [], ◌∷◌, Option, Err}
 use Rattle.aggregate.specs.Totals.{Entry}
 use Rattle.spill_disk.specs.Files.{Files}
 use Rattle.run_file.specs.declared.run.RunFault.{RunFault}

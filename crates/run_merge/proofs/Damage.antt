@@ -1,18 +1,17 @@
 -- The runs that damage is told of: which file of which disk is one of several runs.
-use Rattle.std.proofs.Common.{◌≡◌, ◌==◌, ℕ, zero, suc, ◌<◌, Bool, true, false, List, [], ◌∷◌, ◌++◌, map, Option, None, Some, Ok, Err, refl, sym, ap, ◌∙◌, inl, inr}
-use Rattle.std.specs.Prelude.{◌⊎◌, ◌&&◌, ◌||◌, Result, slice_get}
-use Rattle.std.proofs.lemmas.Bool.{false≢true, or_parts}
+use Rattle.std.proofs.Common.{◌≡◌, ◌==◌, ℕ, zero, suc, Bool, true, false, List, [], ◌∷◌, ◌++◌, map, Option, Some, Err, refl, sym, ap, ◌∙◌, inl, inr}
+use Rattle.std.specs.Prelude.{◌⊎◌, ◌&&◌, ◌||◌, slice_get}
+use Rattle.std.proofs.lemmas.Bool.{false≢true, or_left, or_parts, or_right}
 use Rattle.std.proofs.lemmas.Bool.Decides.{eqb_tells}
 use Rattle.spill_disk.specs.Files.{Files}
 use Rattle.run_file.specs.declared.run.Run.{Run}
 use Rattle.run_file.specs.declared.run.RunFault.{RunFault}
 use Rattle.run_file.specs.declared.run.RunFault.TheVariants.{DiskFault, Damaged, NoMemory}
 use Rattle.run_file.specs.declared.run_reader.RunReader.{RunReader}
-use Rattle.run_file.specs.Causes.{NotDamaged}
 use Rattle.run_file.specs.Reading.{run_of}
 use Rattle.run_merge.specs.Causes.{IsDamageAmong, IsDamageIn, is_run, is_run_in}
 use Rattle.run_merge.specs.Merged.{IsFileAmong, IsGone}
-use Rattle.run_merge.specs.Merging.{IsDamage, TellsDamageIn}
+use Rattle.run_merge.specs.Merging.{TellsDamageIn}
 use Rattle.run_merge.proofs.Among.{among_left, among_right, is_among_one}
 
 both_true : (a b : Bool) → (a && b) ≡ true → (a ≡ true) × (b ≡ true)
@@ -58,19 +57,11 @@ in_cases xs ys disk file rows is = one_true (is_run_in xs disk file rows) (is_ru
 pub in_none : (xs ys : List Run) (disk file rows : ℕ) → is_run_in (xs ++ ys) disk file rows ≡ false → (is_run_in xs disk file rows ≡ false) × (is_run_in ys disk file rows ≡ false)
 in_none xs ys disk file rows none = or_parts (is_run_in xs disk file rows) (is_run_in ys disk file rows) (sym (run_in-append xs ys disk file rows) ∙ none)
 
-or_left_true : (a b : Bool) → a ≡ true → (a || b) ≡ true
-or_left_true true b h = refl
-or_left_true false b h = absurd (false≢true h)
-
-or_right_true : (a b : Bool) → b ≡ true → (a || b) ≡ true
-or_right_true true b h = refl
-or_right_true false b h = h
-
 pub in_front : (xs ys : List Run) (disk file rows : ℕ) → is_run_in xs disk file rows ≡ true → is_run_in (xs ++ ys) disk file rows ≡ true
-in_front xs ys disk file rows is = run_in-append xs ys disk file rows ∙ or_left_true (is_run_in xs disk file rows) (is_run_in ys disk file rows) is
+in_front xs ys disk file rows is = run_in-append xs ys disk file rows ∙ or_left (is_run_in xs disk file rows) (is_run_in ys disk file rows) is
 
 pub in_back : (xs ys : List Run) (disk file rows : ℕ) → is_run_in ys disk file rows ≡ true → is_run_in (xs ++ ys) disk file rows ≡ true
-in_back xs ys disk file rows is = run_in-append xs ys disk file rows ∙ or_right_true (is_run_in xs disk file rows) (is_run_in ys disk file rows) is
+in_back xs ys disk file rows is = run_in-append xs ys disk file rows ∙ or_right (is_run_in xs disk file rows) (is_run_in ys disk file rows) is
 
 -- a run that is one of several is in one of their files
 pub in_among : (named : ℕ → ℕ) (runs : List Run) (disk file rows : ℕ) → is_run_in runs disk file rows ≡ true → IsFileAmong named runs disk file
@@ -95,9 +86,9 @@ pub reader_in : (readers : List RunReader) (place : ℕ) (reader : RunReader) �
 reader_in [] place reader is = absurd cc
 reader_in (first ∷ readers) zero reader is =
     let same : first ≡ reader = cc is in
-    rw same (or_left_true (is_run (run_of reader) (run_of reader).disk (run_of reader).file (run_of reader).count) (is_run_in (map run_of readers) (run_of reader).disk (run_of reader).file (run_of reader).count) (is_itself (run_of reader)))
+    rw same (or_left (is_run (run_of reader) (run_of reader).disk (run_of reader).file (run_of reader).count) (is_run_in (map run_of readers) (run_of reader).disk (run_of reader).file (run_of reader).count) (is_itself (run_of reader)))
 reader_in (first ∷ readers) (suc place) reader is =
-    or_right_true (is_run (run_of first) (run_of reader).disk (run_of reader).file (run_of reader).count) (is_run_in (map run_of readers) (run_of reader).disk (run_of reader).file (run_of reader).count) (reader_in readers place reader is)
+    or_right (is_run (run_of first) (run_of reader).disk (run_of reader).file (run_of reader).count) (is_run_in (map run_of readers) (run_of reader).disk (run_of reader).file (run_of reader).count) (reader_in readers place reader is)
 
 -- ---- damage that is told
 
@@ -112,12 +103,6 @@ pub damage_more : (T U : Type 0) (runs all : List Run) (fault : RunFault) → ((
 damage_more T U runs all (DiskFault disk) more told = tt
 damage_more T U runs all (Damaged disk file kept found) more told = (more disk file kept told.0, told.1)
 damage_more T U runs all NoMemory more told = tt
-
-pub sound_in : {T : Type 0} (runs : List Run) (r : Result T RunFault) → NotDamaged r → IsDamageIn runs r
-sound_in runs (Ok x) sound = tt
-sound_in runs (Err (DiskFault disk)) sound = tt
-sound_in runs (Err (Damaged disk file kept found)) sound = absurd sound
-sound_in runs (Err NoMemory) sound = tt
 
 -- damage of the runs themselves
 pub damage_first : (T U : Type 0) (named : ℕ → ℕ) (before : ℕ → Option Files) (runs : List Run) (to : ℕ) (fault : RunFault) → IsDamageIn {T = T} runs (Err fault) → IsDamageAmong {T = U} named before runs to (Err fault)

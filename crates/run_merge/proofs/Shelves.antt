@@ -1,16 +1,13 @@
 -- Calls on a shelf one after another: what they keep, and why they gave up.
 use Rattle.std.proofs.Common.{◌≡◌, ℕ, ◌≤◌, Option, Ok, Err, refl, sym, ap, ◌∙◌, arith}
-use Rattle.std.specs.Prelude.{Bool, Result, OnOk, is_some}
+use Rattle.std.specs.Prelude.{Result, OnOk, is_some}
 use Rattle.fault_count.specs.Faults.{Rose}
 use Rattle.spill_disk.specs.Files.{Files}
 use Rattle.run_file.specs.declared.run.RunFault.{RunFault}
 use Rattle.run_file.specs.declared.run.RunFault.TheVariants.{DiskFault, Damaged, NoMemory}
-use Rattle.run_file.specs.Causes.{NotDamaged}
 use Rattle.run_file.specs.Shelved.{LeavesFiles}
-use Rattle.run_merge.specs.declared.merge.Merge.{Merge}
 use Rattle.run_merge.specs.Causes.{HasCauseAmong}
 use Rattle.run_merge.specs.Merged.{KeepsShelf}
-use Rattle.run_merge.specs.Merging.{TellsDamage}
 use Rattle.run_merge.specs.Touching.{file_in, SameBut}
 
 pub keeps_self : {H D : Type 0} (count_of : H → ℕ) (named : H → ℕ → ℕ) (disk_of : H → ℕ → Option D) (files : D → Option Files) (faults : D → ℕ) (shelf : H) → KeepsShelf count_of named disk_of files faults shelf shelf

@@ -15,13 +15,6 @@ HasCauseAmong before now (Err (DiskFault disk)) = Rose (before disk) (now disk)
 HasCauseAmong before now (Err (Damaged disk file kept found)) = ⊤
 HasCauseAmong before now (Err NoMemory) = ⊤
 
--- damage is told of a run of which fewer rows were found than it has
-abbrev pub FindsFewer : {T : Type 0} → Result T RunFault → Type 0
-FindsFewer (Ok x) = ⊤
-FindsFewer (Err (DiskFault disk)) = ⊤
-FindsFewer (Err (Damaged disk file kept found)) = found < kept
-FindsFewer (Err NoMemory) = ⊤
-
 -- damage is told of this run, of which fewer rows were found than it has
 abbrev pub IsDamageOf : {T : Type 0} → Run → Result T RunFault → Type 0
 IsDamageOf run (Ok x) = ⊤
