@@ -158,6 +158,19 @@ fn may_run(words: &[&str]) -> bool
     }
 }
 
+// The folder's lock, where the words may be those of a run; else nothing is made.
+fn lock_for<R: Files<File = File> + AllocGlobal + Clone + Drop>(
+    rt: &R,
+    words: &[&str],
+) -> Result<Option<File>, SpillFault>
+    ensures { IfOk result (λ lock. is_some lock ≡ may_run (map (λ word. word.now) words.now)) }
+{
+    if may_run(words) {
+        return Ok(Some(take_folder(rt)?));
+    }
+    Ok(None)
+}
+
 /// Sixteen posts with disks in the folder, and a disk for copies of cached blocks. Where the words may be those of a run, the
 /// folder is made and cleared, and is this process' own until the lock is dropped; else nothing is made.
 pub fn prepare<R: Files<File = File> + AllocGlobal + Clone + Drop>(
@@ -175,11 +188,7 @@ pub fn prepare<R: Files<File = File> + AllocGlobal + Clone + Drop>(
     ensures consumers { IfOk result (λ made. All (λ post. HasConsumers (map state_in post.consumers.items)) made.0.items) }
     ensures lock { IfOk result (λ made. is_some made.2 ≡ may_run (map (λ word. word.now) words.now)) }
 {
-    let lock = if may_run(words) {
-        Some(take_folder(rt)?)
-    } else {
-        None
-    };
+    let lock = lock_for(rt, words)?;
     let posts = make_posts(rt)?;
     let store = disk_in(rt, String::from_str(rt.alloc(), "spill/store")?)?;
     Ok((posts, store, lock))
