@@ -7,6 +7,9 @@ use std::test::Fail;
 
 const MOST: u64 = 1_125_899_906_842_624;
 
+// No dataset is excepted; the blocks don't reach the need.
+const NONE: u64 = u64::MAX;
+
 #[test]
 fn the_first_blocks_that_may_go_are_chosen(rt: HostRuntime) -> Result<(), Fail> {
     let two = [block(1, 250), block(2, 200)];
@@ -20,46 +23,74 @@ fn the_first_blocks_that_may_go_are_chosen(rt: HostRuntime) -> Result<(), Fail> 
         block(3, 40),
         block(2, 50),
     ];
-    let greatest = [block(1, 1), block(2, MOST - 1)];
     let with_empty = [block(1, 0), block(2, 5), block(3, 0)];
-    for (list, need, except, answer, why) in [
-        (two.as_slice(), 1, None, Some(1), "the oldest goes first"),
-        (&two, 150, None, Some(1), "more than is needed"),
-        (&two, 250, None, Some(1), "just enough"),
-        (&two, 251, None, Some(2), "one byte more"),
-        (&two, 450, None, Some(2), "all that there is"),
-        (&two, 451, None, None, "one byte more than all"),
-        (&two, 150, Some(1), Some(2), "the first excepted"),
-        (&two, 200, Some(1), Some(2), "the second is enough"),
-        (&two, 201, Some(1), None, "the second isn't"),
-        (&two, 300, Some(1), None, "nor for this"),
-        (&two, 251, Some(2), None, "the second excepted"),
-        (&two, 450, Some(3), Some(2), "of no block here"),
-        (&first_pinned, 150, None, Some(2), "the first pinned"),
-        (&first_pinned, 201, None, None, "nor enough then"),
-        (&first_pinned, 1, Some(2), None, "pinned and excepted"),
-        (&both_pinned, 1, None, None, "all pinned"),
-        (&of_one_dataset, 1, Some(1), None, "all excepted"),
-        (&of_one_dataset, 450, Some(2), Some(2), "none excepted"),
-        (&five, 10, None, Some(1), "the first"),
-        (&five, 11, None, Some(3), "past a pinned one"),
-        (&five, 41, None, Some(4), "and one more"),
-        (&five, 130, None, Some(5), "all but the pinned"),
-        (&five, 131, None, None, "the pinned one stays"),
-        (&five, 41, Some(1), Some(5), "past four"),
-        (&five, 40, Some(1), Some(4), "past three"),
-        (&with_empty, 1, None, Some(2), "no bytes, no help"),
-        (&with_empty, 5, None, Some(2), "and none behind"),
-        (&greatest, MOST, None, Some(2), "2^50 bytes"),
-        (&greatest, MOST + 1, None, None, "one byte more"),
-        (&greatest, u64::MAX, None, None, "the greatest need"),
-        (&[], 1, None, None, "no blocks"),
+    let greatest = [block(1, 1), block(2, MOST - 1)];
+    let lists = [
+        two.as_slice(),
+        &first_pinned,
+        &both_pinned,
+        &of_one_dataset,
+        &five,
+        &with_empty,
+        &greatest,
+        &[],
+    ];
+    // the list, the need, the excepted dataset, and how far the blocks go
+    for row in [
+        // the oldest goes first; more than is needed; just enough; one byte more; all that there is; one byte more than all
+        [0, 1, NONE, 1],
+        [0, 150, NONE, 1],
+        [0, 250, NONE, 1],
+        [0, 251, NONE, 2],
+        [0, 450, NONE, 2],
+        [0, 451, NONE, NONE],
+        // the first excepted; the second is enough; the second isn't; nor for this; the second excepted; of no block here
+        [0, 150, 1, 2],
+        [0, 200, 1, 2],
+        [0, 201, 1, NONE],
+        [0, 300, 1, NONE],
+        [0, 251, 2, NONE],
+        [0, 450, 3, 2],
+        // the first pinned; nor enough then; pinned and excepted; all pinned; all excepted; none excepted
+        [1, 150, NONE, 2],
+        [1, 201, NONE, NONE],
+        [1, 1, 2, NONE],
+        [2, 1, NONE, NONE],
+        [3, 1, 1, NONE],
+        [3, 450, 2, 2],
+        // the first; past a pinned one; and one more; all but the pinned; the pinned one stays; past four; past three
+        [4, 10, NONE, 1],
+        [4, 11, NONE, 3],
+        [4, 41, NONE, 4],
+        [4, 130, NONE, 5],
+        [4, 131, NONE, NONE],
+        [4, 41, 1, 5],
+        [4, 40, 1, 4],
+        // no bytes, no help; and none behind; 2^50 bytes; one byte more; the greatest need; no blocks
+        [5, 1, NONE, 2],
+        [5, 5, NONE, 2],
+        [6, MOST, NONE, 2],
+        [6, MOST + 1, NONE, NONE],
+        [6, u64::MAX, NONE, NONE],
+        [7, 1, NONE, NONE],
     ] {
-        let bytes = bytes_of(list).ok_or("too many bytes")?;
-        assert!(rt; bytes <= MOST && need >= 1, "{why}");
-        assert_eq!(rt; victims(list, need, except), answer, "{why}");
+        let [list, need, except, answer] = row;
+        let list = lists.get(list as usize).ok_or("no such list")?;
+        assert_eq!(rt; chosen(list, need, except)?, answer, "{row:?}");
     }
     Ok(())
+}
+
+// How far the victims go, as a number.
+fn chosen(list: &[Candidate], need: u64, except: u64) -> Result<u64, Fail> {
+    let bytes = bytes_of(list).ok_or("too many bytes")?;
+    if bytes > MOST || need == 0 {
+        return Err(Fail::new("more bytes than blocks have, or no need"));
+    }
+    match victims(list, need, u32::try_from(except).ok()) {
+        Some(count) => Ok(count as u64),
+        None => Ok(NONE),
+    }
 }
 
 fn block(dataset: u32, size: u64) -> Candidate {
