@@ -1,0 +1,258 @@
+#!/usr/bin/env python3
+"""Tries the edits that the prover has to refuse: those of crates/NAME/must-fail/, which `rt ci` tries too, and those of
+tools/edits/NAME/, which only this script does. Run it at the top of the repository.
+
+    python3 tools/edits.py --look       whether each edit's old text stands where it says, once; proves nothing
+    python3 tools/edits.py NAME ..      tries the edits of these crates; CRATE/EDIT names one
+    python3 tools/edits.py              tries all
+        --jobs N    so many checks side by side: one a processor, where each has 4 GB
+        --alone     one edit a check
+
+An edit is tried on a copy of its crate, over what earlier checks kept of it in out/, so that little more is proved than the
+function that it changes. What isn't built below is built first, and a crate that was never checked is proved once.
+
+Edits of different functions are tried together. The prover names each function that it can't prove, so an edit counts as
+refused there where its own function has a goal that isn't proved. Every other one is tried alone, and is judged as `rt ci`
+judges it. At the end of each lot the crate as it is has to be proved over what the tries left, else the lot is tried anew,
+one by one. The status is 0 where all were refused, 1 where some weren't, and 2 where nothing was judged.
+"""
+import argparse
+import importlib.machinery
+import importlib.util
+import os
+import re
+import shutil
+import subprocess
+import sys
+import tempfile
+import threading
+import time
+from concurrent.futures import ThreadPoolExecutor
+
+sys.dont_write_bytecode = True
+GIGABYTES_A_CHECK = 4
+IN_A_CHECK = 6
+FUNCTION = re.compile(r'^( *)(?:pub(?:\([a-z]+\))? )?(?:const |unsafe )*fn ([a-z_0-9]+)')
+
+
+def load_rt():
+    """The toolchain's command as a module: what an edit is, and what counts as refused, is told by it alone."""
+    path = shutil.which('rt')
+    if not path:
+        sys.exit('edits: the toolchain\'s command rt is not on the path')
+    path = os.path.realpath(path)
+    loader = importlib.machinery.SourceFileLoader('rt', path)
+    module = importlib.util.module_from_spec(importlib.util.spec_from_loader('rt', loader))
+    loader.exec_module(module)
+    return module
+
+
+class Edit:
+    def __init__(self, rt, crate, path, is_gated):
+        self.crate, self.path, self.is_gated = crate, path, is_gated
+        self.name = os.path.basename(path)[:-len('.edit')]
+        self.texts, self.fault = rt.read_edit(path, crate.folder)
+        self.place = None if self.fault else place_of(crate, self.texts)
+        self.refused, self.said = False, 'not tried'
+
+    def folder(self):
+        return 'must-fail' if self.is_gated else 'tools/edits'
+
+
+def place_of(crate, texts):
+    """The file and the function in whose body the only change stands, or None."""
+    if len(texts) != 1:
+        return None
+    (path, text), = texts.items()
+    if not path.startswith('src/'):
+        return None
+    with open(f'{crate.folder}/{path}', encoding='utf-8') as file:
+        lines, others = file.read().split('\n'), text.split('\n')
+    if len(lines) != len(others):
+        return None
+    changed = [at for at, (one, other) in enumerate(zip(lines, others)) if one != other]
+    if len(changed) != 1:
+        return None
+    for at in range(changed[0], -1, -1):
+        found = FUNCTION.match(lines[at])
+        if found and at < changed[0]:
+            indent, name = found.groups()
+            opens = [row for row in range(at, changed[0]) if lines[row] == indent + '{' or row == at and lines[at].endswith(' {')]
+            ends = [row for row in range(at + 1, changed[0]) if lines[row] == indent + '}']
+            return (path, name) if opens and not ends else None
+    return None
+
+
+def apply_all(edits, folder):
+    """The changed texts of edits that stand in different functions, or None where two meet."""
+    texts = {}
+    for edit in edits:
+        (path, text), = edit.texts.items()
+        with open(f'{folder}/{path}', encoding='utf-8') as file:
+            lines = file.read().split('\n')
+        so_far = texts.setdefault(path, list(lines))
+        for at, (one, other) in enumerate(zip(lines, text.split('\n'))):
+            if one != other:
+                so_far[at] = other
+    return {path: '\n'.join(lines) for path, lines in texts.items()}
+
+
+def is_own_refusal(output, crate, place):
+    """Whether a goal of this function itself wasn't proved."""
+    path, name = place
+    module = re.sub(r'(^|/)(lib|main|mod)$', '', path[len('src/'):-len('.rt')]).replace('/', '::')
+    start = '::'.join(part for part in (crate.name, module) if part) + '::'
+    for line in output.split('\n'):
+        found = re.match(r'fn (\S+): (?:not proved|no proof)(.*)', line)
+        if found and found[1].startswith(start) and found[1].split('::')[-1] == name and 'did not prove' in found[2]:
+            return True
+    return False
+
+
+def lots_of(edits, alone):
+    """Lists of edits that are tried in one check: of different functions, six at most."""
+    lots = []
+    for edit in edits:
+        free = [lot for lot in lots if len(lot) < IN_A_CHECK and all(it.place for it in lot)
+                and edit.place not in [it.place for it in lot]]
+        if alone or not edit.place or not free:
+            lots.append([edit])
+        else:
+            free[0].append(edit)
+    return lots
+
+
+class Trial:
+    def __init__(self, rt, crate, alone):
+        self.rt, self.crate, self.alone = rt, crate, alone
+
+    def keep(self, work):
+        kept = tempfile.mkdtemp(prefix='kept-', dir=work)
+        own = f'{self.crate.folder}/out/incremental'
+        if os.path.isdir(own):
+            shutil.copytree(own, kept, dirs_exist_ok=True)
+        return kept
+
+    def one(self, edit, kept):
+        edit.refused, said = self.rt.must_fail(self.crate, edit.path, ['--jobs', '1'], kept)
+        edit.said = said.partition(': ')[2]
+
+    def together(self, lot, kept):
+        if len(lot) > 1:
+            texts = apply_all(lot, self.crate.folder)
+            ran = self.rt.checked(self.crate, texts, ['--jobs', '1', '--progress'], kept)
+            is_read = not any(self.rt.unread(line, texts) for line in ran.stdout.split('\n'))
+            for edit in lot:
+                if is_read and ran.returncode == 1 and is_own_refusal(ran.stdout, self.crate, edit.place):
+                    edit.refused, edit.said = True, 'refused in a check with others'
+        for edit in lot:
+            if not edit.refused:
+                self.one(edit, kept)
+
+    def run(self, lots):
+        """Tries lots one after another over one copy of what is kept."""
+        start = time.time()
+        with tempfile.TemporaryDirectory(prefix='edits-') as work:
+            kept = self.keep(work)
+            for lot in lots:
+                self.together(lot, kept)
+            if self.rt.checked(self.crate, {}, ['--jobs', '1'], kept).returncode:
+                for edit in [edit for lot in lots for edit in lot]:
+                    self.one(edit, None)
+        return time.time() - start
+
+
+def is_wanted(edit, names):
+    return not names or edit.crate.name in names or f'{edit.crate.name}/{edit.name}' in names
+
+
+def edits_of(rt, crates, names):
+    found = []
+    for crate in crates:
+        for folder, is_gated in ((f'{crate.folder}/must-fail', True), (f'tools/edits/{crate.name}', False)):
+            for name in sorted(os.listdir(folder)) if os.path.isdir(folder) else ():
+                if name.endswith('.edit'):
+                    found.append(Edit(rt, crate, f'{folder}/{name}', is_gated))
+    known = {crate.name for crate in crates}
+    strays = [name for name in sorted(os.listdir('tools/edits')) if name not in known] if os.path.isdir('tools/edits') else []
+    for name in strays:
+        print(f'edits: tools/edits/{name} is of no crate')
+    return [edit for edit in found if is_wanted(edit, names)], bool(strays)
+
+
+def commit():
+    ran = subprocess.run(['git', 'describe', '--always', '--dirty', '--abbrev=7'], capture_output=True, text=True, check=False)
+    return ran.stdout.strip() or 'no commit'
+
+
+def show(edits, seconds):
+    print(f'\nTried at {commit()}:\n\n| Crate | In the gate | Apart | Refused | With others | Not refused |\n|---|---|---|---|---|---|')
+    rows = []
+    for crate in dict.fromkeys(edit.crate.name for edit in edits):
+        own = [edit for edit in edits if edit.crate.name == crate]
+        rows.append([sum(it.is_gated for it in own), sum(not it.is_gated for it in own), sum(it.refused for it in own),
+                     sum('with others' in it.said for it in own), sum(not it.refused for it in own)])
+        print(f'| `{crate}` | ' + ' | '.join(str(it or '') for it in rows[-1]) + ' |')
+    print('| all | ' + ' | '.join(str(sum(column)) for column in zip(*rows)) + ' |')
+    named = [edit for edit in edits if 'only because a proof file' in edit.said]
+    for edit in named:
+        print(f'refused only since a proof file names what it takes away: {edit.crate.name}/{edit.name}')
+    for edit in edits:
+        if not edit.refused:
+            print(f'NOT REFUSED: {edit.folder()}, {edit.crate.name}/{edit.name}: {edit.said}')
+    print(f'{sum(edit.refused for edit in edits)} refused, {sum(not edit.refused for edit in edits)} not, in {seconds / 60:.0f} minutes')
+
+
+def main():
+    parser = argparse.ArgumentParser(description=__doc__, formatter_class=argparse.RawDescriptionHelpFormatter)
+    parser.add_argument('names', nargs='*')
+    parser.add_argument('--look', action='store_true')
+    parser.add_argument('--jobs', type=int)
+    parser.add_argument('--alone', action='store_true')
+    words = parser.parse_args()
+    rt = load_rt()
+    rt.rtlib.guarded()
+    crates = rt.rtlib.crates_below(os.getcwd())
+    unknown = {name.partition('/')[0] for name in words.names} - {crate.name for crate in crates}
+    if unknown or not crates:
+        sys.exit(f'edits: no such crate: {", ".join(sorted(unknown)) or "run this at the top of the repository"}')
+    edits, has_strays = edits_of(rt, crates, words.names)
+    faults = [edit for edit in edits if edit.fault]
+    for edit in faults:
+        print(f'{edit.folder()}, {edit.crate.name}/{edit.name}: {edit.fault}')
+    if words.look or faults:
+        print(f'{len(edits)} edits, {len(faults)} that can\'t be applied')
+        return 1 if faults or has_strays else 0
+
+    start, printing = time.time(), threading.Lock()
+    tasks = []
+    for crate in crates:
+        own = [edit for edit in edits if edit.crate is crate]
+        for dep in crate.below() if own else ():
+            if dep.build_rlib(['--jobs', '1'], anew=False):
+                print(f'edits: the library {dep.name} is not proved')
+                return 2
+        lots = lots_of(own, words.alone)
+        # Each lane takes a copy of what is kept, and ends with a check of the crate as it is.
+        lanes = min(len(lots), 1 + len(own) // 8)
+        tasks += [(crate, lots[at::lanes]) for at in range(lanes)]
+    # The dearest first: they are the uppermost.
+    tasks.reverse()
+
+    def work(task):
+        crate, lots = task
+        seconds = Trial(rt, crate, words.alone).run(lots)
+        with printing:
+            for edit in [edit for lot in lots for edit in lot]:
+                print(f'{crate.name}/{edit.name}: {edit.said[:150]}', flush=True)
+            print(f'{crate.name}: {sum(len(lot) for lot in lots)} edits in {seconds:.0f} s', flush=True)
+
+    memory = rt.free() // (GIGABYTES_A_CHECK * 10 ** 9)
+    with ThreadPoolExecutor(words.jobs or max(1, min(rt.processors(), memory))) as pool:
+        list(pool.map(work, tasks))
+    show(edits, time.time() - start)
+    return 0 if all(edit.refused for edit in edits) and not has_strays else 1
+
+
+if __name__ == '__main__':
+    sys.exit(main())
