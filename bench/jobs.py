@@ -143,7 +143,7 @@ def main():
     folder = os.path.join(given.dir, "work")
     os.makedirs(folder, exist_ok=True)
 
-    subprocess.run([os.path.join(TOP, "luvenashil"), "run", "group a: count"], input=b"a\n", cwd=folder, stdout=subprocess.DEVNULL, check=True)
+    subprocess.run([os.path.join(TOP, "luvenashil"), "build"], check=True)
     differ = False
     for rows in given.rows:
         for job in given.jobs:
