@@ -4,4 +4,3 @@ pub mod Grouping
 pub mod Charging
 pub mod Moving
 pub mod Pages
-pub mod Fed

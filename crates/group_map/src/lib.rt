@@ -4,7 +4,5 @@
 mod filling;
 mod map;
 mod pairs;
-#[cfg(test)]
-mod tests;
 
 pub use map::GroupMap;

@@ -1,0 +1,147 @@
+//! Maps that are fed and spilled by hand.
+
+use crate::tests::steps::{Step, count_right, groups_of};
+use crate::tests::task::Task;
+use aggregate::Agg;
+use consumer_trait::Fed;
+use group_map::GroupMap;
+use std::alloc::Global;
+use std::test::Fail;
+
+/// How many of these steps of a map that was begun with these aggregates come as they have to.
+fn count_steps(alloc: Global, aggs: &[Agg], steps: &[Step]) -> Result<usize, Fail> {
+    let task = Task::begun(alloc, GroupMap::new(alloc), groups_of(alloc, aggs)?)?;
+    count_right(alloc, task, steps)
+}
+
+#[test]
+fn a_known_key_costs_nothing(rt: HostRuntime) -> Result<(), Fail> {
+    let steps: &[Step] = &[
+        Step::Grant(200),
+        Step::Count(b'a', 1, Fed::Taken),
+        Step::Count(b'a', 1, Fed::Taken),
+        // It costs 152, and one entry of 49 leaves 151.
+        Step::Count(
+            b'b',
+            104,
+            Fed::Need {
+                must: 1,
+                wish: 16384,
+            },
+        ),
+        Step::Count(b'b', 103, Fed::Taken),
+        // No room is left.
+        Step::Count(b'a', 1, Fed::Taken),
+        Step::Used(200),
+    ];
+    assert_eq!(rt; count_steps(rt.alloc(), &[Agg::Count], steps)?, steps.len());
+    Ok(())
+}
+
+#[test]
+fn a_need_says_what_is_missing_and_what_is_welcome(rt: HostRuntime) -> Result<(), Fail> {
+    let steps: &[Step] = &[
+        Step::Least(1024),
+        Step::Count(
+            b'a',
+            1,
+            Fed::Need {
+                must: 49,
+                wish: 16384,
+            },
+        ),
+        Step::Count(
+            1,
+            60000,
+            Fed::Need {
+                must: 60048,
+                wish: 60048,
+            },
+        ),
+        Step::Grant(48),
+        Step::Count(
+            1,
+            60000,
+            Fed::Need {
+                must: 60000,
+                wish: 60000,
+            },
+        ),
+        Step::Count(
+            b'a',
+            1,
+            Fed::Need {
+                must: 1,
+                wish: 16384,
+            },
+        ),
+    ];
+    assert_eq!(rt; count_steps(rt.alloc(), &[Agg::Count], steps)?, steps.len());
+    Ok(())
+}
+
+#[test]
+fn rows_of_one_key_are_counted_and_summed(rt: HostRuntime) -> Result<(), Fail> {
+    let steps: &[Step] = &[
+        Step::Grant(195),
+        Step::Sum(b"b", 5, Fed::Taken),
+        Step::Sum(b"a", -7, Fed::Taken),
+        Step::Sum(b"b", 100, Fed::Taken),
+        Step::Sum(b"a", i64::MAX, Fed::Taken),
+        Step::Sum(b"c", 0, Fed::Taken),
+        Step::Sum(b"b", -105, Fed::Taken),
+        Step::Totals(&[(b"a", 2, i64::MAX - 7), (b"b", 3, 0), (b"c", 1, 0)]),
+        Step::Freed(195),
+        Step::Done,
+        Step::Holds(false),
+    ];
+    assert_eq!(rt;
+        count_steps(rt.alloc(), &[Agg::Count, Agg::Sum], steps)?,
+        steps.len()
+    );
+    Ok(())
+}
+
+#[test]
+fn a_page_takes_as_many_rows_as_it_has_room_for(rt: HostRuntime) -> Result<(), Fail> {
+    let steps: &[Step] = &[
+        Step::Grant(400000),
+        Step::Count(5, 60000, Fed::Taken),
+        Step::Count(3, 60000, Fed::Taken),
+        Step::Count(1, 60000, Fed::Taken),
+        Step::Count(4, 60000, Fed::Taken),
+        Step::Count(2, 60000, Fed::Taken),
+        Step::Rows(4),
+        Step::Rows(1),
+        Step::Freed(400000),
+        Step::Done,
+        // There is nothing.
+        Step::Done,
+    ];
+    assert_eq!(rt; count_steps(rt.alloc(), &[Agg::Count], steps)?, steps.len());
+    Ok(())
+}
+
+#[test]
+fn a_reset_amid_a_spill_leaves_nothing(rt: HostRuntime) -> Result<(), Fail> {
+    let steps: &[Step] = &[
+        Step::Grant(400000),
+        Step::Count(5, 60000, Fed::Taken),
+        Step::Count(3, 60000, Fed::Taken),
+        Step::Count(1, 60000, Fed::Taken),
+        Step::Count(4, 60000, Fed::Taken),
+        Step::Count(2, 60000, Fed::Taken),
+        Step::Rows(4),
+        Step::Holds(true),
+        // It serves groups alone.
+        Step::ServesOrders(false),
+        Step::Groups(&[Agg::Count, Agg::Sum]),
+        Step::Grant(65),
+        Step::Sum(b"x", 7, Fed::Taken),
+        Step::Totals(&[(b"x", 1, 7)]),
+        Step::Freed(65),
+        Step::Done,
+    ];
+    assert_eq!(rt; count_steps(rt.alloc(), &[Agg::Count], steps)?, steps.len());
+    Ok(())
+}
