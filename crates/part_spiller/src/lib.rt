@@ -4,8 +4,6 @@
 mod front;
 mod row;
 mod spiller;
-#[cfg(test)]
-mod tests;
 
 pub use row::Row;
 pub use spiller::PartSpiller;

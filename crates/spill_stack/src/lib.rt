@@ -13,8 +13,6 @@ mod obtaining;
 mod spill;
 mod spills;
 mod steps;
-#[cfg(test)]
-mod tests;
 mod writing;
 
 pub use account::Account;

@@ -1,15 +1,18 @@
-// One worker alone, and its task's account.
+//! One worker alone, and its task's account.
+
 ghost use Rattle.std.specs.Prelude.{◌≡◌, [], ℕ, Some};
 ghost use Rattle.memory_lock.specs.Crew.{IsWorker};
 
-use crate::Account;
 use memory_lock::{Basis, Manager, Worker};
 use pool_ledger::Setup;
 use spill_disk::MemoryDisk;
+use spill_stack::{Account, Spills};
 use std::alloc::{AllocError, Global};
+use std::marker::Brand;
 use std::sync::Wait;
+use std::test::Fail;
 
-// A new worker's task that asks for 700 bytes and gives 40 back: what it got, and what it held at its end.
+/// A new worker's task that asks for 700 bytes and gives 40 back: what it got, and what it held at its end.
 fn use_account<B: Basis, R: Wait + Sync>(
     rt: &R,
     manager: &Manager<MemoryDisk, B>,
@@ -32,7 +35,7 @@ fn use_account<B: Basis, R: Wait + Sync>(
 }
 
 /// The same in a pool of one worker.
-pub fn use_account_alone<B: Basis, R: Wait + Sync>(
+fn use_account_alone<B: Basis, R: Wait + Sync>(
     rt: &R,
     alloc: Global,
     setup: Setup,
@@ -47,4 +50,19 @@ pub fn use_account_alone<B: Basis, R: Wait + Sync>(
         unreachable!()
     };
     use_account(rt, &manager, worker)
+}
+
+#[test]
+fn an_account_grants_and_takes_back(rt: HostRuntime) -> Result<(), Fail> {
+    let setup = Setup::of(600, 0, 1000, 0, 1)?;
+    let used = use_account_alone::<Brand, _>(&rt, rt.alloc(), setup)?;
+    assert_eq!(rt; used, (600, 560), "700 are asked, and 40 given back");
+    Ok(())
+}
+
+#[test]
+fn spills_keep_their_picks_in_order(rt: HostRuntime) -> Result<(), Fail> {
+    let spills = Spills::new(rt.alloc(), &[2, 0], 3)?;
+    assert_eq!(rt; spills.picks(), [2, 0].as_slice());
+    Ok(())
 }
