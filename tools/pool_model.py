@@ -1,12 +1,15 @@
 """A model of the pool's rules that shares nothing with the Rattle code. It computes what the scripts of
-`crates/memory_core/src/scripts.rt` are answered. Run it at the top of the repository.
+`crates/pool_tests/src/tests` are answered. Run it at the top of the repository.
 
-    python3 tools/pool_model.py check     do the scripts without blocks have the answers that the model gives?
-    python3 tools/pool_model.py table     the scripts with blocks, with answers, journals, blocks and files, as they stand there
-    python3 tools/pool_model.py faults    the script with a store disk that fails at one call, and what each call changes
+    python3 tools/pool_model.py check     do the scripts without blocks, in asks.rt, have the answers that the model gives, and
+                                          do the tables of scripts.rt and faults.rt stand there as it prints them?
+    python3 tools/pool_model.py table     scripts.rt: the scripts with blocks, with answers, journals, blocks and files
+    python3 tools/pool_model.py faults    faults.rt: the script with a store disk that fails at one call, and what each call changes
 """
 import re
 import sys
+
+TESTS = 'crates/pool_tests/src/tests'
 
 
 class Disk:
@@ -437,64 +440,68 @@ TABLES = {
 }
 
 
-def text(words, indent, width=88):
-    """Words as one Rust string literal over lines."""
+def line(words, width=96):
+    """Words as one line of a Rust text, which may be written over several."""
     lines, line = [], ''
     for word in words:
         if line and len(line) + 1 + len(word) > width:
             lines.append(line + ' \\')
-            line = word
+            line = '    ' + word
         else:
             line = f'{line} {word}' if line else word
     lines.append(line)
-    return '"' + ('\n' + ' ' * indent).join(lines) + '"'
+    return '\n'.join(lines)
 
 
-def number(n):
-    return f'{n:_}' if n >= 1000 else str(n)
+def joined(text):
+    """A Rust text as it is read: lines that end by a backslash go on in the next."""
+    return re.sub(r'\\\n\s*', '', text)
 
 
 def check():
-    source = open('crates/memory_core/src/scripts.rt').read()
-    rows = re.findall(r'\(\s*"([^"]*)",\s*([\d_]+),\s*(\d+),\s*(\d+),\s*"([^"]*)",\s*\)', source)
-    for name, maximum, storage, tasks, script in rows:
-        wanted = re.sub(r'\\\s+', '', script).split()
-        words, _ = run(int(maximum.replace('_', '')), int(storage), 16, int(tasks), script.replace('\\', ''))
-        assert words == wanted, (name, words, wanted)
-    print(len(rows), 'scripts agree')
+    with open(f'{TESTS}/asks.rt', encoding='utf-8') as file:
+        asks = file.read()
+    scripts = joined(asks[asks.index('"') + 1:asks.rindex('"')]).split('\n\n')
+    for script in scripts:
+        head, wanted = script.split('\n')
+        maximum, storage, workers, tasks, name = head.split(' ', 4)
+        words, _ = run(int(maximum), int(storage), int(workers), int(tasks), wanted)
+        assert words == wanted.split(), (name, words, wanted)
+    print(len(scripts), 'scripts agree')
+    for name, texts in ('scripts.rt', tables()), ('faults.rt', fault_tables()):
+        with open(f'{TESTS}/{name}', encoding='utf-8') as file:
+            source = file.read()
+        for text in texts:
+            assert text in source, text
+        print(len(texts), 'tables of', name, 'agree')
 
 
-def storage_script(name, maximum, storage, workers, tasks, script, indent):
-    """A script with its answers, its journal, and what is left after it, as a Rust value."""
+def storage_script(name, maximum, storage, workers, tasks, script):
+    """A script with its answers, its journal, and what is left after it, as lines of a Rust text."""
     words, model = run(maximum, storage, workers, tasks, script)
     pinned = set(model.pins.values())
     blocks = [f'{d}.{p}:{s}' + (':pinned' if (d, p) in pinned else '') for d, p, s, _ in model.blocks]
-    pad = ' ' * indent
     return '\n'.join([
-        'StorageScript {',
-        f'{pad}    name: "{name}",',
-        f'{pad}    start: Start {{',
-        f'{pad}        max: {number(maximum)},',
-        f'{pad}        storage: {number(storage)},',
-        f'{pad}        workers: {workers},',
-        f'{pad}        tasks: {tasks},',
-        f'{pad}    }},',
-        f'{pad}    script: {text(words, 4)},',
-        f'{pad}    journal: {text(model.journal, 4)},',
-        f'{pad}    blocks: {text(blocks, 4)},',
-        f'{pad}    files: ({model.disk.created}, {len(model.disk.files)}),',
-        f'{pad}}}'])
+        f'{maximum} {storage} {workers} {tasks} {name}',
+        line(words),
+        line(['journal', *model.journal]),
+        line(['blocks', *blocks]),
+        f'files {model.disk.created} {len(model.disk.files)}',
+        f'storage {model.storage_pool}'])
+
+
+def tables():
+    """Each table of scripts with blocks."""
+    rows, texts = {row[0]: row for row in SCRIPTS}, []
+    for table, (about, names) in TABLES.items():
+        scripts = '\n\n'.join(storage_script(*rows.pop(name)) for name in names)
+        texts.append(f'// Scripts with blocks: {about}.\npub const {table}: &str = "\\\n{scripts}";')
+    assert not rows
+    return texts
 
 
 def table():
-    rows = {row[0]: row for row in SCRIPTS}
-    for table, (about, names) in TABLES.items():
-        print(f'\n// Scripts with blocks: {about}.')
-        print(f'pub const {table}: [StorageScript; {len(names)}] = [')
-        for name in names:
-            print(f'    {storage_script(*rows.pop(name), 4)},')
-        print('];')
-    assert not rows
+    print('\n\n'.join(tables()))
 
 
 def fates(model):
@@ -505,26 +512,29 @@ def others(model):
     return [line for line in model.journal if not line.startswith(('evict', 'pin'))]
 
 
-def faults():
+def fault_tables():
+    """The script, and a row for each of its calls of the disk and one for none."""
     maximum, storage, workers, tasks, script = FAULTS
     words, whole = run(maximum, storage, workers, tasks, script)
-    for i, what in enumerate(whole.disk.log):
-        print('//', i, *what)
-    print('pub const FAULT_SCRIPT: StorageScript =', storage_script('a disk that fails once', *FAULTS, 0) + ';')
     copies = [i for i, word in enumerate(words) if word.endswith('=copy')]
-    print(f'pub const FAULTS: [Fault; {whole.disk.calls + 1}] = [')
+    rows = []
     for n in range(whole.disk.calls + 1):
         got, model = run(maximum, storage, workers, tasks, script, [n])
         assert others(model) == others(whole)
         assert all(a == b or a.endswith('=copy') and b == a.replace('=copy', '=miss') for a, b in zip(words, got))
         missed = [k for k, i in enumerate(copies) if got[i] != words[i]]
         gone = [k for k, (a, b) in enumerate(zip(fates(whole), fates(model))) if a != b]
-        print('    Fault {')
-        print(f'        missed: &{missed},')
-        print(f'        gone: &{gone},')
-        print(f'        files: ({model.disk.created}, {len(model.disk.files)}),')
-        print('    },')
-    print('];')
+        rows.append('; '.join(' '.join(map(str, part)) for part in [
+            ['missed', *missed], ['gone', *gone], ['files', model.disk.created, len(model.disk.files)]]))
+    return ['pub const SCRIPT: &str = "\\\n' + storage_script('a disk that fails once', *FAULTS) + '";',
+            'pub const FAULTS: &str = "\\\n' + '\n'.join(rows) + '";']
+
+
+def faults():
+    maximum, storage, workers, tasks, script = FAULTS
+    for i, what in enumerate(run(maximum, storage, workers, tasks, script)[1].disk.log):
+        print('//', i, *what)
+    print('\n\n'.join(fault_tables()))
 
 
 if __name__ == '__main__':

@@ -12,8 +12,6 @@ bytes that it got (0 but for an acquire) and what the four consumers use then, o
 import re
 import sys
 
-from pool_model import text
-
 NUMBERS = range(4)
 COST = 33  # 32, and a key of one byte with an empty value
 
@@ -313,6 +311,19 @@ def table(names):
         for name, maximum, parts, fails, script in rows:
             print('\n'.join('    ' + line for line in script_text((name, maximum, parts, fails, script))) + ',')
         print('];\n')
+
+
+def text(words, indent, width=88):
+    """Words as one Rust string literal over lines."""
+    lines, line = [], ''
+    for word in words:
+        if line and len(line) + 1 + len(word) > width:
+            lines.append(line + ' \\')
+            line = word
+        else:
+            line = f'{line} {word}' if line else word
+    lines.append(line)
+    return '"' + ('\n' + ' ' * indent).join(lines) + '"'
 
 
 def script_text(row):

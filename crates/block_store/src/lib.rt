@@ -11,6 +11,3 @@ mod store;
 
 pub use block::Block;
 pub use store::Store;
-
-#[cfg(test)]
-mod tests;

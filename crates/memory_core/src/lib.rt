@@ -6,11 +6,7 @@ mod attempted;
 mod choice;
 mod pinned;
 mod pool;
-#[cfg(test)]
-mod scripts;
 mod state;
-#[cfg(test)]
-mod tests;
 
 pub use admission::Admission;
 pub use attempted::Attempted;

@@ -2,7 +2,7 @@ use Rattle.std.proofs.Common.{◌≡◌, Some, None}
 use Rattle.std.specs.Prelude.{IfSome, IfNone}
 use Rattle.pool_ledger.specs.Blocks.{worker_pin}
 use Rattle.pool_ledger.specs.Journal.{after}
-use Rattle.memory_core.proofs.tests.pin_of_worker.Given as goal
+use Rattle.pool_tests.proofs.tests.game.pin_of_worker.Given as goal
 
 -- what was found is right for the entries so far
 abbrev pub invariant-loop-entry : goal.invariant-loop-entry

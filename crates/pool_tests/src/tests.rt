@@ -1,0 +1,9 @@
+mod asks;
+mod entries;
+mod faults;
+mod game;
+mod memory;
+mod pages;
+mod scripts;
+mod store;
+mod words;

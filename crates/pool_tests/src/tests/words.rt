@@ -1,0 +1,39 @@
+// Words of scripts.
+use std::string::String;
+use std::test::Fail;
+
+// A text before and behind the first of these characters.
+pub fn cut(text: &str, at: char) -> (&str, &str) {
+    text.split_once(at).unwrap_or((text, ""))
+}
+
+pub fn number(text: &str) -> Result<u32, Fail> {
+    Ok(text.parse()?)
+}
+
+pub fn bytes(text: &str) -> Result<u64, Fail> {
+    Ok(text.parse()?)
+}
+
+// A word, and behind it these numbers, each after a comma.
+pub fn put(text: &mut String, word: &str, numbers: &[u64]) -> Result<(), Fail> {
+    text.push_str(word)?;
+    for number in numbers {
+        text.push(',')?;
+        put_number(text, *number)?;
+    }
+    Ok(())
+}
+
+// A number behind this mark.
+pub fn put_after(text: &mut String, mark: &str, number: u64) -> Result<(), Fail> {
+    text.push_str(mark)?;
+    put_number(text, number)
+}
+
+pub fn put_number(text: &mut String, number: u64) -> Result<(), Fail> {
+    let alloc = *text.allocator();
+    let digits = format!(in alloc; "{number}")?;
+    text.push_str(digits.as_str())?;
+    Ok(())
+}
