@@ -11,6 +11,3 @@ mod shelf_calls;
 
 pub use fault::LandFault;
 pub use landing::{Landed, land};
-
-#[cfg(test)]
-mod tests;

@@ -1,0 +1,4 @@
+mod partitions;
+mod records;
+mod sinks;
+mod streams;
