@@ -4,16 +4,17 @@
     python3 tools/gate.py                     adds up tools/gate.csv beside the limit, and says which crates cost most, which
                                               pass what a new crate may cost, and which have no row
     python3 tools/gate.py measure [CRATE ..]  measures these crates, or all, and writes their rows
-    python3 tools/gate.py run                 runs `rt ci` as it is, and says what the whole run took
+    python3 tools/gate.py run                 runs `rt ci` as it is, says what the whole run took, and writes each crate's row
 
-A row is a crate's name and processor seconds, of users and of the system, with one job: `proof` is its proof from nothing,
-`tests` the check of its tests over what the proof kept, `edits` that of its must-fail edits without the proof that they begin
-with, and `count` how many edits there are. The gate proves a crate with tests a second time from nothing, and one with edits
-again: the sum has these proofs too. It hasn't what the gate takes to link and to run programs and tests.
+A row is a crate's name and processor seconds, of users and of the system: `proof` is its proof from nothing, `tests` the check
+of its tests over what the proof kept, `edits` that of its must-fail edits without the proof that they begin with, and `count`
+how many edits there are. The gate proves a crate with tests a second time from nothing, and one with edits again: the sum has
+these proofs too. It hasn't what the gate takes to link and to run programs and tests.
 
-`measure` works in a copy in a temporary folder, over the libraries that are built here, and builds there what is missing.
-Beside other work a crate costs up to a third more. The status is 0, or 1 where a row or a crate is missing, the sum passes
-the limit, or something wasn't proved.
+`run` looks at the prover's processes each second; a proof has up to four there while processors are idle. `measure` works with
+one job in a copy in a temporary folder, over the libraries that are built here, and builds there what is missing. Beside other
+work a crate costs up to a third more. The status is 0, or 1 where a row or a crate is missing, the sum passes the limit, or
+something wasn't proved.
 """
 import csv
 import os
@@ -143,6 +144,12 @@ def has_tests(folder):
     return False
 
 
+def edits_of(folder):
+    """How many edits the gate tries."""
+    folder = f'{folder}/must-fail'
+    return sum(it.endswith('.edit') for it in os.listdir(folder)) if os.path.isdir(folder) else 0
+
+
 def measure_one(name, uses, top):
     """A crate's row, or None where it isn't proved."""
     folder = f'{top}/crates/{name}'
@@ -151,11 +158,11 @@ def measure_one(name, uses, top):
             return None
     shutil.rmtree(f'{folder}/out', ignore_errors=True)
     status, proof = timed(folder, 'rt', 'check', '--jobs', '1')
-    tests = edits = count = 0
+    tests = edits = 0
+    count = edits_of(folder)
     if not status and has_tests(folder):
         status, tests = timed(folder, 'rt', 'check', '--test', '--jobs', '1')
-    if not status and os.path.isdir(f'{folder}/must-fail'):
-        count = sum(it.endswith('.edit') for it in os.listdir(f'{folder}/must-fail'))
+    if not status and count:
         status, edits = timed(top, 'rt', 'must-fail', name)
         edits = max(edits - proof, 0)
     return None if status else dict(zip(COLUMNS[1:], (round(proof), round(tests), round(edits), count)))
@@ -188,37 +195,76 @@ def measure(given):
     return 1 if failed else 0
 
 
-def resident(top):
-    """The bytes of memory that a process and all below it have, each counted whole."""
-    parents, sizes = {}, {}
-    for pid in filter(str.isdigit, os.listdir('/proc')):
-        try:
-            with open(f'/proc/{pid}/stat', encoding='utf-8', errors='replace') as file:
-                fields = file.read().rpartition(')')[2].split()
-        except OSError:
-            continue
-        parents[int(pid)], sizes[int(pid)] = int(fields[1]), int(fields[21]) * os.sysconf('SC_PAGE_SIZE')
-    found, last = {top}, set()
-    while found != last:
-        last = found
-        found = last | {it for it, parent in parents.items() if parent in last}
-    return sum(sizes.get(it, 0) for it in found)
+def kind_of(pid):
+    """The crate that a process proves, and what for, or None."""
+    try:
+        with open(f'/proc/{pid}/cmdline', encoding='utf-8', errors='replace') as file:
+            words = file.read().split('\0')
+        folder = os.path.basename(os.readlink(f'/proc/{pid}/cwd'))
+    except OSError:
+        return None
+    if '--crate-name' not in words:
+        return None
+    kind = 'edits' if folder.startswith('rt-edit-') else 'tests' if '--test' in words else 'proof'
+    return words[words.index('--crate-name') + 1], kind
+
+
+class Watch:
+    """What a process and all below it use, looked at each second."""
+
+    def __init__(self, top):
+        self.top, self.most, self.kinds, self.seconds = top, 0, {}, {}
+
+    def look(self):
+        parents, sizes = {}, {}
+        for pid in map(int, filter(str.isdigit, os.listdir('/proc'))):
+            try:
+                with open(f'/proc/{pid}/stat', encoding='utf-8', errors='replace') as file:
+                    fields = file.read().rpartition(')')[2].split()
+            except OSError:
+                continue
+            parents[pid], sizes[pid] = int(fields[1]), int(fields[21]) * os.sysconf('SC_PAGE_SIZE')
+            # A process that isn't one of the prover's yet may become it.
+            if self.kinds.get(pid) is None:
+                self.kinds[pid] = kind_of(pid)
+            if self.kinds[pid]:
+                self.seconds[pid] = (int(fields[11]) + int(fields[12])) / os.sysconf('SC_CLK_TCK')
+        found, last = {self.top}, set()
+        while found != last:
+            last = found
+            found = last | {it for it, parent in parents.items() if parent in last}
+        self.seconds = {it: spent for it, spent in self.seconds.items() if it in found or it not in parents}
+        self.most = max(self.most, sum(sizes.get(it, 0) for it in found))
+
+    def rows(self):
+        """A row for each crate that was seen."""
+        sums = {}
+        for pid, spent in self.seconds.items():
+            crate, kind = self.kinds[pid]
+            sums.setdefault(crate, dict.fromkeys(COLUMNS[1:], 0))[kind] += spent
+        for crate, row in sums.items():
+            row['count'] = edits_of(f'crates/{crate}')
+            row['tests'] = max(row['tests'] - row['proof'], 1) if row['tests'] else 0
+            row['edits'] = max(row['edits'] - row['proof'], 1) if row['edits'] else 0
+        return {crate: {it: round(value) for it, value in row.items()} for crate, row in sums.items()}
 
 
 def run():
-    start, seen = time.monotonic(), [0]
+    start = time.monotonic()
     ran = subprocess.Popen(['rt', 'ci'], stdin=subprocess.DEVNULL)
+    watch = Watch(ran.pid)
 
-    def watch():
+    def watch_it():
         while True:
-            seen[0] = max(seen[0], resident(ran.pid))
-            time.sleep(2)
+            watch.look()
+            time.sleep(1)
 
-    threading.Thread(target=watch, daemon=True).start()
+    threading.Thread(target=watch_it, daemon=True).start()
     status, used = ended(ran)
-    most = seen[0]
     print(f'rt ci took {minutes(time.monotonic() - start)} minutes and {minutes(used.ru_utime + used.ru_stime)} processor'
-          f' minutes; the largest process had {used.ru_maxrss / 1e6:.1f} GB, all together up to {most / 1e9:.1f} GB')
+          f' minutes; the largest process had {used.ru_maxrss / 1e6:.1f} GB, all together up to {watch.most / 1e9:.1f} GB')
+    if not status:
+        write_rows(watch.rows(), crates())
     return status
 
 
