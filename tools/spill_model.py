@@ -307,7 +307,7 @@ def table(names):
         if table not in names:
             continue
         print(f'/// {about}')
-        print(f'pub const {table}: [Script; {len(rows)}] = [')
+        print(f'pub const {table}: &[Script] = &[')
         for name, maximum, parts, fails, script in rows:
             print('\n'.join('    ' + line for line in script_text((name, maximum, parts, fails, script))) + ',')
         print('];\n')
@@ -349,7 +349,7 @@ def faults():
     print('pub const FAULT_SCRIPT: Script = ' + '\n'.join(script_text(FAULT_SCRIPT)) + ';\n')
     print('/// Where call 0 fails, call 1, and so on to its last: how many steps are answered before, what the task held at its')
     print('/// end, the runs, and how many files were made.')
-    print(f'pub const FAULTS: [(usize, u64, &str, u64); {len(rows)}] = [')
+    print('pub const FAULTS: &[(usize, u64, &str, u64)] = &[')
     for row in rows:
         print('    ' + row)
     print('];')

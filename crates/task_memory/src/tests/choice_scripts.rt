@@ -3,7 +3,7 @@
 use crate::tests::scripts::Script;
 
 /// Who is chosen, where no spill asks.
-pub const CHOICES: [Script; 9] = [
+pub const CHOICES: &[Script] = &[
     Script {
         name: "the least use that is enough goes",
         max: 600,

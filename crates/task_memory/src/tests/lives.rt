@@ -10,7 +10,7 @@ pub struct Life {
 
 /// Lives that were worked out by hand. `free` gives the leasts back, `room:MUST:WISH` gets bytes beside the consumers
 /// and `give:BYTES` gives such bytes back. What is used stands by box.
-pub const LIVES: [Life; 2] = [
+pub const LIVES: &[Life] = &[
     Life {
         // The leasts of boxes 1 and 3 aren't asked for: 20 + 30 are held at first. Each entry costs 33. Consumer 1 gets
         // the 450 that are left, and frees them when 300 are asked for: consumer 0 uses 100, which isn't enough for 200.

@@ -3,7 +3,7 @@
 use crate::tests::scripts::Script;
 
 /// Spills within spills.
-pub const NESTED: [Script; 10] = [
+pub const NESTED: &[Script] = &[
     Script {
         name: "a spill asks and the one that is chosen for it does not",
         max: 600,
@@ -175,7 +175,7 @@ pub const FAULT_SCRIPT: Script = Script {
 
 /// Where call 0 fails, call 1, and so on to its last: how many steps are answered before, what the task held at its
 /// end, the runs, and how many files were made.
-pub const FAULTS: [(usize, u64, &str, u64); 13] = [
+pub const FAULTS: &[(usize, u64, &str, u64)] = &[
     (11, 600, "", 0),
     (11, 600, "", 1),
     (11, 540, "0:0:a", 1),

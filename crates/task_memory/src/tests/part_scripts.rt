@@ -3,7 +3,7 @@
 use crate::tests::scripts::Script;
 
 /// Spills that write a part of the entries, and in several pages.
-pub const PARTS: [Script; 11] = [
+pub const PARTS: &[Script] = &[
     Script {
         name: "the same consumer is chosen again",
         max: 300,

@@ -26,7 +26,7 @@ pub struct Script {
 }
 
 /// The rows that were worked out by hand, and the first of them with drains.
-pub const WORKED: [Script; 5] = [
+pub const WORKED: &[Script] = &[
     Script {
         name: "the asker spills for a spill",
         max: 600,
@@ -93,7 +93,7 @@ pub const WORKED: [Script; 5] = [
 ];
 
 /// What is granted without a spill, and what is refused.
-pub const GRANTS: [Script; 11] = [
+pub const GRANTS: &[Script] = &[
     Script {
         name: "a wish is granted whole",
         max: 600,

@@ -4,7 +4,7 @@ use crate::tests::steps::{Note, Step};
 use pool_ledger::{Entry, Event};
 use run_file::Run;
 use spill_disk::{Disk, MemoryDisk};
-use std::alloc::Global;
+use std::alloc::{AllocError, Global};
 use std::string::String;
 use std::test::Fail;
 
@@ -19,24 +19,31 @@ pub fn steps_of(alloc: Global, script: &str) -> Result<Vec<Step>, Fail> {
     Ok(steps)
 }
 
+fn number_in(text: &str) -> Result<u64, Fail> {
+    Ok(text.parse()?)
+}
+
 fn step_of(step: &str) -> Result<Step, Fail> {
     if step == "free" {
         return Ok(Step::FreeLeasts);
     }
     let (kind, rest) = step.split_once(':').ok_or("a step without a consumer")?;
     let (first, rest) = rest.split_once(':').unwrap_or((rest, ""));
+    let first = number_in(first)?;
     if kind == "give" {
-        return Ok(Step::GiveBack {
-            bytes: first.parse()?,
-        });
+        return Ok(Step::GiveBack { bytes: first });
     }
     if kind == "room" {
         return Ok(Step::Room {
-            must: first.parse()?,
-            wish: rest.parse()?,
+            must: first,
+            wish: number_in(rest)?,
         });
     }
-    let consumer: usize = first.parse()?;
+    consumer_step(kind, first as usize, rest)
+}
+
+// A step of one of the consumers.
+fn consumer_step(kind: &str, consumer: usize, rest: &str) -> Result<Step, Fail> {
     if kind == "drain" {
         return Ok(Step::Drain { consumer });
     }
@@ -50,18 +57,28 @@ fn step_of(step: &str) -> Result<Step, Fail> {
     let (must, wish) = rest.split_once(':').ok_or("an acquire without a wish")?;
     Ok(Step::Acquire {
         consumer,
-        must: must.parse()?,
-        wish: wish.parse()?,
+        must: number_in(must)?,
+        wish: number_in(wish)?,
     })
 }
 
 /// The script's steps with their answers: `=GOT/USES`, or `=no_room:ASKED`, `=disk_fault` or `=no_memory`.
 pub fn answers_of(alloc: Global, script: &str, notes: &[Note]) -> Result<String, Fail> {
     let mut answers = String::new(alloc);
+    push_answers(alloc, &mut answers, script, notes)?;
+    Ok(answers)
+}
+
+fn push_answers(
+    alloc: Global,
+    answers: &mut String,
+    script: &str,
+    notes: &[Note],
+) -> Result<(), Fail> {
     let mut count = 0usize;
     for word in script.split(' ') {
         let Some(note) = notes.get(count) else {
-            break;
+            return Ok(());
         };
         let (step, _) = word.split_once('=').unwrap_or((word, ""));
         if count > 0 {
@@ -71,7 +88,7 @@ pub fn answers_of(alloc: Global, script: &str, notes: &[Note]) -> Result<String,
         answers.push_str(answer_of(alloc, note)?.as_str())?;
         count = count.saturating_add(1);
     }
-    Ok(answers)
+    Ok(())
 }
 
 fn answer_of(alloc: Global, note: &Note) -> Result<String, Fail> {
@@ -92,18 +109,38 @@ pub fn runs_of(
 ) -> Result<String, Fail> {
     let mut text = String::new(alloc);
     for consumer in 0..4usize {
-        for (who, run) in runs {
-            if *who == consumer {
-                if !text.is_empty() {
-                    text.push(' ')?;
-                }
-                let file = run.file;
-                text.push_str(format!(in alloc; "{consumer}:{file}:")?.as_str())?;
-                push_keys(disk, run, &mut text)?;
-            }
-        }
+        push_runs(alloc, disk, runs, consumer, &mut text)?;
     }
     Ok(text)
+}
+
+// The runs of one consumer.
+fn push_runs(
+    alloc: Global,
+    disk: &mut MemoryDisk,
+    runs: &[(usize, Run)],
+    consumer: usize,
+    text: &mut String,
+) -> Result<(), Fail> {
+    for (who, run) in runs {
+        if *who == consumer {
+            let file = run.file;
+            push_word(text, format!(in alloc; "{consumer}:{file}:")?.as_str())?;
+            push_keys(disk, run, text)?;
+        }
+    }
+    Ok(())
+}
+
+// Puts a word behind a text, with a blank between them.
+fn push_word(text: &mut String, word: &str) -> Result<(), AllocError> {
+    if word.is_empty() {
+        return Ok(());
+    }
+    if !text.is_empty() {
+        text.push(' ')?;
+    }
+    text.push_str(word)
 }
 
 // The keys of a run, of rows with a key of one byte and an empty value, as they stand on the disk.
@@ -131,45 +168,52 @@ fn push_keys(disk: &mut MemoryDisk, run: &Run, text: &mut String) -> Result<(), 
 /// The script's answers where the step behind the first `answered` ones meets a fault of the disk.
 pub fn with_fault(alloc: Global, script: &str, answered: usize) -> Result<String, Fail> {
     let mut answers = String::new(alloc);
+    push_with_fault(&mut answers, script, answered)?;
+    Ok(answers)
+}
+
+fn push_with_fault(answers: &mut String, script: &str, answered: usize) -> Result<(), AllocError> {
     let mut count = 0usize;
     for word in script.split(' ') {
-        if count > 0 {
-            answers.push(' ')?;
-        }
         if count >= answered {
             let (step, _) = word.split_once('=').unwrap_or((word, ""));
-            answers.push_str(step)?;
-            answers.push_str("=disk_fault")?;
-            break;
+            push_word(answers, step)?;
+            return answers.push_str("=disk_fault");
         }
-        answers.push_str(word)?;
+        push_word(answers, word)?;
         count = count.saturating_add(1);
     }
-    Ok(answers)
+    Ok(())
 }
 
 /// What was asked of the pool and granted, as `ASKED=GOT`, and what was given back, as `-BYTES`.
 pub fn pool_of(alloc: Global, entries: &[Entry]) -> Result<String, Fail> {
     let mut text = String::new(alloc);
-    for entry in entries {
-        let step = match entry.event {
-            Event::Attempt {
-                asked,
-                got: None,
-                ..
-            } => format!(in alloc; "{asked}=wait")?,
-            Event::Attempt {
-                asked,
-                got: Some(got),
-                ..
-            } => format!(in alloc; "{asked}={got}")?,
-            Event::Release { freed, .. } if freed > 0 => format!(in alloc; "-{freed}")?,
-            _ => String::new(alloc),
-        };
-        if !text.is_empty() && !step.is_empty() {
-            text.push(' ')?;
-        }
-        text.push_str(step.as_str())?;
-    }
+    push_pool(alloc, entries, &mut text)?;
     Ok(text)
+}
+
+fn push_pool(alloc: Global, entries: &[Entry], text: &mut String) -> Result<(), AllocError> {
+    for entry in entries {
+        push_word(text, word_of(alloc, entry.event)?.as_str())?;
+    }
+    Ok(())
+}
+
+// What one entry asked, was granted or gave back; nothing of other entries.
+fn word_of(alloc: Global, event: Event) -> Result<String, AllocError> {
+    match event {
+        Event::Attempt {
+            asked,
+            got: None,
+            ..
+        } => format!(in alloc; "{asked}=wait"),
+        Event::Attempt {
+            asked,
+            got: Some(got),
+            ..
+        } => format!(in alloc; "{asked}={got}"),
+        Event::Release { freed, .. } if freed > 0 => format!(in alloc; "-{freed}"),
+        _ => Ok(String::new(alloc)),
+    }
 }

@@ -1,5 +1,5 @@
 use Rattle.std.proofs.Common.{Some, None}
-use Rattle.task_memory.proofs.tests.four_tasks_spill_in_a_pool_of_one_and_a_half.Given as goal
+use Rattle.task_memory.proofs.tests.play_shared.Given as goal
 
 -- the sizes are the setup's, each worker owns the task of its number, and no rows are given
 abbrev pub ghosts-share_four : goal.ghosts-share_four
