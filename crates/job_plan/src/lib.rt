@@ -9,8 +9,6 @@ mod making;
 mod planned;
 mod query_plan;
 mod shapes;
-#[cfg(test)]
-mod tests;
 
 pub use fault::PlanFault;
 pub use making::plan;

@@ -11,8 +11,6 @@ mod printing;
 mod reading;
 mod state;
 mod step;
-#[cfg(test)]
-mod tests;
 mod token;
 mod tokens;
 

@@ -1,0 +1,22 @@
+// Jobs read from their texts, and printed.
+ghost use Rattle.std.specs.Prelude.{◌≡◌, [], IfOk};
+ghost use Rattle.job_text.specs.Jobs.{IsJob};
+
+use job_text::{Job, JobFault, print, read};
+use std::alloc::{AllocError, Global};
+
+/// The job of a text.
+pub fn job_of(alloc: Global, text: &str) -> Result<Job, JobFault>
+    ensures job { IfOk result IsJob }
+    ensures plain { IfOk result (λ job. job.datasets ≡ []) }
+{
+    read(alloc, text)
+}
+
+/// The job's text.
+pub fn print_job(alloc: Global, job: &Job) -> Result<String, AllocError>
+    requires job { IsJob job.now }
+    requires plain { job.now.datasets ≡ [] }
+{
+    print(alloc, job)
+}
