@@ -16,6 +16,3 @@ pub use number_list::NumberList;
 pub use run::{Run, RunFault};
 pub use run_reader::RunReader;
 pub use run_writer::RunWriter;
-
-#[cfg(test)]
-mod tests;

@@ -12,8 +12,3 @@ mod shelf_calls;
 
 pub use merge::Merge;
 pub use one_run::merge_all;
-
-#[cfg(test)]
-mod tests;
-#[cfg(test)]
-mod tests_of_one_run;

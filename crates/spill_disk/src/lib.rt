@@ -14,6 +14,3 @@ pub use folder_disk::FolderDisk;
 pub use has_disk::HasDisk;
 pub use memory_disk::MemoryDisk;
 pub use shelf::{One, Shelf};
-
-#[cfg(test)]
-mod tests;

@@ -8,7 +8,7 @@ use Rattle.run_file.specs.declared.run_reader.RunReader.{RunReader}
 use Rattle.run_file.specs.Lending.{StandsAfter}
 use Rattle.run_file.specs.Reading.{IsAhead, GivesFirst}
 use Rattle.run_file.specs.Shelved.{files_on}
-use Rattle.run_file.proofs.tests.put_rows.Goals as goal
+use Rattle.file_tests.proofs.tests.runs.put_rows.Goals as goal
 
 -- the row that was lent is the first of those that were ahead, and the others are ahead
 rest_ahead : (old new : Option Files) (before after : RunReader) (given : RowView) (rows : List (List (List ℕ))) → StandsAfter old new before (Ok (Some given)) after → GivesFirst rows (Ok (Some given)) → IsAhead old before rows → (left : List (List (List ℕ))) × IsAhead new after left × (fields_in given ∷ left ≡ rows)

@@ -1,12 +1,9 @@
 use Rattle.std.proofs.Common.{◌≡◌}
 use Rattle.run_merge.specs.Merging.{left_of, runs_of}
-use Rattle.run_merge.proofs.tests.drain.Given as goal
+use Rattle.file_tests.proofs.tests.merging.drain.Given as goal
 
 abbrev pub invariant-loop-page : goal.invariant-loop-page
-invariant-loop-page g l = record {
-  runs : runs_of l.merge ≡ runs_of l.fn.merge;
-  count : g.H.Shelf.count_of l.shelf ≡ g.H.Shelf.count_of l.fn.shelf;
-}
+invariant-loop-page g l = runs_of l.merge ≡ runs_of l.fn.merge
 
 abbrev pub decreases-loop-page : goal.decreases-loop-page
 decreases-loop-page g l = left_of l.merge

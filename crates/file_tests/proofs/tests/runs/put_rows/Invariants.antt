@@ -1,7 +1,7 @@
 use Rattle.std.proofs.Common.{◌≡◌, ◌-◌, ◌<◌, ◌++◌, List, ℕ}
 use Rattle.run_file.specs.Reading.{run_of, found_of, IsAhead}
 use Rattle.run_file.specs.Shelved.{files_on}
-use Rattle.run_file.proofs.tests.put_rows.Given as goal
+use Rattle.file_tests.proofs.tests.runs.put_rows.Given as goal
 
 abbrev pub invariant-loop-row : goal.invariant-loop-row
 invariant-loop-row g l = record {

@@ -1,0 +1,13 @@
+// Disks, runs, and runs that are merged.
+mod calls;
+mod disks;
+mod entries;
+mod folders;
+mod forms;
+mod lists;
+mod merged_runs;
+mod merges;
+mod merging;
+mod owner;
+mod reading;
+mod runs;

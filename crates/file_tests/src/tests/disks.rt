@@ -1,0 +1,92 @@
+// Disks in memory, and shelves.
+use crate::tests::calls::other_answer;
+use crate::tests::owner::{Owner, add_owner};
+use spill_disk::{Disk, DiskError, MemoryDisk, One, Shelf};
+use std::alloc::Global;
+use std::test::Fail;
+
+// The first of these calls that a disk which fails at some of them answers otherwise.
+fn answered_otherwise(alloc: Global, fails: &[u64], calls: &str) -> Result<Option<String>, Fail> {
+    let mut disk = MemoryDisk::new(fails.to_vec(alloc)?);
+    let other = other_answer(alloc, &mut disk, None, calls)?;
+    if let Some(answer) = &other {
+        let answer = answer.as_str();
+        if answer == "read:0:0:8=1:d......." || answer == "read:0:0:8=0:........" {
+            // The front of an append that fails found no memory.
+            return Err(DiskError::NoMemory.into());
+        }
+    }
+    Ok(other)
+}
+
+// A file that is gone reads as empty, and one that never was is removed without a fault.
+#[test]
+fn a_disk_in_memory_answers_as_its_table_says(rt: HostRuntime) -> Result<(), Fail> {
+    let mut disk = MemoryDisk::new(Vec::new(rt.alloc()));
+    let calls = "create=0 append:abc=ok read:0:1:5=2:bc... remove:0=ok read:0:0:5=0:..... \
+        remove:7=ok";
+    assert_eq!(rt; other_answer(rt.alloc(), &mut disk, None, calls)?, None);
+    assert_eq!(rt; disk.created(), 1);
+    assert_eq!(rt; disk.create(), Ok(1), "a number isn't given out again");
+    Ok(())
+}
+
+#[test]
+fn an_append_that_fails_added_a_part_from_the_front(rt: HostRuntime) -> Result<(), Fail> {
+    let calls = "create=0 append:abc=failed append:d=ok read:0:0:8=2:ad......";
+    assert_eq!(rt; answered_otherwise(rt.alloc(), &[1], calls)?, None);
+    Ok(())
+}
+
+// None fails, and then each in turn.
+#[test]
+fn each_call_fails_alone_in_its_turn(rt: HostRuntime) -> Result<(), Fail> {
+    let all = "create=0 append:abcd=ok read:0:0:8=4:abcd.... remove:0=ok read:0:0:8=0:........";
+    assert_eq!(rt; answered_otherwise(rt.alloc(), &[], all)?, None, "none");
+    let rows = [
+        "create=failed",
+        "create=0 append:abcd=failed read:0:0:8=2:ab...... remove:0=ok read:0:0:8=0:........",
+        "create=0 append:abcd=ok read:0:0:8=failed remove:0=ok read:0:0:8=0:........",
+        "create=0 append:abcd=ok read:0:0:8=4:abcd.... remove:0=failed read:0:0:8=4:abcd....",
+    ];
+    let mut failing = 0u64;
+    for calls in rows {
+        assert_eq!(rt;
+            answered_otherwise(rt.alloc(), &[failing], calls)?,
+            None,
+            "call {failing}"
+        );
+        failing = failing.wrapping_add(1);
+    }
+    Ok(())
+}
+
+// How many files two owners' disks have, where one is made on the second.
+fn made_on_second(owners: &mut Vec<Owner>) -> Result<[u64; 2], Fail> {
+    if Shelf::count(owners) != 2 {
+        return Err("the shelf has not two disks".into());
+    }
+    Shelf::disk(owners, 1).create()?;
+    Ok([
+        Shelf::disk(owners, 0).created(),
+        Shelf::disk(owners, 1).created(),
+    ])
+}
+
+// How many files a disk has, where one is made on the shelf that it is by itself.
+fn made_on_one(alloc: Global) -> Result<u64, Fail> {
+    let mut disk = MemoryDisk::new(Vec::new(alloc));
+    let mut one = One { disk: &mut disk };
+    Shelf::disk(&mut one, 5).create()?;
+    Ok(disk.created())
+}
+
+#[test]
+fn a_shelf_lends_the_disk_of_a_number(rt: HostRuntime) -> Result<(), Fail> {
+    let mut owners = Vec::new(rt.alloc());
+    add_owner(&mut owners, MemoryDisk::new(Vec::new(rt.alloc())))?;
+    add_owner(&mut owners, MemoryDisk::new(Vec::new(rt.alloc())))?;
+    assert_eq!(rt; made_on_second(&mut owners)?, [0, 1]);
+    assert_eq!(rt; made_on_one(rt.alloc())?, 1);
+    Ok(())
+}

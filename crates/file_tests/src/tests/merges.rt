@@ -1,0 +1,187 @@
+// Runs that are read side by side.
+ghost use Rattle.std.specs.Prelude.{◌≡◌, IfOk};
+
+use crate::tests::entries::put_run;
+use crate::tests::lists::{
+    Pair, all_sorted, all_summed, group_of, lists_of, page_of, page_of_text, put_lists,
+};
+use crate::tests::merging::{drained, other_step};
+use aggregate::{Agg, Kind};
+use row_page::Page;
+use run_file::{Run, RunFault};
+use spill_disk::{Disk, MemoryDisk};
+use std::alloc::Global;
+use std::test::Fail;
+
+// All that a merge of these lists gives, as a page.
+fn merged(alloc: Global, lists: &str, kind: &Kind) -> Result<Page, Fail> {
+    let lists = lists_of(alloc, lists)?;
+    let mut disk = MemoryDisk::new(Vec::new(alloc));
+    let runs = put_lists(alloc, &mut disk, &lists, false, 0, 0)?;
+    Ok(drained(alloc, &mut disk, &runs, kind)?)
+}
+
+// The first of these steps that a merge of the lists answers otherwise.
+fn merged_otherwise(
+    alloc: Global,
+    lists: &str,
+    kind: &Kind,
+    steps: &str,
+) -> Result<Option<String>, Fail> {
+    let lists = lists_of(alloc, lists)?;
+    let mut disk = MemoryDisk::new(Vec::new(alloc));
+    let runs = put_lists(alloc, &mut disk, &lists, false, 0, 0)?;
+    other_step(alloc, &mut disk, &runs, kind, steps)
+}
+
+/// Entries whose keys ascend; each key stands there about every second time, and once where `times` is 1.
+fn some_entries(alloc: Global, seed: u64, times: u8) -> Result<Vec<Pair>, Fail> {
+    let mut entries = Vec::new(alloc);
+    let mut state = seed;
+    for place in 0..120u8 {
+        state = state
+            .wrapping_mul(6364136223846793005)
+            .wrapping_add(1442695040888963407);
+        if state >> 63 == 1 {
+            entries.push((place / times.max(1), i64::from((state >> 40) as u32)))?;
+        }
+    }
+    Ok(entries)
+}
+
+/// The lists of eight seeds.
+fn eight_lists(alloc: Global, times: u8) -> Result<Vec<Vec<Pair>>, Fail> {
+    let mut lists = Vec::new(alloc);
+    for seed in 1..9u64 {
+        lists.push(some_entries(alloc, seed, times)?)?;
+    }
+    Ok(lists)
+}
+
+/// What a merge of eight runs gives, each on a disk of another number.
+fn eight_merged(alloc: Global, lists: &Vec<Vec<Pair>>, kind: &Kind) -> Result<Page, Fail> {
+    let mut disk = MemoryDisk::new(Vec::new(alloc));
+    let runs = put_lists(alloc, &mut disk, lists, false, 1, 1)?;
+    Ok(drained(alloc, &mut disk, &runs, kind)?)
+}
+
+#[test]
+fn a_group_combines_what_both_runs_have(rt: HostRuntime) -> Result<(), Fail> {
+    let alloc = rt.alloc();
+    let steps = "advance=00000001610000001000000000000000000000000000000001 \
+        advance=00000001620000001000000000000000000000000000000001 \
+        advance=00000001630000001000000000000000000000000000000002 advance=end advance=end";
+    let other = merged_otherwise(
+        alloc,
+        "|a:1 c:1|b:1 c:1",
+        &group_of(alloc, Agg::Count)?,
+        steps,
+    )?;
+    assert_eq!(rt; other, None);
+    Ok(())
+}
+
+#[test]
+fn an_order_gives_equal_keys_in_the_order_of_the_runs(rt: HostRuntime) -> Result<(), Fail> {
+    let page = merged(rt.alloc(), "|k:1 k:2|a:3 k:4|k:5 z:6", &Kind::Order)?;
+    let wanted = page_of_text(rt.alloc(), "a:3 k:1 k:2 k:4 k:5 z:6", false)?;
+    assert_eq!(rt; page.bytes(), wanted.bytes());
+    Ok(())
+}
+
+#[test]
+fn runs_without_rows_give_nothing(rt: HostRuntime) -> Result<(), Fail> {
+    let alloc = rt.alloc();
+    let mut disk = MemoryDisk::new(Vec::new(alloc));
+    let none = other_step(alloc, &mut disk, &[], &Kind::Order, "advance=end")?;
+    assert_eq!(rt; none, None, "no run");
+    let nothing = merged_otherwise(alloc, "||", &Kind::Order, "next=end")?;
+    assert_eq!(rt; nothing, None, "two empty runs");
+    let page = merged(alloc, "||a:1|", &Kind::Order)?;
+    assert_eq!(rt; page.bytes(), page_of_text(alloc, "a:1", false)?.bytes());
+    Ok(())
+}
+
+#[test]
+fn next_lends_each_entry_and_then_none(rt: HostRuntime) -> Result<(), Fail> {
+    let alloc = rt.alloc();
+    let steps = "next=00000001610000001000000000000000000000000000000001 \
+        next=00000001630000001000000000000000000000000000000101 next=end next=end";
+    let other = merged_otherwise(alloc, "|a:1 c:258|c:-1", &group_of(alloc, Agg::Sum)?, steps)?;
+    assert_eq!(rt; other, None);
+    Ok(())
+}
+
+#[test]
+fn eight_runs_come_to_what_a_stable_sort_gives(rt: HostRuntime) -> Result<(), Fail> {
+    let lists = eight_lists(rt.alloc(), 3)?;
+    let wanted = page_of(rt.alloc(), &all_sorted(rt.alloc(), &lists)?, false)?;
+    let page = eight_merged(rt.alloc(), &lists, &Kind::Order)?;
+    assert!(rt; page.rows() > 400, "about half of 960");
+    assert_eq!(rt; page.bytes(), wanted.bytes());
+    Ok(())
+}
+
+#[test]
+fn eight_runs_come_to_what_a_map_sums(rt: HostRuntime) -> Result<(), Fail> {
+    let lists = eight_lists(rt.alloc(), 1)?;
+    let wanted = page_of(rt.alloc(), &all_summed(rt.alloc(), &lists)?, false)?;
+    let page = eight_merged(rt.alloc(), &lists, &group_of(rt.alloc(), Agg::Sum)?)?;
+    assert!(rt; page.rows() > 100, "most of 120 keys");
+    assert_eq!(rt; page.bytes(), wanted.bytes());
+    Ok(())
+}
+
+/// A run of three entries on a disk of number 7, whose file has one byte less.
+fn put_cut(alloc: Global, disk: &mut MemoryDisk) -> Result<Run, Fail>
+    ensures { IfOk result (λ run. run.disk ≡ 7) }
+{
+    let page = page_of_text(alloc, "a:1 c:1 d:1", false)?;
+    let bytes = page.bytes();
+    let file = disk.create()?;
+    disk.append(file, &bytes[..bytes.len().saturating_sub(1)])?;
+    Ok(Run {
+        disk: 7,
+        file,
+        bytes: bytes.len() as u64,
+        count: 3,
+        greatest: 49,
+    })
+}
+
+#[test]
+fn a_short_file_is_damaged_with_its_place(rt: HostRuntime) -> Result<(), Fail> {
+    let alloc = rt.alloc();
+    let mut disk = MemoryDisk::new(Vec::new(alloc));
+    let whole = put_run(&mut disk, 0, &page_of_text(alloc, "b:1", false)?)?;
+    let cut = put_cut(alloc, &mut disk)?;
+    let steps = "advance=00000001610000001000000000000000000000000000000001 \
+        advance=00000001620000001000000000000000000000000000000001 \
+        advance=00000001630000001000000000000000000000000000000001 advance=damaged:7:1:3:2";
+    let other = other_step(alloc, &mut disk, &[whole, cut], &Kind::Order, steps)?;
+    assert_eq!(rt; other, None);
+    Ok(())
+}
+
+/// How many rows two runs on the disks 3 and 5 give where this call of the disk fails, or the fault.
+fn rows_with_fault(alloc: Global, call: u64) -> Result<Result<usize, RunFault>, Fail> {
+    let mut disk = MemoryDisk::new(Vec::from_slice(alloc, &[call])?);
+    let lists = lists_of(alloc, "|a:1 c:1|b:1")?;
+    let runs = put_lists(alloc, &mut disk, &lists, false, 3, 2)?;
+    match drained(alloc, &mut disk, &runs, &Kind::Order) {
+        Ok(page) => Ok(Ok(page.rows())),
+        Err(fault) => Ok(Err(fault)),
+    }
+}
+
+// The first four calls write the runs; the merge reads each run once.
+#[test]
+fn each_call_of_a_disk_that_fails_is_a_fault_of_it(rt: HostRuntime) -> Result<(), Fail> {
+    let alloc = rt.alloc();
+    let first = RunFault::DiskFault { disk: 3 };
+    let second = RunFault::DiskFault { disk: 5 };
+    assert_eq!(rt; rows_with_fault(alloc, 4)?, Err(first));
+    assert_eq!(rt; rows_with_fault(alloc, 5)?, Err(second));
+    assert_eq!(rt; rows_with_fault(alloc, 6)?, Ok(3), "no call is left");
+    Ok(())
+}
