@@ -2,228 +2,324 @@
 use crate::{
     Agg, AggList, Key, Kind, Name, combine, finish, put_field, put_number, put_partial, take_field,
 };
+use std::alloc::Global;
+use std::process::Abort;
 use std::test::Fail;
+
+// The bytes of a text: numbers with a blank between two.
+fn bytes_of(alloc: Global, text: &str) -> Result<Vec<u8>, Fail> {
+    let mut bytes = Vec::new(alloc);
+    if text.is_empty() {
+        return Ok(bytes);
+    }
+    for word in text.split(' ') {
+        let byte: u8 = word.parse()?;
+        bytes.push(byte)?;
+    }
+    Ok(bytes)
+}
+
+// What a row asks, and what stands behind `: `.
+fn row_of(row: &str) -> Result<(&str, &str), Fail> {
+    Ok(row.split_once(": ").ok_or("a row without an answer")?)
+}
+
+// The first word, and those behind it.
+fn first_of(words: &str) -> Result<(&str, &str), Fail> {
+    Ok(words.split_once(' ').ok_or("a row with one word")?)
+}
+
+// What the rows of a table are answered.
+#[derive(Clone, Copy)]
+enum What {
+    Field,
+    Number,
+    Taken,
+    Partial,
+    Joint,
+}
+
+// What a row is answered.
+fn answer(alloc: Global, what: What, asked: &str) -> Result<String, Fail> {
+    match what {
+        What::Field => spelled(alloc, asked),
+        What::Number => spelled_number(alloc, asked),
+        What::Taken => taken(alloc, asked),
+        What::Partial => partial(alloc, asked),
+        What::Joint => joined(alloc, asked),
+    }
+}
+
+// Each row is answered as it says.
+fn assert_rows(rt: &impl Abort, alloc: Global, what: What, rows: &str) -> Result<(), Fail> {
+    for row in rows.lines() {
+        let (asked, wanted) = row_of(row)?;
+        let answer = answer(alloc, what, asked)?;
+        assert_eq!(rt; answer.as_str(), wanted, "{row}");
+    }
+    Ok(())
+}
+
+// A field's spelling behind a 7.
+fn spelled(alloc: Global, asked: &str) -> Result<String, Fail> {
+    let (way, field) = first_of(asked)?;
+    let field = bytes_of(alloc, field)?;
+    let mut key = Vec::from_slice(alloc, &[7])?;
+    put_field(&mut key, &field, way == "down")?;
+    Ok(format!(in alloc; "{key:?}")?)
+}
+
+// A field, and its spelling behind a 7 that stood there.
+const FIELDS: &str = "\
+    up 97: [7, 97, 0, 0]\n\
+    down 97: [7, 158, 255, 255]\n\
+    up : [7, 0, 0]\n\
+    down : [7, 255, 255]\n\
+    up 0: [7, 0, 1, 0, 0]\n\
+    down 0: [7, 255, 254, 255, 255]\n\
+    up 0 1: [7, 0, 1, 1, 0, 0]\n\
+    down 0 1: [7, 255, 254, 254, 255, 255]\n\
+    up 255: [7, 255, 0, 0]\n\
+    down 255: [7, 0, 255, 255]";
 
 #[test]
 fn fields_are_spelled_as_the_format_says(rt: HostRuntime) -> Result<(), Fail> {
-    for (field, down, spelling) in [
-        (b"a".as_slice(), false, [97, 0, 0].as_slice()),
-        (b"a", true, &[158, 255, 255]),
-        (b"", false, &[0, 0]),
-        (b"", true, &[255, 255]),
-        (b"\0", false, &[0, 1, 0, 0]),
-        (b"\0", true, &[255, 254, 255, 255]),
-        (b"\0\x01", false, &[0, 1, 1, 0, 0]),
-        (b"\0\x01", true, &[255, 254, 254, 255, 255]),
-        (&[255], false, &[255, 0, 0]),
-        (&[255], true, &[0, 255, 255]),
-    ] {
-        let mut key = Vec::from_slice(rt.alloc(), &[7])?;
-        put_field(&mut key, field, down)?;
-        assert_eq!(rt; key[0], 7, "what stood there is kept");
-        assert_eq!(rt; &key[1..], spelling, "{field:?} down {down}");
-    }
-    Ok(())
+    assert_rows(&rt, rt.alloc(), What::Field, FIELDS)
 }
+
+// A number's spelling behind a 7.
+fn spelled_number(alloc: Global, asked: &str) -> Result<String, Fail> {
+    let (way, number) = first_of(asked)?;
+    let mut key = Vec::from_slice(alloc, &[7])?;
+    put_number(&mut key, number.parse()?, way == "down")?;
+    Ok(format!(in alloc; "{key:?}")?)
+}
+
+// A number, and its spelling behind a 7 that stood there.
+const NUMBERS: &str = "\
+    up 75: [7, 128, 0, 0, 0, 0, 0, 0, 75]\n\
+    down 75: [7, 127, 255, 255, 255, 255, 255, 255, 180]\n\
+    up 0: [7, 128, 0, 0, 0, 0, 0, 0, 0]\n\
+    down 0: [7, 127, 255, 255, 255, 255, 255, 255, 255]\n\
+    up -1: [7, 127, 255, 255, 255, 255, 255, 255, 255]\n\
+    down -1: [7, 128, 0, 0, 0, 0, 0, 0, 0]\n\
+    up -256: [7, 127, 255, 255, 255, 255, 255, 255, 0]\n\
+    down -256: [7, 128, 0, 0, 0, 0, 0, 0, 255]\n\
+    up -9223372036854775808: [7, 0, 0, 0, 0, 0, 0, 0, 0]\n\
+    down -9223372036854775808: [7, 255, 255, 255, 255, 255, 255, 255, 255]\n\
+    up 9223372036854775807: [7, 255, 255, 255, 255, 255, 255, 255, 255]\n\
+    down 9223372036854775807: [7, 0, 0, 0, 0, 0, 0, 0, 0]";
 
 #[test]
 fn numbers_are_spelled_as_the_format_says(rt: HostRuntime) -> Result<(), Fail> {
-    for (number, upward, downward) in [
-        (
-            75,
-            [128, 0, 0, 0, 0, 0, 0, 0x4b],
-            [127, 255, 255, 255, 255, 255, 255, 0xb4],
-        ),
-        (
-            0,
-            [128, 0, 0, 0, 0, 0, 0, 0],
-            [127, 255, 255, 255, 255, 255, 255, 255],
-        ),
-        (
-            -1,
-            [127, 255, 255, 255, 255, 255, 255, 255],
-            [128, 0, 0, 0, 0, 0, 0, 0],
-        ),
-        (
-            -256,
-            [127, 255, 255, 255, 255, 255, 255, 0],
-            [128, 0, 0, 0, 0, 0, 0, 255],
-        ),
-        (i64::MIN, [0; 8], [255; 8]),
-        (i64::MAX, [255; 8], [0; 8]),
-    ] {
-        for (down, spelling) in [(false, upward), (true, downward)] {
-            let mut key = Vec::from_slice(rt.alloc(), &[7])?;
-            put_number(&mut key, number, down)?;
-            assert_eq!(rt; key[0], 7, "what stood there is kept");
-            assert_eq!(rt; &key[1..], spelling.as_slice(), "{number} down {down}");
-        }
-    }
-    Ok(())
+    assert_rows(&rt, rt.alloc(), What::Number, NUMBERS)
 }
+
+// How long the spelling at a key's front is, and its field.
+fn taken(alloc: Global, asked: &str) -> Result<String, Fail> {
+    let key = bytes_of(alloc, asked)?;
+    let mut into = Vec::new(alloc);
+    let length = take_field(&key, &mut into)?;
+    Ok(format!(in alloc; "{length:?} {into:?}")?)
+}
+
+const KEYS: &str = "\
+    97 0 0: Some(3) [97]\n\
+    0 0 0 0: Some(2) []\n\
+    0 1 0 0 9: Some(4) [0]\n\
+    0 1 1 0 0 5: Some(5) [0, 1]\n\
+    255 0 0: Some(3) [255]\n\
+    : None []\n\
+    97 0: None []\n\
+    97 0 1: None []\n\
+    97 0 2 0 0: None []";
 
 #[test]
 fn a_field_is_taken_back_with_its_length(rt: HostRuntime) -> Result<(), Fail> {
-    for (key, length, field) in [
-        ([97, 0, 0].as_slice(), Some(3), b"a".as_slice()),
-        (&[0, 0, 0, 0], Some(2), b""),
-        (&[0, 1, 0, 0, 9], Some(4), b"\0"),
-        (&[0, 1, 1, 0, 0, 5], Some(5), b"\0\x01"),
-        (&[255, 0, 0], Some(3), &[255]),
-        (&[], None, b""),
-        (&[97, 0], None, b""),
-        (&[97, 0, 1], None, b""),
-        (&[97, 0, 2, 0, 0], None, b""),
-    ] {
-        let mut into = Vec::new(rt.alloc());
-        assert_eq!(rt; take_field(key, &mut into)?, length, "of {key:?}");
-        assert_eq!(rt; into.as_slice(), field, "of {key:?}");
-    }
-    Ok(())
+    assert_rows(&rt, rt.alloc(), What::Taken, KEYS)
 }
+
+// The partial values of some numbers, with a blank between two.
+fn value_of(alloc: Global, numbers: &str) -> Result<Vec<u8>, Fail> {
+    let mut value = Vec::new(alloc);
+    for word in numbers.split(' ') {
+        let number: i64 = word.parse()?;
+        put_partial(&mut value, i128::from(number))?;
+    }
+    Ok(value)
+}
+
+// The bytes of a number's partial value.
+fn partial(alloc: Global, asked: &str) -> Result<String, Fail> {
+    let value = value_of(alloc, asked)?;
+    Ok(format!(in alloc; "{value:?}")?)
+}
+
+const PARTIALS: &str = "\
+    0: [0, 0, 0, 0, 0, 0, 0, 0, 0, 0, 0, 0, 0, 0, 0, 0]\n\
+    1: [0, 0, 0, 0, 0, 0, 0, 0, 0, 0, 0, 0, 0, 0, 0, 1]\n\
+    75: [0, 0, 0, 0, 0, 0, 0, 0, 0, 0, 0, 0, 0, 0, 0, 75]\n\
+    -1: [255, 255, 255, 255, 255, 255, 255, 255, 255, 255, 255, 255, 255, 255, 255, 255]\n\
+    9223372036854775807: [0, 0, 0, 0, 0, 0, 0, 0, 127, 255, 255, 255, 255, 255, 255, 255]\n\
+    -9223372036854775808: [255, 255, 255, 255, 255, 255, 255, 255, 128, 0, 0, 0, 0, 0, 0, 0]";
 
 #[test]
 fn partial_values_are_twos_complement_with_the_greatest_byte_first(
     rt: HostRuntime,
 ) -> Result<(), Fail> {
-    for (number, bytes) in [
-        (0, [0; 16]),
-        (1, [0, 0, 0, 0, 0, 0, 0, 0, 0, 0, 0, 0, 0, 0, 0, 1]),
-        (75, [0, 0, 0, 0, 0, 0, 0, 0, 0, 0, 0, 0, 0, 0, 0, 0x4b]),
-        (-1, [255; 16]),
-        (
-            i64::MAX,
-            [
-                0, 0, 0, 0, 0, 0, 0, 0, 127, 255, 255, 255, 255, 255, 255, 255,
-            ],
-        ),
-        (
-            i64::MIN,
-            [
-                255, 255, 255, 255, 255, 255, 255, 255, 128, 0, 0, 0, 0, 0, 0, 0,
-            ],
-        ),
-    ] {
-        let mut value = Vec::new(rt.alloc());
-        put_partial(&mut value, i128::from(number))?;
-        assert_eq!(rt; value.as_slice(), bytes.as_slice(), "of {number}");
+    assert_rows(&rt, rt.alloc(), What::Partial, PARTIALS)
+}
+
+fn agg_of(name: &str) -> Result<Agg, Fail> {
+    match name {
+        "count" => Ok(Agg::Count),
+        "sum" => Ok(Agg::Sum),
+        "min" => Ok(Agg::Min),
+        "max" => Ok(Agg::Max),
+        _ => Err("no aggregate".into()),
     }
+}
+
+// The aggregates of these names, with a blank between two.
+fn aggs_of(alloc: Global, names: &str) -> Result<AggList, Fail> {
+    let mut list = Vec::new(alloc);
+    for name in names.split(' ') {
+        list.push(agg_of(name)?)?;
+    }
+    if list.is_empty() || list.len() > 8 {
+        return Err("too few aggregates, or too many".into());
+    }
+    Ok(AggList::of(alloc, &list)?)
+}
+
+// Combines a value into another.
+fn feed(aggs: &AggList, total: &mut [u8], fed: &[u8]) -> Result<(), Fail> {
+    let len = 16 * aggs.items().len();
+    if total.len() != len || fed.len() != len {
+        return Err("a value of another length".into());
+    }
+    combine(aggs, total, fed);
     Ok(())
+}
+
+// What stands at each place, with a blank between two.
+fn finished(alloc: Global, aggs: &AggList, total: &[u8]) -> Result<String, Fail> {
+    let mut shown = String::new(alloc);
+    for place in 0..aggs.items().len() {
+        if total.len() != 16 * aggs.items().len() {
+            return Err("a value of another length".into());
+        }
+        let number = finish(aggs, total, place);
+        if place > 0 {
+            shown.push(' ')?;
+        }
+        shown.push_str(format!(in alloc; "{number:?}")?.as_str())?;
+    }
+    Ok(shown)
+}
+
+// Combines these numbers into a value, and tells what then stands there.
+fn after(alloc: Global, aggs: &AggList, total: &mut [u8], fed: &str) -> Result<String, Fail> {
+    let fed = value_of(alloc, fed)?;
+    feed(aggs, total, &fed)?;
+    finished(alloc, aggs, total)
+}
+
+// An aggregate, two numbers, and what it makes of them.
+const JOINED: &str = "\
+    count 1 1: Some(2)\n\
+    count 9223372036854775807 1: None\n\
+    sum 9223372036854775807 -9223372036854775808: Some(-1)\n\
+    sum 9223372036854775807 1: None\n\
+    sum -9223372036854775808 -1: None\n\
+    min -1 1: Some(-1)\n\
+    min 1 -1: Some(-1)\n\
+    min 2 1: Some(1)\n\
+    min -9223372036854775808 9223372036854775807: Some(-9223372036854775808)\n\
+    min 9223372036854775807 -9223372036854775808: Some(-9223372036854775808)\n\
+    min 9223372036854775807 9223372036854775807: Some(9223372036854775807)\n\
+    max -1 1: Some(1)\n\
+    max 1 -1: Some(1)\n\
+    max -2 -1: Some(-1)\n\
+    max -9223372036854775808 9223372036854775807: Some(9223372036854775807)\n\
+    max 9223372036854775807 -9223372036854775808: Some(9223372036854775807)\n\
+    max -9223372036854775808 -9223372036854775808: Some(-9223372036854775808)";
+
+// What the aggregate of a row makes of its two numbers.
+fn joined(alloc: Global, asked: &str) -> Result<String, Fail> {
+    let (name, numbers) = first_of(asked)?;
+    let (first, second) = first_of(numbers)?;
+    let aggs = aggs_of(alloc, name)?;
+    let mut total = value_of(alloc, first)?;
+    after(alloc, &aggs, &mut total, second)
 }
 
 #[test]
 fn each_aggregate_joins_two_numbers(rt: HostRuntime) -> Result<(), Fail> {
-    for (agg, first, second, joint) in [
-        (Agg::Count, 1, 1, Some(2)),
-        (Agg::Count, i64::MAX, 1, None),
-        (Agg::Sum, i64::MAX, i64::MIN, Some(-1)),
-        (Agg::Sum, i64::MAX, 1, None),
-        (Agg::Sum, i64::MIN, -1, None),
-        (Agg::Min, -1, 1, Some(-1)),
-        (Agg::Min, 1, -1, Some(-1)),
-        (Agg::Min, 2, 1, Some(1)),
-        (Agg::Min, i64::MIN, i64::MAX, Some(i64::MIN)),
-        (Agg::Min, i64::MAX, i64::MIN, Some(i64::MIN)),
-        (Agg::Min, i64::MAX, i64::MAX, Some(i64::MAX)),
-        (Agg::Max, -1, 1, Some(1)),
-        (Agg::Max, 1, -1, Some(1)),
-        (Agg::Max, -2, -1, Some(-1)),
-        (Agg::Max, i64::MIN, i64::MAX, Some(i64::MAX)),
-        (Agg::Max, i64::MAX, i64::MIN, Some(i64::MAX)),
-        (Agg::Max, i64::MIN, i64::MIN, Some(i64::MIN)),
-    ] {
-        let aggs = AggList::of(rt.alloc(), &[agg])?;
-        let mut value = Vec::new(rt.alloc());
-        put_partial(&mut value, i128::from(first))?;
-        let mut fed = Vec::new(rt.alloc());
-        put_partial(&mut fed, i128::from(second))?;
-        assert_eq!(rt; (value.len(), fed.len(), aggs.items().len()), (16, 16, 1));
-        combine(&aggs, &mut value, &fed);
-        assert_eq!(rt;
-            finish(&aggs, &value, 0),
-            joint,
-            "{agg:?} of {first}, {second}"
-        );
+    assert_rows(&rt, rt.alloc(), What::Joint, JOINED)
+}
+
+// Feeds a value with one row of numbers after another, and compares what then stands there.
+fn assert_totals(
+    rt: &impl Abort,
+    alloc: Global,
+    names: &str,
+    first: &str,
+    rows: &str,
+) -> Result<(), Fail> {
+    let aggs = aggs_of(alloc, names)?;
+    let mut total = value_of(alloc, first)?;
+    for row in rows.lines() {
+        let (fed, wanted) = row_of(row)?;
+        let told = after(alloc, &aggs, &mut total, fed)?;
+        assert_eq!(rt; told.as_str(), wanted, "after {fed}");
     }
     Ok(())
 }
+
+// What is fed, and what then stands there.
+const BESIDE: &str = "\
+    -5 -5 -5 1: Some(-5) Some(-2) Some(3) Some(2)\n\
+    9 9 9 1: Some(-5) Some(7) Some(9) Some(3)\n\
+    -2 -2 -2 1: Some(-5) Some(5) Some(9) Some(4)\n\
+    9 9 9 1: Some(-5) Some(14) Some(9) Some(5)";
 
 #[test]
 fn aggregates_stand_side_by_side(rt: HostRuntime) -> Result<(), Fail> {
-    let aggs = AggList::of(rt.alloc(), &[Agg::Min, Agg::Sum, Agg::Max, Agg::Count])?;
-    let mut total = row_of(&rt, 3)?;
-    for number in [-5, 9, -2, 9] {
-        let fed = row_of(&rt, number)?;
-        assert_eq!(rt; (total.len(), fed.len(), aggs.items().len()), (64, 64, 4));
-        combine(&aggs, &mut total, &fed);
-    }
-    for (place, number) in [(0, -5), (1, 14), (2, 9), (3, 5)] {
-        assert!(rt; place < aggs.items().len() && total.len() == 64);
-        assert_eq!(rt;
-            finish(&aggs, &total, place),
-            Some(number),
-            "at place {place}"
-        );
-    }
-    Ok(())
+    assert_totals(&rt, rt.alloc(), "min sum max count", "3 3 3 1", BESIDE)
 }
 
-// The least, the sum and the greatest of one number, and a count of 1.
-fn row_of(rt: &HostRuntime, number: i64) -> Result<Vec<u8>, Fail> {
-    let mut value = Vec::new(rt.alloc());
-    for partial in [number, number, number, 1] {
-        put_partial(&mut value, i128::from(partial))?;
-    }
-    Ok(value)
-}
+// A count and a number that are fed, and what then stands there.
+const SUMS: &str = "\
+    1 1: Some(2) None\n\
+    1 9223372036854775807: Some(3) None\n\
+    1 -9223372036854775808: Some(4) Some(9223372036854775807)\n\
+    1 -9223372036854775808: Some(5) Some(-1)\n\
+    1 -9223372036854775808: Some(6) None\n\
+    1 1: Some(7) Some(-9223372036854775808)";
 
 #[test]
 fn a_sum_leaves_the_range_and_comes_back(rt: HostRuntime) -> Result<(), Fail> {
-    let aggs = AggList::of(rt.alloc(), &[Agg::Count, Agg::Sum])?;
-    let mut total = value_of(&rt, 1, i64::MAX)?;
-    for (number, count, sum) in [
-        (1, Some(2), None),
-        (i64::MAX, Some(3), None),
-        (i64::MIN, Some(4), Some(i64::MAX)),
-        (i64::MIN, Some(5), Some(-1)),
-        (i64::MIN, Some(6), None),
-        (1, Some(7), Some(i64::MIN)),
-    ] {
-        let fed = value_of(&rt, 1, number)?;
-        assert_eq!(rt; (total.len(), fed.len()), (32, 32));
-        combine(&aggs, &mut total, &fed);
-        assert_eq!(rt; aggs.items().len(), 2);
-        assert_eq!(rt; finish(&aggs, &total, 0), count, "after {number}");
-        assert_eq!(rt; finish(&aggs, &total, 1), sum, "after {number}");
-    }
-    Ok(())
+    assert_totals(&rt, rt.alloc(), "count sum", "1 9223372036854775807", SUMS)
 }
 
-fn value_of(rt: &HostRuntime, count: i64, sum: i64) -> Result<Vec<u8>, Fail> {
-    let mut value = Vec::new(rt.alloc());
-    put_partial(&mut value, i128::from(count))?;
-    put_partial(&mut value, i128::from(sum))?;
-    Ok(value)
+// A copy of a kind, as text.
+fn copied(alloc: Global, kind: &Kind) -> Result<String, Fail> {
+    let copy = kind.copy()?;
+    Ok(format!(in alloc; "{copy:?}")?)
 }
 
 #[test]
 fn lists_and_kinds_are_copied_where_memory_is_ample(rt: HostRuntime) -> Result<(), Fail> {
-    let aggs = AggList::of(rt.alloc(), &[Agg::Sum, Agg::Count, Agg::Sum])?;
+    let alloc = rt.alloc();
+    let aggs = aggs_of(alloc, "sum count sum")?.copy()?;
+    let list = [Agg::Sum, Agg::Count, Agg::Sum];
+    assert_eq!(rt; aggs.items(), list.as_slice());
     assert_eq!(rt;
-        aggs.copy()?.items(),
-        [Agg::Sum, Agg::Count, Agg::Sum].as_slice()
+        copied(alloc, &Kind::Group(aggs))?.as_str(),
+        "Group(AggList { items: [Sum, Count, Sum] })"
     );
-    match Kind::Group(aggs).copy()? {
-        Kind::Group(copied) => assert_eq!(rt;
-            copied.items(),
-            [Agg::Sum, Agg::Count, Agg::Sum].as_slice()
-        ),
-        Kind::Order => assert!(rt; false, "a group stays a group"),
-    }
-    match Kind::Order.copy()? {
-        Kind::Group(_) => assert!(rt; false, "an order stays an order"),
-        Kind::Order => {}
-    }
+    assert_eq!(rt; copied(alloc, &Kind::Order)?.as_str(), "Order");
     Ok(())
 }
 
