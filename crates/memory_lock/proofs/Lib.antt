@@ -6,6 +6,5 @@ pub mod Answering
 pub mod Adding
 pub mod Staying
 pub mod Turned
-pub mod Beginning
 pub mod Crews
 pub mod Pairs

@@ -6,8 +6,6 @@ mod crew;
 mod locked;
 mod manager;
 mod task;
-#[cfg(test)]
-mod tests;
 mod wake_up_count;
 mod worker;
 

@@ -11,6 +11,3 @@ mod view;
 pub use kept::Kept;
 pub use lock::TurnLock;
 pub use pass::Pass;
-
-#[cfg(test)]
-mod tests;

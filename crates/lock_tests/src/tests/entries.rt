@@ -1,0 +1,184 @@
+// Entries as words.
+use pool_ledger::{Entry, Event, Fate, Level};
+use std::alloc::{AllocError, Global};
+use std::string::String;
+
+// All entries, with what moved from storage or with 0 in its place: a caller isn't told that.
+pub fn text_of(alloc: Global, entries: &[Entry], moved: bool) -> Result<String, AllocError> {
+    let mut text = String::new(alloc);
+    for entry in entries {
+        put_entry(&mut text, *entry, moved)?;
+    }
+    Ok(text)
+}
+
+// The worker's entries that aren't waits, as its thread knows them.
+pub fn granted_of(alloc: Global, entries: &[Entry], worker: u32) -> Result<String, AllocError> {
+    let mut text = String::new(alloc);
+    for entry in entries {
+        let waits = matches!(entry.event, Event::Attempt { got: None, .. });
+        if entry.worker == worker && !waits {
+            put_entry(&mut text, *entry, false)?;
+        }
+    }
+    Ok(text)
+}
+
+// The most that the tasks of these entries hold at once, and what they hold at the end.
+pub fn held_in(entries: &[Entry]) -> (u64, u64) {
+    let mut most = 0u64;
+    let mut held = 0u64;
+    for entry in entries {
+        held = held_after(held, entry.event);
+        most = most.max(held);
+    }
+    (most, held)
+}
+
+// What the worker's tasks hold at the end.
+pub fn left_of(entries: &[Entry], worker: u32) -> u64 {
+    let mut held = 0u64;
+    for entry in entries {
+        if entry.worker == worker {
+            held = held_after(held, entry.event);
+        }
+    }
+    held
+}
+
+fn held_after(held: u64, event: Event) -> u64 {
+    match event {
+        Event::Attempt { got, .. } => held.wrapping_add(got.unwrap_or(0)),
+        Event::Release { freed, .. } => held.wrapping_sub(freed),
+        Event::End { freed, .. } => held.wrapping_sub(freed),
+        _ => held,
+    }
+}
+
+fn put_entry(text: &mut String, entry: Entry, with_moved: bool) -> Result<(), AllocError> {
+    let worker = u64::from(entry.worker);
+    match entry.event {
+        Event::Begin { task } => put(text, " begin", &[worker, u64::from(task)]),
+        Event::Release { task, freed } => {
+            put(text, " release", &[worker, u64::from(task), freed])
+        }
+        Event::End { task, freed } => put(text, " end", &[worker, u64::from(task), freed]),
+        Event::Attempt {
+            task,
+            asked,
+            moved,
+            evictions,
+            got,
+        } => {
+            let moved = if with_moved { moved } else { 0 };
+            let numbers = [worker, u64::from(task), asked, moved, evictions];
+            put(text, " attempt", &numbers)?;
+            put_grant(text, got)
+        }
+        _ => put_block_entry(text, worker, entry.event),
+    }
+}
+
+fn put_grant(text: &mut String, got: Option<u64>) -> Result<(), AllocError> {
+    match got {
+        Some(bytes) => put(text, "", &[bytes]),
+        None => put(text, ",wait", &[]),
+    }
+}
+
+fn put_block_entry(text: &mut String, worker: u64, event: Event) -> Result<(), AllocError> {
+    match event {
+        Event::Evict {
+            dataset,
+            part,
+            size,
+            fate,
+        } => {
+            put_block(text, " evict", worker, dataset, part)?;
+            put(text, "", &[size])?;
+            put(text, fate_word(fate), &[])
+        }
+        Event::Admit {
+            dataset,
+            part,
+            size,
+            level,
+            borrowed,
+            evictions,
+        } => {
+            put_block(text, " admit", worker, dataset, part)?;
+            put(text, "", &[size])?;
+            put(text, level_word(level), &[borrowed, evictions])
+        }
+        Event::Refused {
+            dataset,
+            part,
+            size,
+            borrowed,
+            evictions,
+        } => {
+            put_block(text, " refused", worker, dataset, part)?;
+            put(text, "", &[size, borrowed, evictions])
+        }
+        Event::Pin {
+            dataset,
+            part,
+            copy,
+        } => {
+            put_block(text, " pin", worker, dataset, part)?;
+            put(text, if copy { ",copy" } else { ",resident" }, &[])
+        }
+        Event::Unpin { dataset, part } => put_block(text, " unpin", worker, dataset, part),
+        Event::Remove {
+            dataset,
+            part,
+            size,
+        } => {
+            put_block(text, " remove", worker, dataset, part)?;
+            put(text, "", &[size])
+        }
+        _ => Ok(()),
+    }
+}
+
+fn put_block(
+    text: &mut String,
+    word: &str,
+    worker: u64,
+    dataset: u32,
+    part: u32,
+) -> Result<(), AllocError> {
+    put(text, word, &[worker, u64::from(dataset), u64::from(part)])
+}
+
+fn fate_word(fate: Fate) -> &'static str {
+    match fate {
+        Fate::Disk => ",disk",
+        Fate::Gone => ",gone",
+        Fate::NoMemory => ",nomem",
+    }
+}
+
+fn level_word(level: Level) -> &'static str {
+    match level {
+        Level::Memory => ",memory",
+        Level::Disk => ",disk",
+    }
+}
+
+// A word, and behind it these numbers, each after a comma.
+fn put(text: &mut String, word: &str, numbers: &[u64]) -> Result<(), AllocError> {
+    text.push_str(word)?;
+    for number in numbers {
+        text.push(',')?;
+        put_number(text, *number)?;
+    }
+    Ok(())
+}
+
+pub fn put_number(text: &mut String, number: u64) -> Result<(), AllocError> {
+    let alloc = *text.allocator();
+    let digits = format!(in alloc; "{number}")?;
+    text.push_str(digits.as_str())?;
+    Ok(())
+}
