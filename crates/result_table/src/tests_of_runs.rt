@@ -87,34 +87,60 @@ fn push_entry(alloc: Global, page: &mut Page, key: &[u8], value: &[u8]) -> Resul
     Ok(())
 }
 
-// Adds a group's entry, whose key spells these fields.
-fn push_group(
-    alloc: Global,
-    page: &mut Page,
-    fields: &[&[u8]],
-    numbers: [i128; 4],
-) -> Result<(), Fail> {
+// A group's key, which spells these fields, each behind a `|`.
+fn key_of(alloc: Global, fields: &str) -> Result<Vec<u8>, Fail> {
     let mut key = Vec::new(alloc);
-    for field in fields {
-        put_field(&mut key, field, false)?;
+    if let Some((_, fields)) = fields.split_once('|') {
+        for field in fields.split('|') {
+            put_field(&mut key, field.as_bytes(), false)?;
+        }
     }
-    let mut value = Vec::new(alloc);
-    for number in numbers {
-        put_partial(&mut value, number)?;
-    }
-    push_entry(alloc, page, &key, &value)
+    Ok(key)
 }
 
-// Adds an ordered row's entry.
-fn push_order(alloc: Global, page: &mut Page, key: u8, fields: [&[u8]; 3]) -> Result<(), Fail> {
+// A group's value, of these numbers.
+fn value_of(alloc: Global, numbers: &str) -> Result<Vec<u8>, Fail> {
+    let mut value = Vec::new(alloc);
+    for number in numbers.split(' ') {
+        put_partial(&mut value, number.parse()?)?;
+    }
+    Ok(value)
+}
+
+// A page of groups as `|FIELD|FIELD=COUNT SUM MIN MAX`, with a `/` between them.
+fn page_of_groups(alloc: Global, groups: &str) -> Result<Page, Fail> {
+    let mut page = Page::new(alloc, 1_000_000);
+    for group in groups.split('/') {
+        let (fields, numbers) = group.split_once('=').ok_or("a group without numbers")?;
+        let key = key_of(alloc, fields)?;
+        push_entry(alloc, &mut page, &key, &value_of(alloc, numbers)?)?;
+    }
+    Ok(page)
+}
+
+// A row of these fields, each behind a `|`.
+fn row_of(alloc: Global, fields: &str) -> Result<RowBuf, Fail> {
     let mut row = RowBuf::new(alloc);
-    for field in fields {
+    let (_, fields) = fields.split_once('|').ok_or("a row without fields")?;
+    for field in fields.split('|') {
         if field.len() > 100 || row.view().bytes().len() > 1000 {
             return Err("the row is long".into());
         }
-        row.add(field)?;
+        row.add(field.as_bytes())?;
     }
-    push_entry(alloc, page, &[key], row.view().bytes())
+    Ok(row)
+}
+
+// A page of ordered rows, with a `/` between them, whose keys are 1, 2 and so on.
+fn page_of_orders(alloc: Global, rows: &str) -> Result<Page, Fail> {
+    let mut page = Page::new(alloc, 1_000_000);
+    let mut key = 1u8;
+    for row in rows.split('/') {
+        let row = row_of(alloc, row)?;
+        push_entry(alloc, &mut page, &[key], row.view().bytes())?;
+        key = key.wrapping_add(1);
+    }
+    Ok(page)
 }
 
 // Writes a page as a run.
@@ -124,6 +150,14 @@ fn put_run(disk: &mut MemoryDisk, page: &Page) -> Result<Run, Fail>
     let mut writer = RunWriter::start(disk, 0)?;
     writer.write(disk, page)?;
     Ok(writer.finish())
+}
+
+// The text of the heading `k,n`.
+fn heading_of(alloc: Global, line: &mut Line) -> Result<Vec<u8>, Fail> {
+    let mut names = RowBuf::new(alloc);
+    names.add(b"k")?;
+    names.add(b"n")?;
+    Ok(heading_text(alloc, line, &names.view())?)
 }
 
 // Prints a run's entries under the heading `k,n`.
@@ -137,13 +171,10 @@ fn print(
     requires run { run.now.disk ≡ 0 }
     requires kind { query.now.kind ≡ kind_of query.now.shape }
 {
-    let mut names = RowBuf::new(alloc);
-    names.add(b"k")?;
-    names.add(b"n")?;
     let mut line = Line::new(alloc);
-    let text = heading_text(alloc, &mut line, &names.view())?;
-    let mut one = One { disk };
+    let text = heading_of(alloc, &mut line)?;
     let mut reader = EntryReader::new(alloc, run, &query.kind)?;
+    let mut one = One { disk };
     Ok(print_entries(
         &mut one,
         &mut reader,
@@ -155,29 +186,39 @@ fn print(
     ))
 }
 
-// What is printed of a page that was written as a run, which all goes well.
+// How a page that is written as a run is printed, on a disk and to a sink that fail at these calls.
+fn print_page(
+    alloc: Global,
+    page: &Page,
+    query: &Query,
+    disk_fails: &[u64],
+    output: &mut MemorySink,
+) -> Result<Result<(), PrintFault>, Fail>
+    requires { query.now.kind ≡ kind_of query.now.shape }
+{
+    let mut disk = MemoryDisk::new(disk_fails.to_vec(alloc)?);
+    let run = put_run(&mut disk, page)?;
+    print(alloc, &mut disk, &run, query, output)
+}
+
+// What is printed of a page, which all goes well.
 fn printed(alloc: Global, page: &Page, query: &Query) -> Result<MemorySink, Fail>
     requires { query.now.kind ≡ kind_of query.now.shape }
 {
-    let mut disk = MemoryDisk::new(Vec::new(alloc));
-    let run = put_run(&mut disk, page)?;
     let mut output = MemorySink::new(alloc, Vec::new(alloc));
-    print(alloc, &mut disk, &run, query, &mut output)??;
+    print_page(alloc, page, query, &[], &mut output)??;
     Ok(output)
 }
 
-const LEAST: i128 = i64::MIN as i128;
-
-const GREATEST: i128 = i64::MAX as i128;
+// What is printed of these groups.
+fn printed_groups(alloc: Global, groups_text: &str) -> Result<MemorySink, Fail> {
+    printed(alloc, &page_of_groups(alloc, groups_text)?, &groups(alloc)?)
+}
 
 #[test]
 fn a_group_is_told_by_its_fields_and_numbers(rt: HostRuntime) -> Result<(), Fail> {
-    let alloc = rt.alloc();
-    let mut page = Page::new(alloc, 1_000_000);
-    push_group(alloc, &mut page, &[b"", b"a\0"], [2, -277, LEAST, GREATEST])?;
-    push_group(alloc, &mut page, &[b"a,b", b"Oslo"], [1, 5, 5, 5])?;
-    let query = groups(alloc)?;
-    let output = printed(alloc, &page, &query)?;
+    let told = "||a\0=2 -277 -9223372036854775808 9223372036854775807/|a,b|Oslo=1 5 5 5";
+    let output = printed_groups(rt.alloc(), told)?;
     let wanted =
         b"k,n\n,a\0,2,-277,-9223372036854775808,9223372036854775807\n\"a,b\",Oslo,1,5,5,5\n";
     assert_eq!(rt; output.bytes(), wanted.as_slice());
@@ -186,61 +227,44 @@ fn a_group_is_told_by_its_fields_and_numbers(rt: HostRuntime) -> Result<(), Fail
 
 #[test]
 fn an_ordered_row_is_told_by_its_columns(rt: HostRuntime) -> Result<(), Fail> {
-    let alloc = rt.alloc();
-    let mut page = Page::new(alloc, 1_000_000);
-    push_order(alloc, &mut page, 1, [b"-3", b"", b"say \"hi\""])?;
-    push_order(alloc, &mut page, 2, [b"17", b"a", b" b"])?;
-    let query = orders(alloc)?;
-    let output = printed(alloc, &page, &query)?;
+    let page = page_of_orders(rt.alloc(), "|-3||say \"hi\"/|17|a| b")?;
+    let output = printed(rt.alloc(), &page, &orders(rt.alloc())?)?;
     let wanted = b"k,n\n-3,,\"say \"\"hi\"\"\"\n17,a, b\n";
     assert_eq!(rt; output.bytes(), wanted.as_slice());
     Ok(())
 }
 
-// The damage of the second of two entries.
-fn damage_of(alloc: Global, page: &Page, query: &Query) -> Result<bool, Fail>
+// Whether the second of two entries is damaged.
+fn is_damaged(alloc: Global, page: &Page, query: &Query) -> Result<bool, Fail>
     requires { query.now.kind ≡ kind_of query.now.shape }
 {
-    let mut disk = MemoryDisk::new(Vec::new(alloc));
-    let run = put_run(&mut disk, page)?;
     let mut output = MemorySink::new(alloc, Vec::new(alloc));
-    let answer = print(alloc, &mut disk, &run, query, &mut output)?;
     let damaged = PrintFault::Damaged {
         disk: 0,
-        file: run.file,
+        file: 0,
         kept: 2,
         found: 1,
     };
-    match answer {
+    match print_page(alloc, page, query, &[], &mut output)? {
         Err(PrintFault::NoMemory) => Err(PrintFault::NoMemory.into()),
         told => Ok(told == Err(damaged)),
     }
 }
 
+// Keys of one field, of three and of none, where there are two; sums past both ends of 64 bits.
+const DAMAGED: &str = "|a|a=1 1 1 1/|b=1 1 1 1;|a|a=1 1 1 1/|b|c|d=1 1 1 1;|a|a=1 1 1 1/=1 1 1 1;\
+    |a|a=1 1 1 1/|b|b=1 9223372036854775808 1 1;|a|a=1 1 1 1/|b|b=1 -9223372036854775809 1 1";
+
 #[test]
 fn an_entry_that_cannot_be_told_is_damaged(rt: HostRuntime) -> Result<(), Fail> {
-    let alloc = rt.alloc();
-    let query = groups(alloc)?;
-    let lists: [&[&[u8]]; 3] = [&[b"b"], &[b"b", b"c", b"d"], &[]];
-    for fields in lists {
-        let mut page = Page::new(alloc, 1_000_000);
-        push_group(alloc, &mut page, &[b"a", b"a"], [1, 1, 1, 1])?;
-        push_group(alloc, &mut page, fields, [1, 1, 1, 1])?;
-        assert!(rt; damage_of(alloc, &page, &query)?, "{} fields", fields.len());
+    for told in DAMAGED.split(';') {
+        let page = page_of_groups(rt.alloc(), told)?;
+        let damaged = is_damaged(rt.alloc(), &page, &groups(rt.alloc())?)?;
+        assert!(rt; damaged, "{told}");
     }
-    for number in [GREATEST + 1, LEAST - 1] {
-        let mut page = Page::new(alloc, 1_000_000);
-        push_group(alloc, &mut page, &[b"a", b"a"], [1, 1, 1, 1])?;
-        push_group(alloc, &mut page, &[b"b", b"b"], [1, number, 1, 1])?;
-        assert!(rt; damage_of(alloc, &page, &query)?, "the sum {number}");
-    }
-    let mut page = Page::new(alloc, 1_000_000);
-    push_order(alloc, &mut page, 1, [b"1", b"a", b"b"])?;
-    push_entry(alloc, &mut page, &[2], &[0, 0, 0, 0])?;
-    assert!(rt;
-        damage_of(alloc, &page, &orders(alloc)?)?,
-        "a row of one column"
-    );
+    let page = page_of_orders(rt.alloc(), "|1|a|b/|")?;
+    let damaged = is_damaged(rt.alloc(), &page, &orders(rt.alloc())?)?;
+    assert!(rt; damaged, "a row of one column");
     Ok(())
 }
 
@@ -248,14 +272,10 @@ fn an_entry_that_cannot_be_told_is_damaged(rt: HostRuntime) -> Result<(), Fail> 
 fn many_groups(alloc: Global) -> Result<Page, Fail> {
     let mut page = Page::new(alloc, 1_000_000);
     for i in 10_000..13_000i64 {
-        let field = format!(in alloc; "the first of two fields of the group with number {i}")?;
-        let number = i128::from(i);
-        push_group(
-            alloc,
-            &mut page,
-            &[field.as_bytes(), b"b"],
-            [1, number, number, number],
-        )?;
+        let fields = format!(in alloc; "|the first of two fields of the group with number {i}|b")?;
+        let numbers = format!(in alloc; "1 {i} {i} {i}")?;
+        let key = key_of(alloc, &fields)?;
+        push_entry(alloc, &mut page, &key, &value_of(alloc, &numbers)?)?;
     }
     Ok(page)
 }
@@ -272,74 +292,70 @@ fn many_groups_text(alloc: Global) -> Result<String, Fail> {
     Ok(text)
 }
 
+// How a page of groups is printed where this call of the sink fails, and what the sink then has.
+fn print_failing(
+    alloc: Global,
+    page: &Page,
+    failing: u64,
+) -> Result<(Result<(), PrintFault>, MemorySink), Fail> {
+    let mut output = MemorySink::new(alloc, [failing].to_vec(alloc)?);
+    let answer = print_page(alloc, page, &groups(alloc)?, &[], &mut output)?;
+    Ok((answer, output))
+}
+
 // Each write of the sink fails in turn, until a table makes fewer.
 #[test]
 fn a_failing_sink_has_taken_a_front_of_the_printed_run(rt: HostRuntime) -> Result<(), Fail> {
-    let alloc = rt.alloc();
-    let page = many_groups(alloc)?;
-    let wanted = many_groups_text(alloc)?;
-    let query = groups(alloc)?;
-    let mut disk = MemoryDisk::new(Vec::new(alloc));
-    let run = put_run(&mut disk, &page)?;
-    for failing in 0..5u64 {
-        let mut fails = Vec::new(alloc);
-        fails.push(failing)?;
-        let mut output = MemorySink::new(alloc, fails);
-        let answer = print(alloc, &mut disk, &run, &query, &mut output)?;
-        let told = if failing < 4 {
-            Err(PrintFault::WriteFault)
-        } else {
-            Ok(())
-        };
-        assert_eq!(rt; answer, told, "a table of four writes, write {failing}");
-        let whole = output.bytes() == wanted.as_bytes();
-        assert_eq!(rt; whole, failing > 3, "write {failing}");
+    let page = many_groups(rt.alloc())?;
+    let wanted = many_groups_text(rt.alloc())?;
+    for failing in 0..4u64 {
+        let (answer, output) = print_failing(rt.alloc(), &page, failing)?;
+        assert_eq!(rt;
+            answer,
+            Err(PrintFault::WriteFault),
+            "a table of four writes, write {failing}"
+        );
+        assert!(rt; output.bytes() != wanted.as_bytes(), "write {failing}");
         assert!(rt; wanted.as_bytes().starts_with(output.bytes()), "a front");
-        if !whole {
-            assert_eq!(rt;
-                (output.bytes().len() / 65536) as u64,
-                failing,
-                "a block each"
-            );
-        }
+        assert_eq!(rt;
+            (output.bytes().len() / 65536) as u64,
+            failing,
+            "a block each"
+        );
     }
+    let (answer, output) = print_failing(rt.alloc(), &page, 4)?;
+    assert_eq!(rt; answer, Ok(()), "a table of four writes");
+    assert!(rt; output.bytes() == wanted.as_bytes(), "the table is whole");
     Ok(())
+}
+
+// How an ordered row is printed where this call of the disk fails.
+fn print_unread(alloc: Global, failing: u64) -> Result<Result<(), PrintFault>, Fail> {
+    let page = page_of_orders(alloc, "|1|a|b")?;
+    let mut output = MemorySink::new(alloc, Vec::new(alloc));
+    print_page(alloc, &page, &orders(alloc)?, &[failing], &mut output)
 }
 
 // Two calls write the run; the third reads it.
 #[test]
 fn a_failing_read_is_a_fault_of_its_disk(rt: HostRuntime) -> Result<(), Fail> {
-    let alloc = rt.alloc();
-    let query = orders(alloc)?;
-    let mut page = Page::new(alloc, 1_000_000);
-    push_order(alloc, &mut page, 1, [b"1", b"a", b"b"])?;
-    for failing in [2u64, 3] {
-        let mut fails = Vec::new(alloc);
-        fails.push(failing)?;
-        let mut disk = MemoryDisk::new(fails);
-        let run = put_run(&mut disk, &page)?;
-        let mut output = MemorySink::new(alloc, Vec::new(alloc));
-        let answer = print(alloc, &mut disk, &run, &query, &mut output)?;
-        let wanted = if failing == 2 {
-            Err(PrintFault::DiskFault { disk: 0 })
-        } else {
-            Ok(())
-        };
-        assert_eq!(rt; answer, wanted, "call {failing}");
-    }
+    assert_eq!(rt;
+        print_unread(rt.alloc(), 2)?,
+        Err(PrintFault::DiskFault { disk: 0 })
+    );
+    assert_eq!(rt; print_unread(rt.alloc(), 3)?, Ok(()));
     Ok(())
 }
 
-// The key of the first group that is too wide, of a page that was written as a run.
+// The key of the first of these groups that is too wide, where this call of the disk fails.
 fn wide_of(
     alloc: Global,
-    page: &Page,
+    groups: &str,
     failing: u64,
 ) -> Result<Result<Option<Vec<u8>>, RunFault>, Fail> {
-    let mut fails = Vec::new(alloc);
-    fails.push(failing)?;
-    let mut disk = MemoryDisk::new(fails);
-    let run = put_run(&mut disk, page)?;
+    let page = page_of_groups(alloc, groups)?;
+    let mut disk = MemoryDisk::new([failing].to_vec(alloc)?);
+    let run = put_run(&mut disk, &page)?;
     let aggs = AggList::of(alloc, &[Agg::Count, Agg::Sum, Agg::Min, Agg::Max])?;
     let mut one = One { disk: &mut disk };
     match too_wide(alloc, &mut one, Some(&run), &aggs) {
@@ -349,27 +365,30 @@ fn wide_of(
     }
 }
 
+// Whether a result without a run has a group that is too wide.
+fn none_is_wide(alloc: Global) -> Result<bool, Fail> {
+    let mut disk = MemoryDisk::new(Vec::new(alloc));
+    let aggs = AggList::of(alloc, &[Agg::Sum])?;
+    Ok(too_wide(alloc, &mut One { disk: &mut disk }, None, &aggs)?.is_none())
+}
+
+// The second and the third of these pass 64 bits, one above and one below.
+const WIDE: &str = "|Bonn=1 9223372036854775807 1 1/\
+    |Oslo=2 9223372036854775808 1 9223372036854775807/|Rome=2 -9223372036854775809 1 1";
+
 #[test]
 fn the_first_group_that_is_too_wide_is_found(rt: HostRuntime) -> Result<(), Fail> {
     let alloc = rt.alloc();
-    let mut page = Page::new(alloc, 1_000_000);
-    push_group(alloc, &mut page, &[b"Bonn"], [1, GREATEST, 1, 1])?;
-    assert_eq!(rt; wide_of(alloc, &page, 9)?, Ok(None), "all fit");
-    push_group(alloc, &mut page, &[b"Oslo"], [2, GREATEST + 1, 1, GREATEST])?;
-    push_group(alloc, &mut page, &[b"Rome"], [2, LEAST - 1, 1, 1])?;
+    let fits = wide_of(alloc, "|Bonn=1 9223372036854775807 1 1", 9)?;
+    assert_eq!(rt; fits, Ok(None), "all fit");
     let oslo = b"\x4f\x73\x6c\x6f\0\0".to_vec(alloc)?;
     assert_eq!(rt;
-        wide_of(alloc, &page, 9)?,
+        wide_of(alloc, WIDE, 9)?,
         Ok(Some(oslo)),
         "the second of three"
     );
-    assert_eq!(rt;
-        wide_of(alloc, &page, 2)?,
-        Err(RunFault::DiskFault { disk: 0 })
-    );
-    let mut disk = MemoryDisk::new(Vec::new(alloc));
-    let aggs = AggList::of(alloc, &[Agg::Sum])?;
-    let none = too_wide(alloc, &mut One { disk: &mut disk }, None, &aggs)?;
-    assert!(rt; none.is_none(), "no run");
+    let fault = RunFault::DiskFault { disk: 0 };
+    assert_eq!(rt; wide_of(alloc, WIDE, 2)?, Err(fault));
+    assert!(rt; none_is_wide(alloc)?, "no run");
     Ok(())
 }
