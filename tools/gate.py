@@ -8,8 +8,9 @@
 
 A row is a crate's name and processor seconds, of users and of the system: `proof` is its proof from nothing, `tests` the check
 of its tests over what the proof kept, `edits` that of its must-fail edits without the proof that they begin with, and `count`
-how many edits there are. The gate proves a crate with tests a second time from nothing, and one with edits again: the sum has
-these proofs too. It hasn't what the gate takes to link and to run programs and tests.
+how many edits there are. `source` says whether a run or `measure` saw them, or some of them are an estimate. The gate proves a
+crate with tests a second time from nothing, and one with edits again: the sum has these proofs too. It hasn't what the gate
+takes to link and to run programs and tests.
 
 `run` looks at the prover's processes each second; a proof has up to four there while processors are idle. `measure` works with
 one job in a copy in a temporary folder, over the libraries that are built here, and builds there what is missing. Beside other
@@ -28,7 +29,8 @@ import threading
 import time
 
 TABLE = 'tools/gate.csv'
-COLUMNS = ('crate', 'proof', 'tests', 'edits', 'count')
+COLUMNS = ('crate', 'proof', 'tests', 'edits', 'count', 'source')
+NUMBERS = COLUMNS[1:-1]
 # Processor minutes of the whole gate.
 LIMIT = 180
 # Processor minutes of a new crate: its proof (3 where it joins others), its tests, all of it, and all of one with edits.
@@ -59,7 +61,7 @@ def read_rows():
     if not os.path.isfile(TABLE):
         return {}
     with open(TABLE, encoding='utf-8', newline='') as file:
-        return {row['crate']: {it: int(row[it]) for it in COLUMNS[1:]} for row in csv.DictReader(file)}
+        return {row['crate']: {**row, **{it: int(row[it]) for it in NUMBERS}} for row in csv.DictReader(file)}
 
 
 def write_rows(rows, names):
@@ -106,6 +108,9 @@ def add_up():
     dearest = sorted(rows, key=lambda it: -sum(parts(rows[it])))
     print('The dearest:', *[told(it, rows[it]) for it in dearest[:5]], sep='\n')
     print('Beyond what a new crate may cost:', ', '.join(it for it in dearest if passes(rows[it])) or 'none')
+    guessed = [it for it in dearest if rows[it]['source'] == 'estimate']
+    if guessed:
+        print('Estimated, and not measured:', ', '.join(guessed))
     lacking, extra = [it for it in names if it not in rows], [it for it in rows if it not in names]
     if lacking:
         print('Crates without a row:', ', '.join(lacking))
@@ -165,7 +170,7 @@ def measure_one(name, uses, top):
     if not status and count:
         status, edits = timed(top, 'rt', 'must-fail', name)
         edits = max(edits - proof, 0)
-    return None if status else dict(zip(COLUMNS[1:], (round(proof), round(tests), round(edits), count)))
+    return None if status else dict(zip(COLUMNS[1:], (round(proof), round(tests), round(edits), count, 'measure')))
 
 
 def measure(given):
@@ -241,12 +246,12 @@ class Watch:
         sums = {}
         for pid, spent in self.seconds.items():
             crate, kind = self.kinds[pid]
-            sums.setdefault(crate, dict.fromkeys(COLUMNS[1:], 0))[kind] += spent
+            sums.setdefault(crate, dict.fromkeys(NUMBERS, 0))[kind] += spent
         for crate, row in sums.items():
             row['count'] = edits_of(f'crates/{crate}')
             row['tests'] = max(row['tests'] - row['proof'], 1) if row['tests'] else 0
             row['edits'] = max(row['edits'] - row['proof'], 1) if row['edits'] else 0
-        return {crate: {it: round(value) for it, value in row.items()} for crate, row in sums.items()}
+        return {crate: {**{it: round(value) for it, value in row.items()}, 'source': 'run'} for crate, row in sums.items()}
 
 
 def run():
