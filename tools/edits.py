@@ -7,6 +7,8 @@ tools/edits/NAME/, which only this script does. Run it at the top of the reposit
     python3 tools/edits.py              tries all
         --jobs N    so many checks side by side: one a processor, where each has 4 GB
         --alone     one edit a check
+        --keep F    writes each verdict to the file F, and takes it from there while the edit, its crate and those below are
+                    as they were: so a run that was stopped goes on
 
 An edit is tried on a copy of its crate, over what earlier checks kept of it in out/, so that little more is proved than the
 function that it changes. What isn't built below is built first, and a crate that was never checked is proved once.
@@ -17,8 +19,10 @@ judges it. At the end of each lot the crate as it is has to be proved over what 
 one by one. The status is 0 where all were refused, 1 where some weren't, and 2 where nothing was judged.
 """
 import argparse
+import hashlib
 import importlib.machinery
 import importlib.util
+import json
 import os
 import re
 import shutil
@@ -32,6 +36,7 @@ from concurrent.futures import ThreadPoolExecutor
 sys.dont_write_bytecode = True
 GIGABYTES_A_CHECK = 4
 IN_A_CHECK = 6
+NOT_TRIED = 'not tried'
 FUNCTION = re.compile(r'^( *)(?:pub(?:\([a-z]+\))? )?(?:const |unsafe )*fn ([a-z_0-9]+)')
 
 
@@ -53,7 +58,12 @@ class Edit:
         self.name = os.path.basename(path)[:-len('.edit')]
         self.texts, self.fault = rt.read_edit(path, crate.folder)
         self.place = None if self.fault else place_of(crate, self.texts)
-        self.refused, self.said = False, 'not tried'
+        self.refused, self.said = False, NOT_TRIED
+
+    def sum(self):
+        """A sum over the edit, its crate, those below, and the toolchain."""
+        with open(self.path, 'rb') as file:
+            return hashlib.sha256(self.crate.stamp().encode() + file.read()).hexdigest()
 
     def folder(self):
         return 'must-fail' if self.is_gated else 'tools/edits'
@@ -122,9 +132,31 @@ def lots_of(edits, alone):
     return lots
 
 
+class Verdicts:
+    """Those of earlier runs, in a file."""
+
+    def __init__(self, path):
+        self.path, self.found, self.turn = path, {}, threading.Lock()
+        if path and os.path.isfile(path):
+            with open(path, encoding='utf-8') as file:
+                self.found = json.load(file)
+
+    def give(self, edits):
+        for edit in edits:
+            edit.refused, edit.said = self.found.get(edit.sum(), (edit.refused, edit.said))
+
+    def take(self, edits):
+        with self.turn:
+            self.found.update({edit.sum(): (edit.refused, edit.said) for edit in edits})
+            if self.path:
+                with open(f'{self.path}.new', 'w', encoding='utf-8') as file:
+                    json.dump(self.found, file)
+                os.replace(f'{self.path}.new', self.path)
+
+
 class Trial:
-    def __init__(self, rt, crate, alone):
-        self.rt, self.crate, self.alone = rt, crate, alone
+    def __init__(self, rt, crate, verdicts):
+        self.rt, self.crate, self.verdicts = rt, crate, verdicts
 
     def keep(self, work):
         kept = tempfile.mkdtemp(prefix='kept-', dir=work)
@@ -156,9 +188,11 @@ class Trial:
             kept = self.keep(work)
             for lot in lots:
                 self.together(lot, kept)
+            edits = [edit for lot in lots for edit in lot]
             if self.rt.checked(self.crate, {}, ['--jobs', '1'], kept).returncode:
-                for edit in [edit for lot in lots for edit in lot]:
+                for edit in edits:
                     self.one(edit, None)
+        self.verdicts.take(edits)
         return time.time() - start
 
 
@@ -209,6 +243,7 @@ def main():
     parser.add_argument('--look', action='store_true')
     parser.add_argument('--jobs', type=int)
     parser.add_argument('--alone', action='store_true')
+    parser.add_argument('--keep', metavar='F')
     words = parser.parse_args()
     rt = load_rt()
     rt.rtlib.guarded()
@@ -225,9 +260,10 @@ def main():
         return 1 if faults or has_strays else 0
 
     start, printing = time.time(), threading.Lock()
-    tasks = []
+    tasks, verdicts = [], Verdicts(words.keep)
+    verdicts.give(edits)
     for crate in crates:
-        own = [edit for edit in edits if edit.crate is crate]
+        own = [edit for edit in edits if edit.crate is crate and edit.said == NOT_TRIED]
         for dep in crate.below() if own else ():
             if dep.build_rlib(['--jobs', '1'], anew=False):
                 print(f'edits: the library {dep.name} is not proved')
@@ -241,7 +277,7 @@ def main():
 
     def work(task):
         crate, lots = task
-        seconds = Trial(rt, crate, words.alone).run(lots)
+        seconds = Trial(rt, crate, verdicts).run(lots)
         with printing:
             for edit in [edit for lot in lots for edit in lot]:
                 print(f'{crate.name}/{edit.name}: {edit.said[:150]}', flush=True)
