@@ -94,7 +94,7 @@ def place_of(crate, texts):
 
 
 def apply_all(edits, folder):
-    """The changed texts of edits that stand in different functions, or None where two meet."""
+    """The texts with the changes of all these edits, each of one line in a function of its own."""
     texts = {}
     for edit in edits:
         (path, text), = edit.texts.items()
