@@ -1,5 +1,5 @@
 -- What a ledger keeps of open tasks, after an entry.
-use Rattle.std.proofs.Common.{◌≡◌, ◌≢◌, ℕ, ◌<◌, Bool, Option, Some, None, List, ◌∷◌, length, get_or, refl, sym, ap, subst, inl, inr, ◌∙◌, arith}
+use Rattle.std.proofs.Common.{◌≡◌, ◌≢◌, ℕ, ◌<◌, ◌≤◌, Bool, Option, Some, None, List, ◌∷◌, length, get_or, refl, sym, ap, subst, inl, inr, ◌∙◌, arith}
 use Rattle.std.specs.Option.{option_map}
 use Rattle.std.specs.List.{slice_get}
 use Rattle.std.specs.Prelude.{slice_set}
@@ -17,7 +17,7 @@ use Rattle.pool_ledger.specs.History.{History, held, is_active, open_task}
 use Rattle.pool_ledger.specs.Recorded.{CanCome, CanFollow, IsRecorded}
 use Rattle.pool_ledger.specs.Accounts.{seat_of, AreSums}
 use Rattle.pool_ledger.specs.Kept.{AreKept}
-use Rattle.pool_ledger.proofs.Tasks.{entry_of, opened_once}
+use Rattle.pool_ledger.proofs.Tasks.{entry_of, open_worker_known, opened_once}
 
 -- an event of one worker leaves the task of another as it was
 pub record StaysSame (h : History) (e : Entry) (u : ℕ) : Type 0 where
@@ -121,3 +121,18 @@ module _ (s : Sizes) (h : History) (seats : List (Option Holding)) (x y p a : �
 
   pub active_found : (k : ℕ) → k < 16 → (o : Holding) (t : ℕ) → get_or seats k None ≡ Some o → o.task ≡ t → o.active ≡ is_active h t
   active_found k below o t is same = subst (λ v. o.active ≡ is_active h v) same (seat_says h k o (sym (read_seat k below) ∙ is)).active_is
+
+  -- the open task that a worker's seat tells
+  pub open_found : (k : ℕ) → k < 16 → (o : Holding) → get_or seats k None ≡ Some o → Some o.task ≡ open_task h k
+  open_found k below o is = sym (seat_says h k o (sym (read_seat k below) ∙ is)).open_now
+
+  pub none_found : (k : ℕ) → k < 16 → get_or seats k None ≡ None → None ≡ open_task h k
+  none_found k below is = sym (seat_free h k (sym (read_seat k below) ∙ is))
+
+  -- there is no worker beyond them
+  pub none_beyond : (k : ℕ) → 16 ≤ k → None ≡ open_task h k
+  none_beyond k beyond = at_task (open_task h k) refl
+    where
+      at_task : (o : Option ℕ) → open_task h k ≡ o → None ≡ open_task h k
+      at_task None is = sym is
+      at_task (Some t) is = absurd (omega (arith, open_worker_known s h sums.recorded k t is, sums.range.few_workers, beyond))

@@ -3,6 +3,7 @@ pub mod History
 pub mod Blocks
 pub mod Answers
 pub mod Legal
+pub mod Groups
 pub mod Recorded
 pub mod Accounts
 pub mod Kept

@@ -1,6 +1,6 @@
 ghost use Rattle.std.specs.Prelude.{◌≡◌, ◌+◌, ◌-◌, ◌≤◌, ◌<◌, [], ◌∷◌, ◌++◌, ◌^◌, reverse, length, IsOk, OnOk, OnErr, vec_len, vec_capacity};
 ghost use Rattle.pool_ledger.specs.Sizes.{Sizes, IsInRange};
-ghost use Rattle.pool_ledger.specs.History.{held, exec, active, execution_pool, storage_pool, is_active};
+ghost use Rattle.pool_ledger.specs.History.{held, exec, active, execution_pool, storage_pool, is_active, maximum, open_task};
 ghost use Rattle.pool_ledger.specs.Blocks.{stored};
 ghost use Rattle.pool_ledger.specs.Journal.{history_of, journal_of};
 ghost use Rattle.pool_ledger.specs.Recorded.{CanFollow, IsRecorded};
@@ -65,6 +65,13 @@ impl Ledger {
         &self.setup
     }
 
+    /// The bytes of both pools together.
+    pub fn max(&self) -> u64
+        ensures { result ≡ maximum self.now.setup self.now.history }
+    {
+        self.setup.max()
+    }
+
     /// The bytes that all tasks hold.
     pub fn exec(&self) -> u64
         ensures { result ≡ exec self.now.history }
@@ -113,6 +120,20 @@ impl Ledger {
         ensures { result ≡ is_active self.now.history task }
     {
         self.look_up(task).active
+    }
+
+    /// The task that the worker has begun and not ended.
+    pub fn open_task(&self, worker: u32) -> Option<u32>
+        ensures { result ≡ open_task self.now.history worker }
+    {
+        let seats = &self.seats;
+        if worker >= 16 {
+            return None;
+        }
+        match seats[worker as usize] {
+            Some(open) => Some(open.task),
+            None => None,
+        }
     }
 
     /// The journal so far, the oldest entry first.

@@ -1,4 +1,4 @@
-ghost use Rattle.std.specs.Prelude.{◌≡◌, ◌^◌, ◌<◌, ◌≤◌, ◌↔◌, IsErr, IfOk};
+ghost use Rattle.std.specs.Prelude.{◌≡◌, ◌^◌, ◌<◌, ◌≤◌, ◌↔◌, IsErr, IfOk, IsSome, IfSome};
 ghost use Rattle.pool_ledger.specs.Sizes.{sizes_of, smallest_heap, floor_of, block_limit_of, IsInRange};
 
 use std::marker::Model;
@@ -65,6 +65,24 @@ impl Setup {
             maximum,
             region,
             workers: u64::from(workers),
+        })
+    }
+
+    /// The setup of a pool with these bytes for both pools together and for the region, and this number of
+    /// workers. `None` exactly where no setup has such sizes: the region passes the whole, the whole passes
+    /// 2^40, or the workers aren't 1 to 16. It is for a reader of journals, whose first line has these numbers.
+    pub fn with_sizes(max: u64, region: u64, workers: u64) -> Option<Setup>
+        ensures some { IfSome result (λ setup.
+            setup ≡ record { maximum = max; region = region; workers = workers }) }
+        ensures exact { IsSome result ↔ IsInRange max region workers }
+    {
+        if region > max || max > 1 << 40 || workers < 1 || workers > 16 {
+            return None;
+        }
+        Some(Setup {
+            maximum: max,
+            region,
+            workers,
         })
     }
 
