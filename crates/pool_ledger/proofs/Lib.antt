@@ -10,3 +10,4 @@ pub mod Residents
 pub mod Examples
 pub mod TaskExamples
 pub mod BlockExamples
+pub mod GroupExamples

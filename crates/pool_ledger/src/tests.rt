@@ -70,6 +70,47 @@ fn an_ended_task_holds_what_its_end_left(rt: HostRuntime) -> Result<(), Fail> {
     Ok(())
 }
 
+#[test]
+fn plain_sizes_are_a_setup_exactly_in_range(rt: HostRuntime) -> Result<(), Fail> {
+    let setups = [(600, 300, 1), (1 << 40, 1 << 40, 16), (0, 0, 1)];
+    assert_eq!(rt; first_unlike(&setups, true), None);
+    let others = [
+        (600, 601, 1),
+        ((1 << 40) + 1, 300, 1),
+        (600, 300, 0),
+        (600, 300, 17),
+    ];
+    assert_eq!(rt; first_unlike(&others, false), None);
+    Ok(())
+}
+
+#[test]
+fn a_ledger_tells_each_workers_open_task(rt: HostRuntime) -> Result<(), Fail> {
+    let setup = Setup::of(600, 0, 1000, 500, 2)?;
+    let mut ledger = Ledger::new(rt.alloc(), setup);
+    ledger.reserve(1)?;
+    ledger.push(begin(1, 7));
+    assert_eq!(rt; ledger.max(), 600);
+    // The first worker has no task, the second has one, and there is no third.
+    let open = [
+        ledger.open_task(0),
+        ledger.open_task(1),
+        ledger.open_task(2),
+    ];
+    assert_eq!(rt; open, [None, Some(7), None]);
+    Ok(())
+}
+
+// The first of these sizes whose answer isn't the expected one: whether they are a setup.
+fn first_unlike(sizes: &[(u64, u64, u64)], expected: bool) -> Option<(u64, u64, u64)> {
+    for &(max, region, workers) in sizes {
+        if Setup::with_sizes(max, region, workers).is_some() != expected {
+            return Some((max, region, workers));
+        }
+    }
+    None
+}
+
 fn begin(worker: u32, task: u32) -> Entry
     ensures { result ≡ record { worker = worker; event = Event.Begin task } }
 {
