@@ -23,7 +23,7 @@ use Rattle.pool_laws.proofs.Passing.{holds}
 
 module _ {X : Type 0} where
   -- a front is a front
-  front_first : (size : X → ℕ) (need : ℕ) (xs front : List X) → front_reaching size need xs ≡ Some front → (behind : List X) × (xs ≡ front ++ behind)
+  pub front_first : (size : X → ℕ) (need : ℕ) (xs front : List X) → front_reaching size need xs ≡ Some front → (behind : List X) × (xs ≡ front ++ behind)
   front_first size need [] front is = elim (cases_Bool (nat_eq need 0)) [
     | inl none ↦ let empty : [] ≡ front = cc (sym (cond-true (nat_eq need 0) (Some []) None none) ∙ is) in ([], subst (λ (ys : List X). [] ≡ ys ++ []) empty refl)
     | inr some ↦ absurd (cc (sym (cond-false (nat_eq need 0) (Some []) None some) ∙ is))
@@ -40,7 +40,7 @@ module _ {X : Type 0} where
           let starts : x ∷ ys ≡ front = cc shown in
           (rest.0, subst (λ (zs : List X). x ∷ xs ≡ zs ++ rest.0) starts (ap (λ zs. x ∷ zs) rest.1))
 
-  find_counted : (n : X → Bool) (xs : List X) (b : X) → find n xs ≡ Some b → 1 ≤ count_by n xs
+  pub find_counted : (n : X → Bool) (xs : List X) (b : X) → find n xs ≡ Some b → 1 ≤ count_by n xs
   find_counted n [] b found = absurd (cc found)
   find_counted n (x ∷ xs) b found = elim (cases_Bool (n x)) [
     | inl here ↦ omega (arith, sum_by-cons (λ y. cond {A = ℕ} (n y) 1 0) x xs, cond-true {A = ℕ} (n x) 1 0 here)
@@ -98,7 +98,7 @@ module _ {X : Type 0} where
 
 -- ---- one victim goes
 
-abbrev may_go : History → Option ℕ → Resident → Bool
+abbrev pub may_go : History → Option ℕ → Resident → Bool
 may_go history except block = not (is_pinned history block.dataset block.part) && not (is_excepted except block.dataset)
 
 pins_stay : (history : History) (worker : ℕ) (block : Resident) (fate : Fate) (d p : ℕ) → is_pinned (eviction_by worker block fate ∷ history) d p ≡ is_pinned history d p
@@ -107,7 +107,7 @@ pins_stay history worker block fate d p =
     let pins : total (pin_of d p) (eviction_by worker block fate ∷ history) ≡ total (pin_of d p) history = omega arith in
     ap (λ n. nat_lt n (total (pin_of d p) (eviction_by worker block fate ∷ history))) unpins ∙ ap (nat_lt (total (unpin_of d p) history)) pins
 
-its_name : (block : Resident) → is_block block.dataset block.part block ≡ true
+pub its_name : (block : Resident) → is_block block.dataset block.part block ≡ true
 its_name block = rw (eq-eqb block.dataset block.dataset refl, eq-eqb block.part block.part refl) refl
 
 isn't : (b : Bool) → not b ≡ true → b ≡ false
@@ -166,7 +166,7 @@ open_settled-more : (before : History) (worker by : ℕ) (event : Event) → ope
 open_settled-more before worker by (Evict d p size fate) same = same_either (nat_eq by worker) (open_task before worker) ∙ same
 open_settled-more before worker by _ same = refl
 
-open_settled : (history : History) (worker : ℕ) → open_task history worker ≡ open_task (settled history) worker
+pub open_settled : (history : History) (worker : ℕ) → open_task history worker ≡ open_task (settled history) worker
 open_settled [] worker = refl
 open_settled (entry ∷ before) worker = open_settled-more before worker entry.worker entry.event (open_settled before worker)
 

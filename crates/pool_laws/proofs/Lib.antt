@@ -13,6 +13,8 @@ pub mod Owning
 pub mod Safe
 pub mod NextEntries
 pub mod Evictions
+pub mod EntriesOfGroups
+pub mod GroupsOfEntries
 pub mod NoBlocks
 pub mod Lone
 pub mod Uses

@@ -5,3 +5,4 @@ pub mod Uncached
 pub mod SafeJournal
 pub mod Owners
 pub mod Evicting
+pub mod ByGroups
