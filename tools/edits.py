@@ -166,7 +166,8 @@ class Trial:
         return kept
 
     def one(self, edit, kept):
-        edit.refused, said = self.rt.must_fail(self.crate, edit.path, ['--jobs', '1'], kept)
+        kind, said = self.rt.must_fail(self.crate, edit.path, ['--jobs', '1'], kept)
+        edit.refused = kind in (self.rt.REFUSED, self.rt.AT_LIMIT)
         edit.said = said.partition(': ')[2]
 
     def together(self, lot, kept):
