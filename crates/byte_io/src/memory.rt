@@ -49,7 +49,7 @@ impl Source for MemorySource {
     ghost use Rattle.std.specs.Prelude.{◌≡◌, ◌↔◌, Some, IsErr, Contains, is_some};
     ghost use Rattle.std.specs.Io.{ReadsAtMost};
     ghost use Rattle.std.specs.Io.KnownBytes.{ReadConsumes};
-    ghost use Rattle.fault_count.specs.Faults.{HasCause};
+    ghost use Rattle.fault_count.specs.Faults.{Counts, HasCause};
     ghost use Rattle.byte_io.specs.Sources.{TakesTurn};
     ghost use Rattle.byte_io.specs.Memory.{CountsRead, source_calls, source_fails, source_faults, source_left, source_turns};
 
@@ -69,6 +69,7 @@ impl Source for MemorySource {
         // It fails exactly at the calls that are listed.
         ensures listed { IsErr result ↔ Contains (source_fails self.old) (source_calls self.old) }
         ensures counts { CountsRead self.old self.new }
+        ensures counted { Counts (source_faults self.old) (source_faults self.new) result }
     {
         let call = self.calls;
         self.calls = call.saturating_add(1);
@@ -120,7 +121,7 @@ impl MemorySink {
 impl Sink for MemorySink {
     ghost use Rattle.std.specs.Prelude.{◌≡◌, ◌<◌, ◌≤◌, ◌↔◌, Some, Contains, IfOk, IsErrOf, is_some, length};
     ghost use Rattle.std.specs.Io.KnownBytes.{WriteAppends};
-    ghost use Rattle.fault_count.specs.Faults.{HasCauseAt};
+    ghost use Rattle.fault_count.specs.Faults.{CountsAt, HasCauseAt};
     ghost use Rattle.byte_io.specs.Memory.{CountsWrite, sink_bytes, sink_calls, sink_fails, sink_faults};
 
     ghost written = { λ s. Some (sink_bytes s) };
@@ -138,6 +139,7 @@ impl Sink for MemorySink {
         // It fails exactly at the calls that are listed.
         ensures listed { IsErrOf result SinkError.Failed ↔ Contains (sink_fails self.old) (sink_calls self.old) }
         ensures counts { CountsWrite self.old self.new }
+        ensures counted { CountsAt SinkError.Failed (sink_faults self.old) (sink_faults self.new) result }
     {
         let call = self.calls;
         self.calls = call.saturating_add(1);

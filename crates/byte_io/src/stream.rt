@@ -1,7 +1,7 @@
-ghost use Rattle.std.specs.Prelude.{◌≡◌, ◌<◌, ◌≤◌, ◌^◌, IfOk, is_some, length};
+ghost use Rattle.std.specs.Prelude.{◌≡◌, ◌<◌, ◌≤◌, ◌^◌, Err, IfOk, IsErr, OnErr, is_some, length};
 ghost use Rattle.std.specs.Io.{ReadsAtMost};
 ghost use Rattle.std.specs.Io.KnownBytes.{ReadConsumes, WriteAppends};
-ghost use Rattle.fault_count.specs.Faults.{HasCause, HasCauseAt};
+ghost use Rattle.fault_count.specs.Faults.{Counts, HasCause, HasCauseAt};
 ghost use Rattle.byte_io.specs.Sources.{TakesTurn};
 ghost use Rattle.byte_io.specs.Streams.{reader_faults, reader_of, sink_tells, source_tells, turns_of, writer_faults, writer_of};
 
@@ -10,7 +10,7 @@ use crate::source::{Failed, Source};
 use std::io::{Read, Write};
 
 // No source gives bytes for ever, so one that was read this often fails.
-const MAX_TURNS: u64 = 1 << 62;
+pub const MAX_TURNS: u64 = 1 << 62;
 
 /// A source over any std reader. It tells nothing, and counts a fault at each `Err` of the reader. One
 /// that was read 2^62 times fails.
@@ -53,20 +53,47 @@ impl<R: Read> Source for StdSource<R> {
         // It gives the bytes that its reader gives, where these are known.
         ensures through { ReadConsumes (R.remaining (reader_of self.old))
             (R.remaining (reader_of self.new)) result buf.new }
+
+        // Where no turn is left, it fails; each time that it fails is counted.
+        ensures spent { turns_of self.old ≡ 0 → IsErr result }
+        ensures counted { Counts (reader_faults self.old) (reader_faults self.new) result }
     {
-        if self.turns == 0 {
-            self.faults = self.faults.saturating_add(1);
-            return Err(Failed);
-        }
-        self.turns -= 1;
-        match self.reader.read(buf) {
-            Ok(count) => Ok(count),
-            Err(_) => {
-                self.faults = self.faults.saturating_add(1);
-                Err(Failed)
-            }
-        }
+        let read = read_in_turn(&mut self.reader, &mut self.turns, buf);
+        counted(&mut self.faults, read)
     }
+}
+
+/// Reads, where a turn is left.
+pub fn read_in_turn<R: Read>(
+    reader: &mut R,
+    turns: &mut u64,
+    buf: &mut [u8],
+) -> Result<usize, Failed>
+    ensures bound { ReadsAtMost result buf.new }
+    ensures turns { TakesTurn turns.old turns.new result }
+    ensures spent { turns.old ≡ 0 → IsErr result }
+    ensures through { ReadConsumes (R.remaining reader.old) (R.remaining reader.new) result buf.new }
+{
+    if *turns == 0 {
+        return Err(Failed);
+    }
+    *turns -= 1;
+    match reader.read(buf) {
+        Ok(count) => Ok(count),
+        Err(_) => Err(Failed),
+    }
+}
+
+/// The answer, with a count for each that failed.
+pub fn counted<T, E>(faults: &mut u64, answer: Result<T, E>) -> Result<T, E>
+    ensures same { result ≡ answer }
+    ensures counted { Counts faults.old faults.new result }
+    ensures cause { HasCause faults.old faults.new result }
+{
+    if answer.is_err() {
+        *faults = faults.saturating_add(1);
+    }
+    answer
 }
 
 /// A sink over any std writer. It tells nothing, and counts a fault at each `Err` of the writer. A write
@@ -102,13 +129,26 @@ impl<W: Write> Sink for StdSink<W> {
         // Its writer takes the bytes that it takes, where these are known.
         ensures through { WriteAppends (W.contents (writer_of self.old))
             (W.contents (writer_of self.new)) result piece.now }
+
+        // It fails in no other way, and each time is counted.
+        ensures only { OnErr result (result ≡ Err SinkError.Failed) }
+        ensures counted { Counts (writer_faults self.old) (writer_faults self.new) result }
     {
-        match self.writer.write(piece) {
-            Ok(0) => {}
-            Ok(count) => return Ok(count),
-            Err(_) => {}
-        }
-        self.faults = self.faults.saturating_add(1);
-        Err(SinkError::Failed)
+        let written = write_some(&mut self.writer, piece);
+        counted(&mut self.faults, written)
+    }
+}
+
+/// Writes a front of the piece. One of no byte has failed.
+pub fn write_some<W: Write>(writer: &mut W, piece: &[u8]) -> Result<usize, SinkError>
+    ensures some { IfOk result (λ n. 0 < n) }
+    ensures bound { IfOk result (λ n. n ≤ length piece.now) }
+    ensures only { OnErr result (result ≡ Err SinkError.Failed) }
+    ensures through { WriteAppends (W.contents writer.old) (W.contents writer.new) result piece.now }
+{
+    match writer.write(piece) {
+        Ok(0) => Err(SinkError::Failed),
+        Ok(taken) => Ok(taken),
+        Err(_) => Err(SinkError::Failed),
     }
 }
