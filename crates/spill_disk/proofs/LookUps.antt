@@ -152,6 +152,12 @@ there_is xs k s lt is there =
     let yes : s.is_there ≡ true = some_content s.is_there s.bytes.items (subst IsSome here there) in
     (yes, ap (λ o. unwrap_or o []) (here ∙ ap (λ b. cond b (Some s.bytes.items) None) yes))
 
+-- a slot tells whether its file is there
+pub there_tells : (xs : List Stored) (k : ℕ) (s : Stored) → k < length xs → s ≡ get_or xs k s → (s.is_there ≡ true → IsSome (map.get (files_from 0 xs) k)) × (IsSome (map.get (files_from 0 xs) k) → s.is_there ≡ true)
+there_tells xs k s lt is =
+    let here : map.get (files_from 0 xs) k ≡ content s = at_number xs k ∙ slot_at_read xs k s lt is in
+    (λ yes. rw (here, yes) refl, λ there. some_content s.is_there s.bytes.items (subst IsSome here there))
+
 -- the bytes of a slot's file, whether it is there or not
 pub bytes_at : (xs : List Stored) (k : ℕ) (s : Stored) → k < length xs → s ≡ get_or xs k s → bytes_of (files_from 0 xs) k ≡ cond s.is_there s.bytes.items []
 bytes_at xs k s lt is =

@@ -48,6 +48,11 @@ StaysOpen before after = (after ≡ before) ⊎ (after ≡ None)
 abbrev pub HoldsOthers : {F S : Type 0} → IndexMap ℕ (Opened F) S → IndexMap ℕ (Opened F) S → ℕ → Type 0
 HoldsOthers before after file = (other : ℕ) → other ≢ file → StaysOpen (get nat_eq before other) (get nat_eq after other)
 
+-- the file is open, and what is ahead of it has so many bytes at the place
+abbrev pub IsAhead : {F : Type 0} → Option (Opened F) → ℕ → ℕ → Type 0
+IsAhead None place count = ⊥
+IsAhead (Some opened) place count = Covers opened.ahead_at opened.ahead.items place count
+
 -- the front of the buffer is filled with what stands ahead at the place, of a file that is open
 abbrev pub Gives : {F : Type 0} → Option (Opened F) → ℕ → List ℕ → List ℕ → ℕ → Type 0
 Gives None place before after count = ⊥

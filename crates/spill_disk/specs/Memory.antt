@@ -1,6 +1,6 @@
 -- What contracts see of a disk in memory.
 -- This project's own.
-use Rattle.std.specs.Prelude.{◌≡◌, ℕ, ◌+◌, ◌-◌, ◌^◌, Bool, List, ◌==◌, min, vec_len}
+use Rattle.std.specs.Prelude.{◌≡◌, ℕ, ◌+◌, ◌-◌, ◌^◌, Bool, List, ◌==◌, if◌then◌else◌, min, vec_len}
 use Rattle.std.specs.List.{list_any}
 use Rattle.spill_disk.specs.Files.{Files}
 use Rattle.spill_disk.specs.Kept.{files_from}
@@ -30,7 +30,9 @@ faults_of disk = disk.faults
 abbrev pub next_fails : MemoryDisk → Bool
 next_fails disk = list_any (λ call. call == disk.calls) disk.fails.items
 
--- there was one call more, as far as a `u64` counts, and the calls that fail are the same
+-- there was one call more, and one fault more where it is one of those that fail, both as far as a `u64` counts; the
+-- calls that fail are the same
 pub record CountsCall (before after : MemoryDisk) : Type 0 where
   pub calls : calls_of after ≡ min (calls_of before + 1) (2 ^ 64 - 1)
   pub fails : fails_of after ≡ fails_of before
+  pub faults : faults_of after ≡ min (faults_of before + (if next_fails before then 1 else 0)) (2 ^ 64 - 1)

@@ -1,10 +1,10 @@
 //! A disk in a folder, which tells nothing.
 
-ghost use Rattle.std.specs.Prelude.{◌≡◌, ◌≢◌, ◌<◌, ◌≤◌, ◌+◌, ℕ, [], None, Some, nat_eq, length, IfOk, OnOk, OnErr};
+ghost use Rattle.std.specs.Prelude.{◌≡◌, ◌≢◌, ◌<◌, ◌≤◌, ◌+◌, ◌-◌, ◌^◌, ℕ, [], None, Some, nat_eq, length, Err, IfOk, IsOk, IsSome, OnOk, OnErr};
 ghost use Rattle.indexmap.specs.IndexMap.{get, spare, Updates};
 ghost use Rattle.fault_count.specs.Faults.{HasCauseAt};
 ghost use Rattle.spill_disk.specs.Ahead.{Covers};
-ghost use Rattle.spill_disk.specs.Folder.{folder_faults, folder_next, open_of, collected_of, collected_in, collected_with, IsNew, HoldsOthers, Gives, GivesAgain, StaysOpen};
+ghost use Rattle.spill_disk.specs.Folder.{folder_faults, folder_next, open_of, collected_of, collected_in, collected_with, IsNew, HoldsOthers, Gives, GivesAgain, IsAhead, StaysOpen};
 
 use crate::opened::Opened;
 use crate::{Disk, DiskError};
@@ -68,6 +68,9 @@ impl<R: Files + Drop> Disk for FolderDisk<R> {
         ensures later { folder_next self.old ≤ folder_next self.new }
         ensures cause { HasCauseAt DiskError.Failed (folder_faults self.old) (folder_faults self.new) result }
 
+        // At the last `u64` it fails.
+        ensures last { folder_next self.old ≡ 2 ^ 64 - 1 → result ≡ Err DiskError.Failed }
+
         // The file is open, with nothing collected. Another one may be closed for it.
         ensures opened { IfOk result (λ file. IsNew (open_of self.new file)) }
         ensures others { (other : ℕ) → other ≢ folder_next self.old
@@ -100,6 +103,11 @@ impl<R: Files + Drop> Disk for FolderDisk<R> {
             (collected_of self.new file ≡ collected_with (collected_of self.old file) bytes.now) }
         ensures others { (other : ℕ) → other ≢ file
             → StaysOpen (open_of self.old other) (open_of self.new other) }
+
+        // What is only collected can't fail.
+        ensures still { IsSome (open_of self.old file)
+            → length (collected_of self.old file) + length bytes.now < 65536
+            → result ≢ Err DiskError.Failed }
     {
         let added = append_to(
             &self.rt,
@@ -126,6 +134,11 @@ impl<R: Files + Drop> Disk for FolderDisk<R> {
             (GivesAgain (open_of self.old file) (open_of self.new file) place (length buf.old)) }
         ensures others { (other : ℕ) → other ≢ file
             → StaysOpen (open_of self.old other) (open_of self.new other) }
+
+        // What is all ahead, with nothing collected, is read without the file.
+        ensures still { collected_of self.old file ≡ []
+            → IsAhead (open_of self.old file) place (length buf.old) → length buf.old < 65536
+            → IsOk result }
     {
         let read = read_in(
             &self.rt,
@@ -148,6 +161,9 @@ impl<R: Files + Drop> Disk for FolderDisk<R> {
         ensures kept { OnErr result (open_of self.new file ≡ open_of self.old file) }
         ensures others { (other : ℕ) → other ≢ file
             → open_of self.new other ≡ open_of self.old other }
+
+        // A number that wasn't given out is no fault.
+        ensures unmade { folder_next self.old ≤ file → IsOk result }
     {
         if file >= self.next {
             return Ok(());
@@ -274,6 +290,9 @@ fn append_to<R: Files + Drop>(
     ensures collected { OnOk result
         (collected_in kept.new number ≡ collected_with (collected_in kept.old number) bytes.now) }
     ensures others { HoldsOthers kept.old kept.new number }
+    ensures still { IsSome (get nat_eq kept.old number)
+        → length (collected_in kept.old number) + length bytes.now < 65536
+        → result ≢ Err DiskError.Failed }
 {
     if let Some(opened) = kept.get_mut(&number) {
         return opened.append(bytes);
@@ -301,6 +320,9 @@ fn read_in<R: Files + Drop>(
     ensures again { OnOk result
         (GivesAgain (get nat_eq kept.old number) (get nat_eq kept.new number) place (length buf.old)) }
     ensures others { HoldsOthers kept.old kept.new number }
+    ensures still { collected_in kept.old number ≡ []
+        → IsAhead (get nat_eq kept.old number) place (length buf.old) → length buf.old < 65536
+        → IsOk result }
 {
     if let Some(opened) = kept.get_mut(&number) {
         return opened.read_at(place, buf);

@@ -8,9 +8,11 @@ mod memory_disk;
 mod opened;
 mod shelf;
 mod slots;
+mod veil_disk;
 
 pub use disk::{Disk, DiskError};
 pub use folder_disk::FolderDisk;
 pub use has_disk::HasDisk;
 pub use memory_disk::MemoryDisk;
 pub use shelf::{One, Shelf};
+pub use veil_disk::VeilDisk;

@@ -1,12 +1,12 @@
 //! A disk in memory, which tells.
 
-ghost use Rattle.std.specs.Prelude.{◌≡◌, ◌<◌, ◌≤◌, ◌↔◌, ◌-◌, ◌+◌, ◌^◌, min, Some, is_err, length, is_some, vec_len, Err, IfOk, OnOk, OnErr, IsErrOf, IsTrue};
+ghost use Rattle.std.specs.Prelude.{◌≡◌, ◌<◌, ◌≤◌, ◌↔◌, ◌-◌, ◌+◌, ◌^◌, if◌then◌else◌, min, Some, is_err, length, is_some, vec_len, Err, IfOk, OnOk, OnErr, IsErrOf, IsTrue};
 ghost use Rattle.std.specs.FinMap as map;
 ghost use Rattle.fault_count.specs.Faults.{HasCauseAt};
-ghost use Rattle.spill_disk.specs.Files.{IsThere, Creates, Appends, AppendsPart, Reads, Removes};
+ghost use Rattle.spill_disk.specs.Files.{IsThere, Creates, Appends, AppendsPart, Reads, Removes, bytes_of};
 ghost use Rattle.spill_disk.specs.Memory.{memory_files, created_of, fails_of, calls_of, faults_of, next_fails, CountsCall};
 
-use crate::slots::{add_bytes, add_slot, bytes_at, clear_slot, fill};
+use crate::slots::{add_bytes, add_slot, bytes_at, clear_slot, fill, has_file};
 use crate::{Disk, DiskError};
 use std::alloc::Global;
 
@@ -56,19 +56,53 @@ impl MemoryDisk {
         self.slots.len() as u64
     }
 
+    /// How many calls failed so far, as far as a `u64` counts.
+    pub fn faults(&self) -> u64
+        ensures { result ≡ faults_of self.now }
+    {
+        self.faults
+    }
+
+    /// Whether a file is there.
+    pub(crate) fn has(&self, file: u64) -> bool
+        ensures { IsTrue result ↔ IsThere (Some (memory_files self.now)) file }
+    {
+        has_file(&self.slots, file)
+    }
+
+    /// The bytes of a file; none where it isn't there.
+    pub(crate) fn bytes(&self, file: u64) -> &[u8]
+        ensures { result.now ≡ bytes_of (memory_files self.now) file }
+    {
+        bytes_at(&self.slots, file)
+    }
+
     /// Counts a call. `Failed` comes exactly where its number is one of those that fail.
-    fn begin_call(&mut self) -> Result<(), DiskError>
+    pub(crate) fn begin_call(&mut self) -> Result<(), DiskError>
         ensures failed { is_err result ≡ next_fails self.old }
         ensures only { OnErr result (result ≡ Err DiskError.Failed) }
+        ensures counts { CountsCall self.old self.new }
+        ensures same { self.new.slots ≡ self.old.slots }
+        ensures cause { HasCauseAt DiskError.Failed self.old.faults self.new.faults result }
+    {
+        let is_listed = self.fails.contains(&self.calls);
+        self.count_call(is_listed)
+    }
+
+    /// Counts a call, which fails where it is told to.
+    pub(crate) fn count_call(&mut self, fails: bool) -> Result<(), DiskError>
+        ensures failed { is_err result ≡ fails }
+        ensures only { OnErr result (result ≡ Err DiskError.Failed) }
         ensures calls { self.new.calls ≡ min (self.old.calls + 1) (2 ^ 64 - 1) }
+        ensures faults { self.new.faults ≡ min (self.old.faults + (if fails then 1 else 0)) (2 ^ 64 - 1) }
         ensures same { self.new.slots ≡ self.old.slots }
         ensures kept { self.new.fails ≡ self.old.fails }
         ensures cause { HasCauseAt DiskError.Failed self.old.faults self.new.faults result }
     {
-        let number = self.calls;
-        self.calls = number.saturating_add(1);
-        if self.fails.contains(&number) {
-            self.faults = self.faults.saturating_add(1);
+        let faults = self.faults;
+        self.calls = self.calls.saturating_add(1);
+        if fails {
+            self.faults = faults.saturating_add(1);
             return Err(DiskError::Failed);
         }
         Ok(())

@@ -1,6 +1,6 @@
 //! An open file of a folder disk, with what is collected for its end and what was read ahead.
 
-ghost use Rattle.std.specs.Prelude.{◌≡◌, ◌≤◌, ◌<◌, ◌↔◌, [], length, IsTrue, IfOk, OnOk};
+ghost use Rattle.std.specs.Prelude.{◌≡◌, ◌≢◌, ◌≤◌, ◌<◌, ◌+◌, ◌↔◌, [], length, Err, IsOk, IsTrue, IfOk, OnOk};
 ghost use Rattle.spill_disk.specs.Ahead.{Covers, GivesAhead};
 ghost use Rattle.spill_disk.specs.Folder.{collected_with};
 
@@ -39,6 +39,7 @@ impl<F: Read + Write + Seek + Drop> Opened<F> {
         ensures collected { self.new.collected.items ≡ [] }
         ensures ahead { self.new.ahead.items ≡ self.old.ahead.items }
         ensures ahead_at { self.new.ahead_at ≡ self.old.ahead_at }
+        ensures still { self.old.collected.items ≡ [] → IsOk result }
     {
         if self.collected.is_empty() {
             return Ok(());
@@ -54,6 +55,8 @@ impl<F: Read + Write + Seek + Drop> Opened<F> {
             (self.new.collected.items ≡ collected_with self.old.collected.items bytes.now) }
         ensures ahead { self.new.ahead.items ≡ self.old.ahead.items }
         ensures ahead_at { self.new.ahead_at ≡ self.old.ahead_at }
+        ensures still { length self.old.collected.items + length bytes.now < 65536
+            → result ≢ Err DiskError.Failed }
     {
         if bytes.len() >= BUFFER_BYTES || self.collected.len() >= BUFFER_BYTES - bytes.len() {
             self.flush()?;
@@ -77,6 +80,9 @@ impl<F: Read + Write + Seek + Drop> Opened<F> {
             → self.new.ahead.items ≡ self.old.ahead.items }
         ensures again_at { Covers self.old.ahead_at self.old.ahead.items place (length buf.old)
             → self.new.ahead_at ≡ self.old.ahead_at }
+        ensures still { self.old.collected.items ≡ []
+            → Covers self.old.ahead_at self.old.ahead.items place (length buf.old)
+            → length buf.old < 65536 → IsOk result }
     {
         self.flush()?;
         if buf.len() >= BUFFER_BYTES {

@@ -1,6 +1,6 @@
 //! The slots of a disk in memory, one for each file number that was given out.
 
-ghost use Rattle.std.specs.Prelude.{◌≡◌, ◌++◌, ◌<◌, ◌≤◌, ◌+◌, ◌∷◌, [], Some, length, drop, true, IfOk, OnOk, OnErr, vec_len};
+ghost use Rattle.std.specs.Prelude.{◌≡◌, ◌↔◌, ◌++◌, ◌<◌, ◌≤◌, ◌+◌, ◌∷◌, [], Some, length, drop, true, IfOk, IsTrue, OnOk, OnErr, vec_len};
 ghost use Rattle.spill_disk.specs.Files.{IsThere, Appends, Removes, Creates, bytes_of, read_of};
 ghost use Rattle.spill_disk.specs.Kept.{files_from};
 
@@ -37,6 +37,16 @@ pub fn add_bytes(slots: &mut Vec<Stored>, file: u64, bytes: &[u8]) -> Result<(),
 {
     let stored = &mut slots[file as usize];
     stored.bytes.extend_from_slice(bytes)
+}
+
+/// Whether a file is there.
+pub fn has_file(slots: &[Stored], file: u64) -> bool
+    ensures { IsTrue result ↔ IsThere (Some (files_from 0 slots.now)) file }
+{
+    if file >= slots.len() as u64 {
+        return false;
+    }
+    slots[file as usize].is_there
 }
 
 /// The bytes of a file; none where it isn't there.
