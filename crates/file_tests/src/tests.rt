@@ -11,3 +11,4 @@ mod merging;
 mod owner;
 mod reading;
 mod runs;
+mod veils;

@@ -1,3 +1,4 @@
+mod files;
 mod partitions;
 mod records;
 mod sinks;

@@ -5,10 +5,13 @@ use spill_disk::{Disk, DiskError, MemoryDisk, One, Shelf};
 use std::alloc::Global;
 use std::test::Fail;
 
-// The first of these calls that a disk which fails at some of them answers otherwise.
+// The first of these calls that a disk which fails at some of them answers otherwise. All that fail are made.
 fn answered_otherwise(alloc: Global, fails: &[u64], calls: &str) -> Result<Option<String>, Fail> {
     let mut disk = MemoryDisk::new(fails.to_vec(alloc)?);
     let other = other_answer(alloc, &mut disk, None, calls)?;
+    if disk.faults() != fails.len() as u64 {
+        return Err("another count of faults".into());
+    }
     if let Some(answer) = &other {
         let answer = answer.as_str();
         if answer == "read:0:0:8=1:d......." || answer == "read:0:0:8=0:........" {

@@ -9,53 +9,10 @@ use crate::tests::reading::other_step;
 use aggregate::{Agg, AggList, Kind};
 use row_page::Page;
 use run_file::{Form, Run, RunReader, RunWriter};
-use spill_disk::{Disk, DiskError, MemoryDisk, One, Shelf};
+use spill_disk::{Disk, MemoryDisk, One, Shelf, VeilDisk};
 use std::alloc::Global;
 use std::fs;
 use std::test::Fail;
-
-/// A disk of one file that tells nothing, and hides the file's last bytes from `read_at`.
-#[derive(Drop)]
-struct Veiled {
-    bytes: Vec<u8>,
-    hidden: usize,
-    next: u64,
-}
-
-impl Disk for Veiled {
-    ghost use Rattle.std.specs.Prelude.{None};
-
-    ghost files = { λ _. None };
-
-    ghost faults = { λ _. 0 };
-
-    ghost next_number = { λ disk. disk.next };
-
-    fn create(&mut self) -> Result<u64, DiskError> {
-        if self.next == u64::MAX {
-            return Err(DiskError::NoMemory);
-        }
-        self.next += 1;
-        Ok(self.next - 1)
-    }
-
-    fn append(&mut self, _file: u64, bytes: &[u8]) -> Result<(), DiskError> {
-        self.bytes.extend_from_slice(bytes)?;
-        Ok(())
-    }
-
-    fn read_at(&mut self, _file: u64, place: u64, buf: &mut [u8]) -> Result<usize, DiskError> {
-        let seen = &self.bytes[..self.bytes.len().saturating_sub(self.hidden)];
-        let rest = &seen[seen.len().min(place as usize)..];
-        let count = rest.len().min(buf.len());
-        buf[..count].copy_from_slice(&rest[..count]);
-        Ok(count)
-    }
-
-    fn remove(&mut self, _file: u64) -> Result<(), DiskError> {
-        Ok(())
-    }
-}
 
 // The first step that a reader of the three entries' run answers otherwise.
 fn read_otherwise(alloc: Global, form: Form, steps: &str) -> Result<Option<String>, Fail> {
@@ -161,11 +118,7 @@ fn a_row_of_another_form_is_damage(rt: HostRuntime) -> Result<(), Fail> {
 #[test]
 fn a_short_file_is_damaged_and_not_ended(rt: HostRuntime) -> Result<(), Fail> {
     let alloc = rt.alloc();
-    let mut disk = Veiled {
-        bytes: Vec::new(alloc),
-        hidden: 1,
-        next: 0,
-    };
+    let mut disk = VeilDisk::new(alloc, Vec::new(alloc), vec![in alloc; (0, 1)]?);
     let run = put_run(&mut disk, 0, &three_entries(alloc)?)?;
     let steps = "advance=00000001610000000131 advance=000000016200000000 advance=damaged:0:0:3:2 \
         next=damaged:0:0:3:2";

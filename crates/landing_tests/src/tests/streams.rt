@@ -30,13 +30,13 @@ impl Write for Broken {
 }
 
 // Reads into three bytes.
-fn read_three<R: Read>(source: &mut StdSource<R>, buf: &mut [u8; 3]) -> Result<usize, Failed> {
+fn read_three<S: Source>(source: &mut S, buf: &mut [u8; 3]) -> Result<usize, Failed> {
     source.read(buf)
 }
 
-// Reads three times into three bytes, which are zeros at first. Each read is shown as its answer and the
-// three bytes, or as `-` where it failed.
-fn three_reads<R: Read>(alloc: Global, source: &mut StdSource<R>) -> Result<Vec<u8>, AllocError> {
+/// Reads three times into three bytes, which are zeros at first. Each read is shown as its answer and the
+/// three bytes, or as `-` where it failed.
+pub fn three_reads<S: Source>(alloc: Global, source: &mut S) -> Result<Vec<u8>, AllocError> {
     let mut buf = [0u8; 3];
     let mut shown = Vec::new(alloc);
     for _ in 0..3u8 {
@@ -61,8 +61,8 @@ fn rows_of<R: Read + Drop>(
     reading_of(alloc, &mut source, by_value)
 }
 
-// This is what was to be shown.
-fn shows(
+/// This is what was to be shown.
+pub fn shows(
     rt: &impl Abort,
     shown: Result<Vec<u8>, AllocError>,
     wanted: &[u8],
@@ -88,8 +88,8 @@ fn a_std_reader_is_a_source(rt: HostRuntime) -> Result<(), Fail> {
     Ok(())
 }
 
-// Writes one piece through a sink over this writer.
-fn write_one<W: Write>(sink: &mut StdSink<W>, piece: &[u8]) -> Result<usize, SinkError>
+/// Writes one piece.
+pub fn write_one<S: Sink>(sink: &mut S, piece: &[u8]) -> Result<usize, SinkError>
     requires { 0 < length piece.now }
 {
     sink.write(piece)
