@@ -2,7 +2,7 @@
 
 ghost use Rattle.std.specs.Prelude.{◌≡◌, ◌≢◌, ◌<◌, ◌≤◌, ◌+◌, ◌-◌, ◌^◌, ℕ, [], None, Some, nat_eq, length, Err, IfOk, IsOk, IsSome, OnOk, OnErr};
 ghost use Rattle.indexmap.specs.IndexMap.{get, spare, Updates};
-ghost use Rattle.fault_count.specs.Faults.{HasCauseAt};
+ghost use Rattle.fault_count.specs.Faults.{CountsAt, HasCauseAt};
 ghost use Rattle.spill_disk.specs.Ahead.{Covers};
 ghost use Rattle.spill_disk.specs.Folder.{folder_faults, folder_next, open_of, collected_of, collected_in, collected_with, IsNew, HoldsOthers, Gives, GivesAgain, IsAhead, StaysOpen};
 
@@ -67,6 +67,7 @@ impl<R: Files + Drop> Disk for FolderDisk<R> {
         ensures given { IfOk result (λ file. file < folder_next self.new) }
         ensures later { folder_next self.old ≤ folder_next self.new }
         ensures cause { HasCauseAt DiskError.Failed (folder_faults self.old) (folder_faults self.new) result }
+        ensures counted { CountsAt DiskError.Failed (folder_faults self.old) (folder_faults self.new) result }
 
         // At the last `u64` it fails.
         ensures last { folder_next self.old ≡ 2 ^ 64 - 1 → result ≡ Err DiskError.Failed }
@@ -97,6 +98,7 @@ impl<R: Files + Drop> Disk for FolderDisk<R> {
     fn append(&mut self, file: u64, bytes: &[u8]) -> Result<(), DiskError>
         ensures same { folder_next self.new ≡ folder_next self.old }
         ensures cause { HasCauseAt DiskError.Failed (folder_faults self.old) (folder_faults self.new) result }
+        ensures counted { CountsAt DiskError.Failed (folder_faults self.old) (folder_faults self.new) result }
 
         // Short ones are collected. Another file may be closed.
         ensures collected { OnOk result
@@ -124,6 +126,7 @@ impl<R: Files + Drop> Disk for FolderDisk<R> {
         ensures bound { IfOk result (λ count. count ≤ length buf.old) }
         ensures numbers { folder_next self.new ≡ folder_next self.old }
         ensures cause { HasCauseAt DiskError.Failed (folder_faults self.old) (folder_faults self.new) result }
+        ensures counted { CountsAt DiskError.Failed (folder_faults self.old) (folder_faults self.new) result }
 
         // What was collected is written first. A short read is given from what is ahead, which is read
         // anew only where it hasn't all that is wanted. Another file may be closed.
@@ -155,6 +158,7 @@ impl<R: Files + Drop> Disk for FolderDisk<R> {
     fn remove(&mut self, file: u64) -> Result<(), DiskError>
         ensures same { folder_next self.new ≡ folder_next self.old }
         ensures cause { HasCauseAt DiskError.Failed (folder_faults self.old) (folder_faults self.new) result }
+        ensures counted { CountsAt DiskError.Failed (folder_faults self.old) (folder_faults self.new) result }
 
         // The file is closed, and what is collected for it is forgotten. After an `Err` nothing is.
         ensures closed { file < folder_next self.old → OnOk result (open_of self.new file ≡ None) }
@@ -183,6 +187,7 @@ impl<R: Files + Drop> Disk for FolderDisk<R> {
 fn counted<T>(faults: &mut u64, answer: Result<T, DiskError>) -> Result<T, DiskError>
     ensures same { result ≡ answer }
     ensures cause { HasCauseAt DiskError.Failed faults.old faults.new result }
+    ensures counted { CountsAt DiskError.Failed faults.old faults.new result }
 {
     if let Err(DiskError::Failed) = &answer {
         *faults = faults.saturating_add(1);
