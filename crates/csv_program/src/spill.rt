@@ -117,7 +117,7 @@ fn disk_in<R: Files + AllocGlobal + Clone + Drop>(
     rt: &R,
     folder: String,
 ) -> Result<FolderDisk<R>, AllocError> {
-    Ok(FolderDisk::new(rt.clone()?, folder))
+    Ok(FolderDisk::new(rt.clone()?, rt.alloc(), folder))
 }
 
 // A post with this disk.

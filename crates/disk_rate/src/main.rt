@@ -87,7 +87,7 @@ fn main(rt: HostRuntime) -> io::Result<()> {
         return println!(rt; "usage: disk_rate [write ROWS | read ROWS]");
     };
     let folder = String::from_str(rt.alloc(), "rate")?;
-    let mut disk = FolderDisk::new(rt.clone()?, folder);
+    let mut disk = FolderDisk::new(rt.clone()?, rt.alloc(), folder);
     match work(&mut disk, &wish) {
         Ok((written, read)) => println!(rt; "written {written}, read {read}"),
         Err(_) => println!(rt; "a disk failed"),

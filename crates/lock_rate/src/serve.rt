@@ -24,7 +24,7 @@ pub fn serve_all<B: Basis + Send + Sync, R: Threads + Wait + Sync>(
     requires basis { setup ≡ B.sizes }
     requires owner { (task : ℕ) → B.owner task ≡ Some task }
 {
-    let store = MemoryDisk::new(Vec::new(alloc));
+    let store = MemoryDisk::new(alloc, Vec::new(alloc));
     let (manager, workers) = Manager::<MemoryDisk, B>::start(alloc, setup, store)?;
     let shared = &manager;
     let work = |worker: Worker<B>| -> u64

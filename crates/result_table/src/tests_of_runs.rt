@@ -196,7 +196,7 @@ fn print_page(
 ) -> Result<Result<(), PrintFault>, Fail>
     requires { query.now.kind ≡ kind_of query.now.shape }
 {
-    let mut disk = MemoryDisk::new(disk_fails.to_vec(alloc)?);
+    let mut disk = MemoryDisk::new(alloc, disk_fails.to_vec(alloc)?);
     let run = put_run(&mut disk, page)?;
     print(alloc, &mut disk, &run, query, output)
 }
@@ -354,7 +354,7 @@ fn wide_of(
     failing: u64,
 ) -> Result<Result<Option<Vec<u8>>, RunFault>, Fail> {
     let page = page_of_groups(alloc, groups)?;
-    let mut disk = MemoryDisk::new([failing].to_vec(alloc)?);
+    let mut disk = MemoryDisk::new(alloc, [failing].to_vec(alloc)?);
     let run = put_run(&mut disk, &page)?;
     let aggs = AggList::of(alloc, &[Agg::Count, Agg::Sum, Agg::Min, Agg::Max])?;
     let mut one = One { disk: &mut disk };
@@ -367,7 +367,7 @@ fn wide_of(
 
 // Whether a result without a run has a group that is too wide.
 fn none_is_wide(alloc: Global) -> Result<bool, Fail> {
-    let mut disk = MemoryDisk::new(Vec::new(alloc));
+    let mut disk = MemoryDisk::new(alloc, Vec::new(alloc));
     let aggs = AggList::of(alloc, &[Agg::Sum])?;
     Ok(too_wide(alloc, &mut One { disk: &mut disk }, None, &aggs)?.is_none())
 }

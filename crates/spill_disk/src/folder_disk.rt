@@ -37,12 +37,11 @@ pub struct FolderDisk<R: Files + Drop> {
 
 impl<R: Files + Drop> FolderDisk<R> {
     /// A disk in this folder, which has no file of a number's name. Nothing is made yet.
-    pub fn new(rt: R, folder: String) -> FolderDisk<R>
+    pub fn new(rt: R, alloc: Global, folder: String) -> FolderDisk<R>
         ensures next { folder_next result ≡ 0 }
         ensures faults { folder_faults result ≡ 0 }
         ensures closed { (file : ℕ) → open_of result file ≡ None }
     {
-        let alloc = *folder.allocator();
         FolderDisk {
             rt,
             alloc,

@@ -32,14 +32,13 @@ pub struct MemoryDisk {
 impl MemoryDisk {
     /// A disk without files, on which the calls with these numbers fail. The calls of all four methods
     /// are numbered together, from 0.
-    pub fn new(fails: Vec<u64>) -> MemoryDisk
+    pub fn new(alloc: Global, fails: Vec<u64>) -> MemoryDisk
         ensures files { memory_files result ≡ map.empty }
         ensures fails { fails_of result ≡ fails.items }
         ensures calls { calls_of result ≡ 0 }
         ensures created { created_of result ≡ 0 }
         ensures faults { faults_of result ≡ 0 }
     {
-        let alloc = *fails.allocator();
         MemoryDisk {
             alloc,
             slots: Vec::new(alloc),

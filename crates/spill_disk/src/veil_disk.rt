@@ -32,7 +32,7 @@ impl VeilDisk {
         ensures faults { veil_faults result ≡ 0 }
     {
         VeilDisk {
-            disk: MemoryDisk::new(fails),
+            disk: MemoryDisk::new(alloc, fails),
             short,
         }
     }

@@ -86,7 +86,7 @@ fn write_run(
 /// runs had, or the merge gave.
 #[tactic(auto, using(crate::proofs::OnDisk::are_on_more))]
 pub fn merge_drawn(alloc: Global, keys: u64, entries: u64, merges: bool) -> Result<u64, RunFault> {
-    let mut disk = MemoryDisk::new(Vec::new(alloc));
+    let mut disk = MemoryDisk::new(alloc, Vec::new(alloc));
     let mut page = Page::new(alloc, 262144);
     let mut drawn = Drawn::new();
     let mut sorter = RowSorter::new(alloc);

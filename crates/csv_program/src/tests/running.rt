@@ -57,7 +57,7 @@ fn post_of(alloc: Global, fails: &[u64]) -> Result<Post<MemoryDisk, QueryConsume
     ensures { IfOk result (λ post. HasConsumers (map state_in post.consumers.items)) }
 {
     Ok(Post {
-        disk: MemoryDisk::new(fails.to_vec(alloc)?),
+        disk: MemoryDisk::new(alloc, fails.to_vec(alloc)?),
         consumers: make_consumers(alloc)?,
     })
 }
@@ -88,7 +88,7 @@ pub fn run_with<X: Threads + Wait + Sync>(
     let mut source = MemorySource::new(call.input.to_vec(alloc)?, call.reads.to_vec(alloc)?);
     let mut sink = MemorySink::new(alloc, call.writes.to_vec(alloc)?);
     let mut posts = posts_of(alloc, posts, call.disk)?;
-    let store = MemoryDisk::new(Vec::new(alloc));
+    let store = MemoryDisk::new(alloc, Vec::new(alloc));
     let outcome = run(
         rt,
         alloc,

@@ -7,7 +7,7 @@ use std::test::Fail;
 
 // The first of these calls that a disk which fails at some of them answers otherwise. All that fail are made.
 fn answered_otherwise(alloc: Global, fails: &[u64], calls: &str) -> Result<Option<String>, Fail> {
-    let mut disk = MemoryDisk::new(fails.to_vec(alloc)?);
+    let mut disk = MemoryDisk::new(alloc, fails.to_vec(alloc)?);
     let other = other_answer(alloc, &mut disk, None, calls)?;
     if disk.faults() != fails.len() as u64 {
         return Err("another count of faults".into());
@@ -25,7 +25,7 @@ fn answered_otherwise(alloc: Global, fails: &[u64], calls: &str) -> Result<Optio
 // A file that is gone reads as empty, and one that never was is removed without a fault.
 #[test]
 fn a_disk_in_memory_answers_as_its_table_says(rt: HostRuntime) -> Result<(), Fail> {
-    let mut disk = MemoryDisk::new(Vec::new(rt.alloc()));
+    let mut disk = MemoryDisk::new(rt.alloc(), Vec::new(rt.alloc()));
     let calls = "create=0 append:abc=ok read:0:1:5=2:bc... remove:0=ok read:0:0:5=0:..... \
         remove:7=ok";
     assert_eq!(rt; other_answer(rt.alloc(), &mut disk, None, calls)?, None);
@@ -78,7 +78,7 @@ fn made_on_second(owners: &mut Vec<Owner>) -> Result<[u64; 2], Fail> {
 
 // How many files a disk has, where one is made on the shelf that it is by itself.
 fn made_on_one(alloc: Global) -> Result<u64, Fail> {
-    let mut disk = MemoryDisk::new(Vec::new(alloc));
+    let mut disk = MemoryDisk::new(alloc, Vec::new(alloc));
     let mut one = One { disk: &mut disk };
     Shelf::disk(&mut one, 5).create()?;
     Ok(disk.created())
@@ -87,8 +87,14 @@ fn made_on_one(alloc: Global) -> Result<u64, Fail> {
 #[test]
 fn a_shelf_lends_the_disk_of_a_number(rt: HostRuntime) -> Result<(), Fail> {
     let mut owners = Vec::new(rt.alloc());
-    add_owner(&mut owners, MemoryDisk::new(Vec::new(rt.alloc())))?;
-    add_owner(&mut owners, MemoryDisk::new(Vec::new(rt.alloc())))?;
+    add_owner(
+        &mut owners,
+        MemoryDisk::new(rt.alloc(), Vec::new(rt.alloc())),
+    )?;
+    add_owner(
+        &mut owners,
+        MemoryDisk::new(rt.alloc(), Vec::new(rt.alloc())),
+    )?;
     assert_eq!(rt; made_on_second(&mut owners)?, [0, 1]);
     assert_eq!(rt; made_on_one(rt.alloc())?, 1);
     Ok(())

@@ -14,7 +14,7 @@ const ROWS: u64 = 78_644;
 /// A disk in the folder of this name.
 pub fn disk_in(rt: &HostRuntime, name: &str) -> Result<FolderDisk<HostRuntime>, Fail> {
     let folder = String::from_str(rt.alloc(), name)?;
-    Ok(FolderDisk::new(rt.clone()?, folder))
+    Ok(FolderDisk::new(rt.clone()?, rt.alloc(), folder))
 }
 
 // The first of these calls that a disk in a folder answers otherwise; `made` is the file that was made last before.

@@ -82,7 +82,7 @@ fn make_lists(alloc: Global, count: u32, strictly: bool) -> Result<Vec<Vec<Pair>
 #[test]
 fn without_a_run_there_is_none_and_one_stays(rt: HostRuntime) -> Result<(), Fail> {
     let alloc = rt.alloc();
-    let mut disk = MemoryDisk::new(Vec::new(alloc));
+    let mut disk = MemoryDisk::new(alloc, Vec::new(alloc));
     let run = put_text(alloc, &mut disk, 0, "a:1 b:2", true)?;
     let none = merge_on(alloc, &mut disk, Vec::new(alloc), &Kind::Order, 2);
     assert_eq!(rt; none, Ok(None));
@@ -96,7 +96,7 @@ fn without_a_run_there_is_none_and_one_stays(rt: HostRuntime) -> Result<(), Fail
 #[test]
 fn equal_keys_of_a_group_are_combined_and_only_the_inputs_go(rt: HostRuntime) -> Result<(), Fail> {
     let alloc = rt.alloc();
-    let mut disk = MemoryDisk::new(Vec::new(alloc));
+    let mut disk = MemoryDisk::new(alloc, Vec::new(alloc));
     let bystander = put_text(alloc, &mut disk, 0, "z:9", false)?;
     let first = put_text(alloc, &mut disk, 0, "a:1 c:1", false)?;
     let second = put_text(alloc, &mut disk, 0, "b:1 c:1", false)?;
@@ -126,7 +126,7 @@ fn come_to(
 ) -> Result<bool, Fail>
     requires { 2 ≤ fan_in }
 {
-    let mut disk = MemoryDisk::new(Vec::new(alloc));
+    let mut disk = MemoryDisk::new(alloc, Vec::new(alloc));
     let is_short = matches!(kind, Kind::Order);
     let runs = put_lists(alloc, &mut disk, lists, is_short, 0, 0)?;
     let inputs = runs.clone()?;
@@ -181,7 +181,7 @@ fn put_long(alloc: Global, disk: &mut MemoryDisk) -> Result<Run, Fail>
 #[test]
 fn a_row_that_passes_a_page_goes_through(rt: HostRuntime) -> Result<(), Fail> {
     let alloc = rt.alloc();
-    let mut disk = MemoryDisk::new(Vec::new(alloc));
+    let mut disk = MemoryDisk::new(alloc, Vec::new(alloc));
     let long = put_long(alloc, &mut disk)?;
     let short = put_text(alloc, &mut disk, 0, "a:1 c:3", true)?;
     let runs = vec![in alloc; long, short]?;
@@ -203,7 +203,7 @@ fn failing_disk(alloc: Global, from: u64, count: u64) -> Result<MemoryDisk, Fail
     for k in 0..count {
         fails.push(k.saturating_add(6).saturating_add(from))?;
     }
-    Ok(MemoryDisk::new(fails))
+    Ok(MemoryDisk::new(alloc, fails))
 }
 
 // Whether a bystander's file has its 17 bytes. A read that fails stands for a call that the merge left over.
@@ -254,8 +254,8 @@ fn each_call_of_the_disk_fails_in_its_turn(rt: HostRuntime) -> Result<(), Fail> 
 
 // The run that two runs of two disks come to, on the second one.
 fn merged_of_two(alloc: Global) -> Result<Option<Run>, Fail> {
-    let mut left = MemoryDisk::new(Vec::new(alloc));
-    let mut right = MemoryDisk::new(Vec::new(alloc));
+    let mut left = MemoryDisk::new(alloc, Vec::new(alloc));
+    let mut right = MemoryDisk::new(alloc, Vec::new(alloc));
     let first = put_text(alloc, &mut left, 0, "a:1", true)?;
     let second = put_text(alloc, &mut right, 1, "a:2", true)?;
     let mut owners = Vec::new(alloc);

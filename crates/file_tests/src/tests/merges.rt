@@ -16,7 +16,7 @@ use std::test::Fail;
 // All that a merge of these lists gives, as a page.
 fn merged(alloc: Global, lists: &str, kind: &Kind) -> Result<Page, Fail> {
     let lists = lists_of(alloc, lists)?;
-    let mut disk = MemoryDisk::new(Vec::new(alloc));
+    let mut disk = MemoryDisk::new(alloc, Vec::new(alloc));
     let runs = put_lists(alloc, &mut disk, &lists, false, 0, 0)?;
     Ok(drained(alloc, &mut disk, &runs, kind)?)
 }
@@ -29,7 +29,7 @@ fn merged_otherwise(
     steps: &str,
 ) -> Result<Option<String>, Fail> {
     let lists = lists_of(alloc, lists)?;
-    let mut disk = MemoryDisk::new(Vec::new(alloc));
+    let mut disk = MemoryDisk::new(alloc, Vec::new(alloc));
     let runs = put_lists(alloc, &mut disk, &lists, false, 0, 0)?;
     other_step(alloc, &mut disk, &runs, kind, steps)
 }
@@ -60,7 +60,7 @@ fn eight_lists(alloc: Global, times: u8) -> Result<Vec<Vec<Pair>>, Fail> {
 
 /// What a merge of eight runs gives, each on a disk of another number.
 fn eight_merged(alloc: Global, lists: &Vec<Vec<Pair>>, kind: &Kind) -> Result<Page, Fail> {
-    let mut disk = MemoryDisk::new(Vec::new(alloc));
+    let mut disk = MemoryDisk::new(alloc, Vec::new(alloc));
     let runs = put_lists(alloc, &mut disk, lists, false, 1, 1)?;
     Ok(drained(alloc, &mut disk, &runs, kind)?)
 }
@@ -92,7 +92,7 @@ fn an_order_gives_equal_keys_in_the_order_of_the_runs(rt: HostRuntime) -> Result
 #[test]
 fn runs_without_rows_give_nothing(rt: HostRuntime) -> Result<(), Fail> {
     let alloc = rt.alloc();
-    let mut disk = MemoryDisk::new(Vec::new(alloc));
+    let mut disk = MemoryDisk::new(alloc, Vec::new(alloc));
     let none = other_step(alloc, &mut disk, &[], &Kind::Order, "advance=end")?;
     assert_eq!(rt; none, None, "no run");
     let nothing = merged_otherwise(alloc, "||", &Kind::Order, "next=end")?;
@@ -152,7 +152,7 @@ fn put_cut(alloc: Global, disk: &mut MemoryDisk) -> Result<Run, Fail>
 #[test]
 fn a_short_file_is_damaged_with_its_place(rt: HostRuntime) -> Result<(), Fail> {
     let alloc = rt.alloc();
-    let mut disk = MemoryDisk::new(Vec::new(alloc));
+    let mut disk = MemoryDisk::new(alloc, Vec::new(alloc));
     let whole = put_run(&mut disk, 0, &page_of_text(alloc, "b:1", false)?)?;
     let cut = put_cut(alloc, &mut disk)?;
     let steps = "advance=00000001610000001000000000000000000000000000000001 \
@@ -165,7 +165,7 @@ fn a_short_file_is_damaged_with_its_place(rt: HostRuntime) -> Result<(), Fail> {
 
 /// How many rows two runs on the disks 3 and 5 give where this call of the disk fails, or the fault.
 fn rows_with_fault(alloc: Global, call: u64) -> Result<Result<usize, RunFault>, Fail> {
-    let mut disk = MemoryDisk::new(Vec::from_slice(alloc, &[call])?);
+    let mut disk = MemoryDisk::new(alloc, Vec::from_slice(alloc, &[call])?);
     let lists = lists_of(alloc, "|a:1 c:1|b:1")?;
     let runs = put_lists(alloc, &mut disk, &lists, false, 3, 2)?;
     match drained(alloc, &mut disk, &runs, &Kind::Order) {

@@ -16,7 +16,7 @@ use std::test::Fail;
 
 // The first step that a reader of the three entries' run answers otherwise.
 fn read_otherwise(alloc: Global, form: Form, steps: &str) -> Result<Option<String>, Fail> {
-    let mut disk = MemoryDisk::new(Vec::new(alloc));
+    let mut disk = MemoryDisk::new(alloc, Vec::new(alloc));
     let run = put_run(&mut disk, 0, &three_entries(alloc)?)?;
     other_step(alloc, &mut disk, &run, form, steps)
 }
@@ -24,7 +24,7 @@ fn read_otherwise(alloc: Global, form: Form, steps: &str) -> Result<Option<Strin
 #[test]
 fn a_run_is_read_as_it_was_written(rt: HostRuntime) -> Result<(), Fail> {
     let alloc = rt.alloc();
-    let mut disk = MemoryDisk::new(Vec::new(alloc));
+    let mut disk = MemoryDisk::new(alloc, Vec::new(alloc));
     assert_eq!(rt;
         put_run(&mut disk, 0, &three_entries(alloc)?)?,
         Run {
@@ -68,7 +68,7 @@ fn put_rows<D: Disk, H: Shelf<D>>(
 
 // The bytes of the page that the three entries' run is read into.
 fn copied(alloc: Global) -> Result<Page, Fail> {
-    let mut disk = MemoryDisk::new(Vec::new(alloc));
+    let mut disk = MemoryDisk::new(alloc, Vec::new(alloc));
     let run = put_run(&mut disk, 0, &three_entries(alloc)?)?;
     let mut reader = RunReader::new(alloc, &run, Form::Entries(Kind::Order));
     let mut copy = Page::new(alloc, 100);

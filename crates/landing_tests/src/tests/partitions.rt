@@ -38,7 +38,7 @@ const NEVER: u64 = u64::MAX;
 // A disk of which this call fails.
 fn disk_of(alloc: Global, fails: u64) -> Result<Owner, AllocError> {
     Ok(Owner {
-        own: MemoryDisk::new(vec![in alloc; fails]?),
+        own: MemoryDisk::new(alloc, vec![in alloc; fails]?),
     })
 }
 

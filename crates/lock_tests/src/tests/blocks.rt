@@ -298,7 +298,7 @@ pub fn keep_blocks<B: Basis, R: Wait + Sync>(
     requires owner { (task : ℕ) → B.owner task ≡ Some 0 }
     requires rows { (dataset part : ℕ) → B.rows dataset part ≡ None }
 {
-    let store = MemoryDisk::new(Vec::new(alloc));
+    let store = MemoryDisk::new(alloc, Vec::new(alloc));
     let (manager, mut workers) = Manager::<MemoryDisk, B>::start(alloc, setup, store)?;
     let Some(worker) = workers.pop() else {
         unreachable!()

@@ -138,7 +138,7 @@ pub fn share_one<B: Basis, R: Wait + Sync>(
     requires owner { (task : ℕ) → B.owner task ≡ Some task }
     requires rows { (dataset part : ℕ) → B.rows dataset part ≡ None }
 {
-    let store = MemoryDisk::new(Vec::new(alloc));
+    let store = MemoryDisk::new(alloc, Vec::new(alloc));
     let (manager, mut workers) = Manager::<MemoryDisk, B>::start(alloc, setup, store)?;
     let Some(worker) = workers.pop() else {
         unreachable!()
@@ -162,7 +162,7 @@ pub fn share_two<B: Basis + Send + Sync, R: Threads + Wait + Sync>(
     requires owner { (task : ℕ) → B.owner task ≡ Some task }
     requires rows { (dataset part : ℕ) → B.rows dataset part ≡ None }
 {
-    let store = MemoryDisk::new(Vec::new(alloc));
+    let store = MemoryDisk::new(alloc, Vec::new(alloc));
     let (manager, mut workers) = Manager::<MemoryDisk, B>::start(alloc, setup, store)?;
     let signs = Signs::new();
     let (one, other) = last_two(&mut workers);
@@ -186,7 +186,7 @@ pub fn share_four<B: Basis + Send + Sync, R: Threads + Wait + Sync>(
     requires owner { (task : ℕ) → B.owner task ≡ Some task }
     requires rows { (dataset part : ℕ) → B.rows dataset part ≡ None }
 {
-    let store = MemoryDisk::new(Vec::new(alloc));
+    let store = MemoryDisk::new(alloc, Vec::new(alloc));
     let (manager, mut workers) = Manager::<MemoryDisk, B>::start(alloc, setup, store)?;
     let signs = Signs::new();
     let (third, fourth) = last_two(&mut workers);

@@ -74,7 +74,7 @@ fn new_game(
     }
     let setup = Setup::of(max, 0, 1000, storage, workers)?;
     let region = setup.region();
-    let disk = MemoryDisk::new(fails.to_vec(alloc)?);
+    let disk = MemoryDisk::new(alloc, fails.to_vec(alloc)?);
     Ok(Game {
         state: MemoryState::new(alloc, setup, disk),
         workers,

@@ -25,7 +25,7 @@ const THREE: &str = "put:1.0:disk:first put:1.1:disk:second put:2.0:memory:third
 #[test]
 fn blocks_stand_in_use_order_with_their_pins(rt: HostRuntime) -> Result<(), Fail> {
     let alloc = rt.alloc();
-    is_sent(&Store::new(alloc, MemoryDisk::new(Vec::new(alloc))));
+    is_sent(&Store::new(alloc, MemoryDisk::new(alloc, Vec::new(alloc))));
     // The second pin is that of a second worker, and after the first unpin one pin is left.
     let script = "list=/1.0:105/1.1:106/2.0:105 pin:9.9=none pin:1.0=1.0,105,disk,1,first \
         list=/1.1:106/2.0:105/1.0:105:pinned pin:1.0=1.0,105,disk,1,first pins:1.0=2 unpin:1.0 \
@@ -102,7 +102,12 @@ fn is_sent<T: Send>(_value: &T) {}
 
 fn play_in_folder(rt: &HostRuntime, steps: &str) -> Result<String, Fail> {
     let path = String::from_str(rt.alloc(), "copies")?;
-    let (text, _disk) = play_on(rt.alloc(), FolderDisk::new(rt.clone()?, path), "", steps)?;
+    let (text, _disk) = play_on(
+        rt.alloc(),
+        FolderDisk::new(rt.clone()?, rt.alloc(), path),
+        "",
+        steps,
+    )?;
     Ok(text)
 }
 
@@ -122,7 +127,7 @@ fn check(
 // What the script's steps are answered, and the files behind them.
 fn play_in_memory(alloc: Global, fails: &str, before: &str, script: &str) -> Result<String, Fail> {
     let (steps, _) = script.rsplit_once(' ').unwrap_or((script, ""));
-    let disk = MemoryDisk::new(numbers(alloc, fails)?);
+    let disk = MemoryDisk::new(alloc, numbers(alloc, fails)?);
     let (mut text, disk) = play_on(alloc, disk, before, steps)?;
     put_files(&mut text, disk)?;
     Ok(text)

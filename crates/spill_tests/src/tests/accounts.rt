@@ -44,7 +44,7 @@ fn use_account_alone<B: Basis, R: Wait + Sync>(
     requires workers { B.sizes.workers ≡ 1 }
     requires owner { (task : ℕ) → B.owner task ≡ Some task }
 {
-    let store = MemoryDisk::new(Vec::new(alloc));
+    let store = MemoryDisk::new(alloc, Vec::new(alloc));
     let (manager, mut workers) = Manager::<MemoryDisk, B>::start(alloc, setup, store)?;
     let Some(worker) = workers.pop() else {
         unreachable!()

@@ -128,7 +128,7 @@ fn play_task<B: Basis, R: Wait + Sync>(
     ensures sees { SeesMore worker.old worker.new }
 {
     let mut boxes = boxes_of(alloc, play.leasts, play.parts)?;
-    let mut disk = MemoryDisk::new(play.fails.to_vec(alloc)?);
+    let mut disk = MemoryDisk::new(alloc, play.fails.to_vec(alloc)?);
     let mut notes = Vec::new(alloc);
     let mut runs = Vec::new(alloc);
     let number = worker.number();
@@ -203,7 +203,7 @@ pub fn play_alone<B: Basis, R: Wait + Sync>(
     requires workers { B.sizes.workers ≡ 1 }
     requires owner { (task : ℕ) → B.owner task ≡ Some task }
 {
-    let store = MemoryDisk::new(Vec::new(alloc));
+    let store = MemoryDisk::new(alloc, Vec::new(alloc));
     let (manager, mut workers) = Manager::<MemoryDisk, B>::start(alloc, setup, store)?;
     let Some(worker) = workers.pop() else {
         unreachable!()

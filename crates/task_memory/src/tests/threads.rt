@@ -122,7 +122,7 @@ pub fn share_four<B: Basis + Send + Sync, R: Threads + Wait + Sync>(
     requires workers { B.sizes.workers ≡ 4 }
     requires owner { (task : ℕ) → B.owner task ≡ Some task }
 {
-    let store = MemoryDisk::new(Vec::new(alloc));
+    let store = MemoryDisk::new(alloc, Vec::new(alloc));
     let (manager, mut workers) = Manager::<MemoryDisk, B>::start(alloc, setup, store)?;
     let (third, fourth) = last_two(&mut workers);
     let (first, second) = last_two(&mut workers);
