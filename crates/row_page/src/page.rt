@@ -104,6 +104,8 @@ impl Page {
         ensures grammar { IsPage result.now self.now.rows }
         ensures spelling { result.now ≡ page_bytes self.now.rows }
         ensures length { length result.now ≡ page_length self.now.rows }
+        ensures fits { page_length self.now.rows ≤ self.now.room }
+        ensures small { self.now.room ≤ 2 ^ 40 }
     {
         &self.bytes
     }
