@@ -1,7 +1,7 @@
 ghost use Rattle.std.specs.Prelude.{ℕ, ◌≡◌, ◌≤◌, ◌<◌, ◌^◌, length, take, IfSome, IfNone};
 ghost use Rattle.std.specs.Option.{option_map};
 ghost use Rattle.pool_ledger.specs.Blocks.{front_reaching};
-ghost use Rattle.eviction.specs.Victims.{is_evictable, evictable, sizes};
+ghost use Rattle.eviction.specs.Victims.{evictable, sizes};
 
 use crate::candidate::Candidate;
 
@@ -26,7 +26,7 @@ pub fn victims(list: &[Candidate], need: u64, except: Option<u32>) -> Option<usi
 {
     let mut reached: u64 = 0;
     for (index, block) in list.iter().enumerate() {
-        if may_go(block, except) {
+        if block.may_go(except) {
             reached += block.size;
             if reached >= need {
                 return Some(index + 1);
@@ -34,14 +34,4 @@ pub fn victims(list: &[Candidate], need: u64, except: Option<u32>) -> Option<usi
         }
     }
     None
-}
-
-// Whether the block isn't pinned, and not of the dataset that is excepted.
-fn may_go(block: &Candidate, except: Option<u32>) -> bool
-    ensures { result ≡ is_evictable except block.now }
-{
-    match except {
-        None => !block.pinned,
-        Some(dataset) => !block.pinned && block.dataset != dataset,
-    }
 }
