@@ -1,0 +1,10 @@
+//! What an ask or a block is answered, and what moves and is evicted for it, from a journal's sums.
+#![tactic(auto)]
+
+mod admitting;
+mod asking;
+mod choice;
+
+pub use admitting::{AdmissionPlan, need_of_admission, plan_admission};
+pub use asking::{AttemptPlan, need_of_attempt, plan_attempt};
+pub use choice::first_to_go;
