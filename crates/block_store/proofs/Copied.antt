@@ -1,5 +1,5 @@
 -- The copies of a store as the disk's files change: which are stored, and which rows they have.
-use Rattle.std.proofs.Common.{◌≡◌, ℕ, ◌<◌, ◌≤◌, Bool, true, false, cond, eqb, ◌||◌, List, [], ◌∷◌, ◌++◌, length, take, Option, Some, None, refl, sym, ap, subst, ◌∙◌, inl, inr, arith}
+use Rattle.std.proofs.Common.{◌≡◌, ℕ, ◌<◌, ◌≤◌, ◌^◌, Bool, true, false, cond, eqb, ◌||◌, List, [], ◌∷◌, ◌++◌, length, take, Option, Some, None, refl, sym, ap, subst, ◌∙◌, inl, inr, arith}
 use Rattle.std.specs.Prelude.{is_some, unwrap_or}
 use Rattle.std.specs.List.{find, list_any}
 use Rattle.std.specs.Option.{option_map, option_and_then, option_or}
@@ -45,7 +45,7 @@ pub stored_same : (before after : Option Files) (next later : ℕ) (copies : Lis
 stored_same before after next later [] tells same le h = tt
 stored_same before after next later (copy ∷ others) tells same le h =
     let below : copy.file < later = omega (arith, h.0) in
-    (below, (is_stored_same before after copy tells (same_first copy others before after same) h.1.0, (h.1.1.0, (h.1.1.1.0, stored_same before after next later others tells (same_rest copy others before after same) le h.1.1.1.1))))
+    (below, ((h.1.0.0, is_stored_same before after copy tells (same_first copy others before after same) h.1.0.1), (h.1.1.0, (h.1.1.1.0, stored_same before after next later others tells (same_rest copy others before after same) le h.1.1.1.1))))
 
 pub rows_same : (before after : Option Files) (copies : List BlockCopy) (d p : ℕ) → is_some after ≡ is_some before → SameOn copies before after → copy_rows after copies d p ≡ copy_rows before copies d p
 rows_same None None copies d p tells same = refl
@@ -80,9 +80,9 @@ fresh_file files next copies file h le =
     ]
 
 -- one copy more
-stored_end : (files : Option Files) (next : ℕ) (copies : List BlockCopy) (copy : BlockCopy) → AreStored files next copies → copy.file < next → IsStored files copy → has_copy copies copy.dataset copy.part ≡ false → has_file copies copy.file ≡ false → AreStored files next (copies ++ copy ∷ [])
-stored_end files next [] copy h below stored name file = (below, (stored, (refl, (refl, tt))))
-stored_end files next (c ∷ cs) copy h below stored name file =
+stored_end : (files : Option Files) (next : ℕ) (copies : List BlockCopy) (copy : BlockCopy) → AreStored files next copies → copy.file < next → copy.bytes ≤ 2 ^ 40 → IsStored files copy → has_copy copies copy.dataset copy.part ≡ false → has_file copies copy.file ≡ false → AreStored files next (copies ++ copy ∷ [])
+stored_end files next [] copy h below small stored name file = (below, ((small, stored), (refl, (refl, tt))))
+stored_end files next (c ∷ cs) copy h below small stored name file =
     let names = any_parts (is_copy copy.dataset copy.part) c cs name in
     let files_apart = any_parts (λ x. eqb x.file copy.file) c cs file in (
       h.0,
@@ -92,7 +92,7 @@ stored_end files next (c ∷ cs) copy h below stored name file =
           list_any-append (is_copy c.dataset c.part) cs (copy ∷ []) ∙ ap (λ t. t || list_any (is_copy c.dataset c.part) (copy ∷ [])) h.1.1.0 ∙ ap (λ t. t || false) (names_turned c copy names.0),
           (
             list_any-append (λ x. eqb x.file c.file) cs (copy ∷ []) ∙ ap (λ t. t || list_any (λ x. eqb x.file c.file) (copy ∷ [])) h.1.1.1.0 ∙ ap (λ t. t || false) (numbers_turned c.file copy.file files_apart.0),
-            stored_end files next cs copy h.1.1.1.1 below stored names.1 files_apart.1,
+            stored_end files next cs copy h.1.1.1.1 below small stored names.1 files_apart.1,
           ),
         ),
       ),
@@ -121,9 +121,9 @@ is_stored_written (Some b) (Some a) copy bytes tells written rows count =
     subst (λ (o : Option (List ℕ)). HasPage o copy.bytes) (sym written.0) (count, ∣ rows ∣₁)
 
 -- the copies with the one that was written
-pub stored_more : (before after : Option Files) (next later : ℕ) (copies : List BlockCopy) (copy : BlockCopy) (bytes : List ℕ) → AreStored before next copies → SameBelow next before after → is_some after ≡ is_some before → next ≤ later → next ≤ copy.file → copy.file < later → Writes before after copy.file bytes → HasRows bytes → length bytes ≡ copy.bytes → has_copy copies copy.dataset copy.part ≡ false → AreStored after later (copies ++ copy ∷ [])
-stored_more before after next later copies copy bytes h same tells le fresh below written rows count name =
-    stored_end after later copies copy (stored_same before after next later copies tells (same_on before after next copies h same) le h) below (is_stored_written before after copy bytes tells written rows count) name (fresh_file before next copies copy.file h fresh)
+pub stored_more : (before after : Option Files) (next later : ℕ) (copies : List BlockCopy) (copy : BlockCopy) (bytes : List ℕ) → AreStored before next copies → SameBelow next before after → is_some after ≡ is_some before → next ≤ later → next ≤ copy.file → copy.file < later → Writes before after copy.file bytes → HasRows bytes → length bytes ≡ copy.bytes → copy.bytes ≤ 2 ^ 40 → has_copy copies copy.dataset copy.part ≡ false → AreStored after later (copies ++ copy ∷ [])
+stored_more before after next later copies copy bytes h same tells le fresh below written rows count small name =
+    stored_end after later copies copy (stored_same before after next later copies tells (same_on before after next copies h same) le h) below small (is_stored_written before after copy bytes tells written rows count) name (fresh_file before next copies copy.file h fresh)
 
 copy_at_end : (copies : List BlockCopy) (copy : BlockCopy) → has_copy copies copy.dataset copy.part ≡ false → copy_at (copies ++ copy ∷ []) copy.dataset copy.part ≡ Some copy
 copy_at_end copies copy none =
@@ -202,11 +202,11 @@ rows_were_read (Some f) copy bytes rows tells h front page =
     ap (option_map rows_of) (whole (map.get f copy.file) copy.bytes bytes h front) ∙ ap Some (rows_shown bytes rows page)
 
 -- a copy that is found
-pub found_stored : (files : Option Files) (next : ℕ) (copies : List BlockCopy) (d p : ℕ) (copy : BlockCopy) → AreStored files next copies → copy_at copies d p ≡ Some copy → IsStored files copy
+pub found_stored : (files : Option Files) (next : ℕ) (copies : List BlockCopy) (d p : ℕ) (copy : BlockCopy) → AreStored files next copies → copy_at copies d p ≡ Some copy → (copy.bytes ≤ 2 ^ 40) × IsStored files copy
 found_stored files next [] d p copy h e = absurd (none-some copy e)
 found_stored files next (c ∷ cs) d p copy h e =
     elim (cases_Bool (is_copy d p c)) [
-      | inl here ↦ subst (IsStored files) (same_Some c copy (sym (ap (λ t. cond t (Some c) (copy_at cs d p)) here) ∙ e)) h.1.0
+      | inl here ↦ subst (λ (x : BlockCopy). (x.bytes ≤ 2 ^ 40) × IsStored files x) (same_Some c copy (sym (ap (λ t. cond t (Some c) (copy_at cs d p)) here) ∙ e)) h.1.0
       | inr later ↦ found_stored files next cs d p copy h.1.1.1.1 (sym (ap (λ t. cond t (Some c) (copy_at cs d p)) later) ∙ e)
     ]
 
@@ -234,7 +234,7 @@ pub copied_rows : (files : Option Files) (next : ℕ) (copies : List BlockCopy) 
 copied_rows None next copies d p h tells = absurd (false≢true tells)
 copied_rows (Some f) next [] d p h tells = refl
 copied_rows (Some f) next (c ∷ cs) d p h tells =
-    by_first (is_copy d p c) (shows (map.get f c.file) c.bytes h.1.0) (copied_rows (Some f) next cs d p h.1.1.1.1 tells)
+    by_first (is_copy d p c) (shows (map.get f c.file) c.bytes h.1.0.1) (copied_rows (Some f) next cs d p h.1.1.1.1 tells)
   where
     shows : (file : Option (List ℕ)) (count : ℕ) → HasPage file count → is_some (option_map rows_of file) ≡ true
     shows None count page = absurd page

@@ -1,6 +1,6 @@
 -- The copies of evicted blocks: which there are, and what their files have on a disk that tells.
 -- This project's own.
-use Rattle.std.specs.Prelude.{◌≡◌, ◌<◌, ℕ, Bool, false, ◌==◌, ◌&&◌, not, List, [], ◌∷◌, length, filter, Option, Some, None, ⊤}
+use Rattle.std.specs.Prelude.{◌≡◌, ◌<◌, ◌≤◌, ◌^◌, ℕ, Bool, false, ◌==◌, ◌&&◌, not, List, [], ◌∷◌, length, filter, Option, Some, None, ⊤}
 use Rattle.std.specs.List.{find, list_any}
 use Rattle.std.specs.Option.{option_map, option_and_then}
 use Rattle.std.specs.FinMap as map
@@ -50,11 +50,13 @@ abbrev pub IsStored : Option Files → BlockCopy → Type 0
 IsStored None copy = ⊤
 IsStored (Some files) copy = HasPage (map.get files copy.file) copy.bytes
 
--- each copy is stored in a file below the next number; no two have one name or one file
+-- each copy is stored in a file below the next number, with at most 2^40 bytes, as a page's room;
+-- no two have one name or one file
 abbrev pub AreStored : Option Files → ℕ → List BlockCopy → Type 0
 AreStored files next [] = ⊤
 AreStored files next (copy ∷ others) =
-    (copy.file < next) × (IsStored files copy × ((has_copy others copy.dataset copy.part ≡ false)
+    (copy.file < next) × (((copy.bytes ≤ 2 ^ 40) × IsStored files copy)
+    × ((has_copy others copy.dataset copy.part ≡ false)
     × ((has_file others copy.file ≡ false) × AreStored files next others)))
 
 -- the copies, and for how many more there is room

@@ -21,4 +21,6 @@ IsStored-prop (Some files) copy = HasPage-prop (map.get files copy.file) copy.by
 pub AreStored-prop : (files : Option Files) (next : ℕ) (copies : List BlockCopy) → IsProp (AreStored files next copies)
 AreStored-prop files next [] = Unit-prop
 AreStored-prop files next (copy ∷ others) =
-    ×_prop le_prop (×_prop (IsStored-prop files copy) (×_prop (Coded-set coded_bool _ _) (×_prop (Coded-set coded_bool _ _) (AreStored-prop files next others))))
+    ×_prop le_prop (×_prop (×_prop le_prop (IsStored-prop files copy))
+    (×_prop (Coded-set coded_bool _ _)
+    (×_prop (Coded-set coded_bool _ _) (AreStored-prop files next others))))

@@ -1,6 +1,6 @@
 //! Copies, written to the disk, read back and removed.
 
-ghost use Rattle.std.specs.Prelude.{◌≡◌, ◌≤◌, ◌<◌, ◌+◌, ℕ, Some, true, false, is_some, IfOk, IfSome, IfNone, OnErr};
+ghost use Rattle.std.specs.Prelude.{◌≡◌, ◌≤◌, ◌<◌, ◌+◌, ◌^◌, ℕ, Some, true, false, is_some, IfOk, IfSome, IfNone, OnErr};
 ghost use Rattle.std.specs.Arc.{arc_value};
 ghost use Rattle.std.specs.Option.{option_map};
 ghost use Rattle.row_page.specs.Spelling.{page_bytes};
@@ -18,9 +18,6 @@ use row_page::Page;
 use spill_disk::{Disk, DiskError};
 use std::alloc::{AllocError, Global};
 use std::sync::Arc;
-
-/// The greatest room of a page, in bytes.
-const PAGE_ROOM: u64 = 1 << 40;
 
 /// Writes a block's copy, and enters it in the list. What is not `Disk` leaves no copy, and a file
 /// that was begun is removed, if the disk does so.
@@ -91,7 +88,8 @@ pub(crate) fn read_copy<K: Disk>(
     disk: &mut K,
     copy: BlockCopy,
 ) -> Result<Option<Arc<Block, Global>>, AllocError>
-    requires { IsStored (K.files disk.old) copy }
+    requires small { copy.bytes ≤ 2 ^ 40 }
+    requires stored { IsStored (K.files disk.old) copy }
     ensures rows { is_some (K.files disk.old) ≡ true → IfOk result (λ read. IfSome read (λ block.
         option_map rows_of (file_at (K.files disk.old) copy.file)
         ≡ Some (arc_value block).page.rows)) }
@@ -106,10 +104,6 @@ pub(crate) fn read_copy<K: Disk>(
     ensures numbers { K.next_number disk.new ≡ K.next_number disk.old }
     ensures later { K.faults disk.old ≤ K.faults disk.new }
 {
-    // No page has more bytes: a copy that has is want of memory.
-    if copy.bytes > PAGE_ROOM {
-        return Err(AllocError);
-    }
     let Some(bytes) = read_file(alloc, disk, copy)? else {
         return Ok(None);
     };

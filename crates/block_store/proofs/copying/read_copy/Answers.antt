@@ -11,11 +11,11 @@ pub returns-in_default-2-clause-lost : goal.returns-in_default-2-clause-lost
 returns-in_default-2-clause-lost g c tells =
     let front : IsFront (g.K.Disk.files c.args.disk.now) c.args.copy.file c.args.copy.bytes c.in-Some.bytes.items = rw c.in-Some.is at c.in_ok-bytes.ensures.front in
     let none : (rows : Rows) → IsPage c.in-Some.bytes.items rows → c.args.copy.bytes < length c.in-Some.bytes.items = rw c.in_default-2.is at c.in_ok-page.ensures.none in
-    absurd (page_was_read (g.K.Disk.files c.args.disk.now) c.args.copy c.in-Some.bytes.items tells c.requires front none)
+    absurd (page_was_read (g.K.Disk.files c.args.disk.now) c.args.copy c.in-Some.bytes.items tells c.requires.stored front none)
 
 pub returns-clause-rows : goal.returns-clause-rows
 returns-clause-rows g c tells =
     let front : IsFront (g.K.Disk.files c.args.disk.now) c.args.copy.file c.args.copy.bytes c.in-Some.bytes.items = rw c.in-Some.is at c.in_ok-bytes.ensures.front in
     let page : IsPage c.in-Some.bytes.items c.in-Some-2.page.rows = (rw c.in-Some-2.is at c.in_ok-page.ensures.found).0 in
-    rows_were_read (g.K.Disk.files c.args.disk.now) c.args.copy c.in-Some.bytes.items c.in-Some-2.page.rows tells c.requires front page
+    rows_were_read (g.K.Disk.files c.args.disk.now) c.args.copy c.in-Some.bytes.items c.in-Some-2.page.rows tells c.requires.stored front page
     ∙ ap (λ (b : Block). Some b.page.rows) (sym c.in_ok-new.ensures.ok)

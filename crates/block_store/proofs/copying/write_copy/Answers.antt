@@ -1,4 +1,4 @@
-use Rattle.std.proofs.Common.{sym, subst, ap, ◌∙◌, List, length, refl}
+use Rattle.std.proofs.Common.{sym, subst, ap, ◌∙◌, List, length, refl, arith}
 use Rattle.block_store.specs.declared.block_copy.BlockCopy.{BlockCopy}
 use Rattle.block_store.specs.Copies.{AreStored, copy_rows}
 use Rattle.block_store.specs.Evictions.{KeepsOthers}
@@ -25,7 +25,7 @@ returns-in-Ok-clause-stored g c =
     let before = g.K.Disk.files c.args.disk.now in
     let after = g.K.Disk.files c.write_file.new.disk in
     subst (AreStored after (g.K.Disk.next_number c.write_file.new.disk)) (sym c.add.ensures.list)
-    (stored_more before after (g.K.Disk.next_number c.args.disk.now) (g.K.Disk.next_number c.write_file.new.disk) c.args.copies.now.list copy c.bytes-bytes.result.now c.requires.stored c.write_file.ensures.same c.write_file.ensures.tells c.write_file.ensures.numbers c.in-Ok.ensures.fresh c.in-Ok.ensures.given c.in-Ok.ensures.ok (c.args.page.now.rows, c.bytes-bytes.ensures.grammar) refl c.requires.uncopied)
+    (stored_more before after (g.K.Disk.next_number c.args.disk.now) (g.K.Disk.next_number c.write_file.new.disk) c.args.copies.now.list copy c.bytes-bytes.result.now c.requires.stored c.write_file.ensures.same c.write_file.ensures.tells c.write_file.ensures.numbers c.in-Ok.ensures.fresh c.in-Ok.ensures.given c.in-Ok.ensures.ok (c.args.page.now.rows, c.bytes-bytes.ensures.grammar) refl (omega (arith, c.bytes-bytes.ensures.length, c.bytes-bytes.ensures.fits, c.bytes-bytes.ensures.small)) c.requires.uncopied)
 
 pub returns-in-Err-Failed-clause-others : goal.returns-in-Err-Failed-clause-others
 returns-in-Err-Failed-clause-others g c =

@@ -9,9 +9,13 @@ pub returns-in_default-clause-lost : goal.returns-in_default-clause-lost
 returns-in_default-clause-lost g c copied tells =
     absurd (false≢true (ap is_some (sym c.in_default.is ∙ c.find.ensures) ∙ found_is c.args.self.now.copies.list c.args.dataset c.args.part ∙ copied))
 
-pub read_copy-requires : goal.read_copy-requires
-read_copy-requires g c =
-    found_stored (g.K.Disk.files c.args.self.now.disk) (g.K.Disk.next_number c.args.self.now.disk) c.args.self.now.copies.list c.args.dataset c.args.part c.in-Some.copy c.args.self.now.stored (sym c.find.ensures ∙ c.in-Some.is)
+pub read_copy-requires-clause-small : goal.read_copy-requires-clause-small
+read_copy-requires-clause-small g c =
+    (found_stored (g.K.Disk.files c.args.self.now.disk) (g.K.Disk.next_number c.args.self.now.disk) c.args.self.now.copies.list c.args.dataset c.args.part c.in-Some.copy c.args.self.now.stored (sym c.find.ensures ∙ c.in-Some.is)).0
+
+pub read_copy-requires-clause-stored : goal.read_copy-requires-clause-stored
+read_copy-requires-clause-stored g c =
+    (found_stored (g.K.Disk.files c.args.self.now.disk) (g.K.Disk.next_number c.args.self.now.disk) c.args.self.now.copies.list c.args.dataset c.args.part c.in-Some.copy c.args.self.now.stored (sym c.find.ensures ∙ c.in-Some.is)).1
 
 pub returns-clause-none : goal.returns-clause-none
 returns-clause-none g c none =
