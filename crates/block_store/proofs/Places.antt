@@ -1,8 +1,7 @@
 -- Lists with a test: where the first element that passes stands, and the list without those that pass.
-use Rattle.std.proofs.Common.{◌≡◌, ℕ, zero, suc, ◌+◌, Bool, true, false, not, cond, ◌||◌, List, [], ◌∷◌, ◌++◌, map, length, get_or, take, drop, Some, None, refl, sym, ap, subst, ◌∙◌, inl, inr, arith}
-use Rattle.std.specs.List.{find, filter, list_any, remove, position, position_from, slice_get}
+use Rattle.std.proofs.Common.{◌≡◌, ℕ, zero, suc, ◌+◌, Bool, true, false, not, cond, ◌||◌, List, [], ◌∷◌, length, get_or, Some, None, refl, sym, ap, subst, ◌∙◌, inl, inr, arith}
+use Rattle.std.specs.List.{find, filter, list_any, position, position_from, slice_get}
 use Rattle.std.proofs.lemmas.Iterator.Adapters.{position_from-zero}
-use Rattle.std.proofs.lemmas.List.{map-append, take-map, drop-map}
 use Rattle.std.proofs.lemmas.Bool.{cases_Bool, true≢false}
 use Rattle.std.proofs.lemmas.Option.{none-some, same_Some, slice_get_read, slice_get_within}
 
@@ -105,10 +104,6 @@ none_filtered test keeps (x ∷ xs) none =
       | inl holds ↦ ap (λ b. list_any test (cond b (x ∷ filter keeps xs) (filter keeps xs))) holds ∙ ap (λ b. b || list_any test (filter keeps xs)) parts.0 ∙ rest
       | inr fails ↦ ap (λ b. list_any test (cond b (x ∷ filter keeps xs) (filter keeps xs))) fails ∙ rest
     ]
-
-pub map-remove : {X Y : Type 0} (f : X → Y) (xs : List X) (i : ℕ) → map f (remove xs i) ≡ remove (map f xs) i
-map-remove f xs i =
-    map-append f (take i xs) (drop (suc i) xs) ∙ ap (λ (ys : List _). ys ++ map f (drop (suc i) xs)) (sym (take-map f i xs)) ∙ ap (λ (ys : List _). take i (map f xs) ++ ys) (sym (drop-map f (suc i) xs))
 
 -- what is read at a place that passes
 pub read_at : {X : Type 0} (test : X → Bool) (xs : List X) (i : ℕ) (x : X) → PassesAt test xs i → x ≡ get_or xs i x → slice_get xs i ≡ Some x

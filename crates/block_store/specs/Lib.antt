@@ -4,3 +4,4 @@ pub mod Copies
 pub mod StoredProp
 pub mod Evictions
 pub mod Seen
+pub mod Listing

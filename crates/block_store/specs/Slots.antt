@@ -1,25 +1,64 @@
--- What the store keeps of the blocks in memory.
--- This project's own.
-use Rattle.std.specs.Prelude.{◌≡◌, ℕ, List, map}
+-- What the store keeps of the blocks in memory: numbered slots, the last used first.
+-- After Spark: MemoryStore, whose entries stand in access order.
+use Rattle.std.specs.Prelude.{◌≡◌, ◌<◌, ◌≤◌, ◌+◌, ◌-◌, ◌^◌, ℕ, List, [], ◌∷◌, ◌++◌, length, Option, Some, None, true, nat_eq, ⊤}
+use Rattle.std.specs.Map.{lookup}
 use Rattle.std.specs.Arc.{arc_value}
-use Rattle.eviction.specs.declared.candidate.Candidate.{Candidate}
-use Rattle.block_store.specs.declared.slot.Slot.{Slot}
-use Rattle.block_store.specs.Stores.{Held, held_of, candidate_of, AreApart}
+use Rattle.lru.specs.LruCache.{LruCache}
+use Rattle.block_store.specs.declared.resident.Resident.{Resident}
+use Rattle.block_store.specs.Stores.{Held, held_of, is_held, AreApart}
 
--- the block in a slot
-abbrev pub held_in : Slot → Held
-held_in slot = held_of slot.pins (arc_value slot.block)
+-- a slot with its number: it has a block, or is empty
+abbrev pub Numbered : Type 0
+Numbered = ℕ × Option Resident
 
--- the blocks in the slots
-abbrev pub helds : List Slot → List Held
-helds slots = map held_in slots
+-- the block that a slot has
+abbrev pub held_in : Resident → Held
+held_in resident = held_of resident.pins (arc_value resident.block)
+
+-- it, with so many pins
+abbrev pub with_pins : ℕ → Resident → Resident
+with_pins pins resident = record resident { pins = pins }
+
+-- these blocks, and behind them the one that a slot has
+abbrev pub followed_by : List Held → Option Resident → List Held
+followed_by blocks None = blocks
+followed_by blocks (Some resident) = blocks ++ held_in resident ∷ []
+
+-- the blocks in the slots, from the last slot to the first
+abbrev pub blocks_in : List Numbered → List Held
+blocks_in [] = []
+blocks_in (slot ∷ slots) = followed_by (blocks_in slots) slot.1
+
+-- each number is below this one
+abbrev pub AreBelow : ℕ → List Numbered → Type 0
+AreBelow count [] = ⊤
+AreBelow count (slot ∷ slots) = (slot.0 < count) × AreBelow count slots
+
+-- the slots, where there are any
+abbrev pub slots_of : Option (LruCache ℕ (Option Resident)) → List Numbered
+slots_of None = []
+slots_of (Some cache) = cache.entries
+
+-- the cache never evicts by itself
+abbrev pub IsUnbounded : Option (LruCache ℕ (Option Resident)) → Type 0
+IsUnbounded None = ⊤
+IsUnbounded (Some cache) = cache.cap ≡ 2 ^ 64 - 1
 
 -- the blocks in memory in use order, and for how many more there is room
 pub record MemoryView : Type 0 where
   pub blocks : List Held
   pub room : ℕ
 
--- the candidates are those of the blocks, and no two blocks have one name
-pub record AreKept (slots : List Slot) (candidates : List Candidate) : Type 0 where
-  pub same : candidates ≡ map candidate_of (helds slots)
-  pub apart : AreApart (helds slots)
+-- what is true of the slots, where so many have blocks and there is room for so many more
+pub record AreKept (cache : Option (LruCache ℕ (Option Resident))) (count room : ℕ) : Type 0 where
+  pub apart : AreApart (blocks_in (slots_of cache))
+  pub counted : count ≡ length (blocks_in (slots_of cache))
+  pub enough : count + room ≤ length (slots_of cache)
+  pub numbers : AreBelow (length (slots_of cache)) (slots_of cache)
+  pub unbounded : IsUnbounded cache
+
+-- the slot of this number has the block of this name
+pub record HasBlock
+    (dataset part number : ℕ) (resident : Resident) (slots : List Numbered) : Type 0 where
+  pub here : lookup (nat_eq number) slots ≡ Some (Some resident)
+  pub named : is_held dataset part (held_in resident) ≡ true

@@ -1,7 +1,7 @@
--- A store of blocks as its callers see it: what is in memory, in use order, and which blocks have a copy on the disk.
+-- A store of blocks as its callers see it: what is in memory, in use order.
 -- After Spark: MemoryStore (use order). Pins and copies are this project's own.
-use Rattle.std.specs.Prelude.{ℕ, ◌≡◌, ◌<◌, ◌-◌, length, slice_get, slice_set, Some, Bool, false, ◌==◌, ◌&&◌, not, if◌then◌else◌, List, [], ◌∷◌, map, filter, nat_lt, Option, ⊤}
-use Rattle.std.specs.List.{find, list_any, remove}
+use Rattle.std.specs.Prelude.{ℕ, ◌≡◌, ◌-◌, Bool, false, ◌==◌, ◌&&◌, not, if◌then◌else◌, List, [], ◌∷◌, filter, nat_lt, Option, ⊤}
+use Rattle.std.specs.List.{find, list_any}
 use Rattle.std.specs.Option.{option_map, option_map_or}
 use Rattle.row_page.specs.Spelling.{page_cost}
 use Rattle.pool_ledger.specs.declared.entry.Level.{Level}
@@ -23,7 +23,13 @@ pub record Held : Type 0 where
 
 -- what a choice of victims sees of it
 abbrev pub candidate_of : Held → Candidate
-candidate_of held = record { dataset = held.dataset; part = held.part; size = held.size; pinned = nat_lt 0 held.pins }
+candidate_of held =
+    record {
+      dataset = held.dataset;
+      part = held.part;
+      size = held.size;
+      pinned = nat_lt 0 held.pins;
+    }
 
 -- whether it is the block of this dataset and part
 abbrev pub is_held : ℕ → ℕ → Held → Bool
@@ -69,11 +75,5 @@ unpinned dataset part held =
 -- no two of the blocks have one name
 abbrev pub AreApart : List Held → Type 0
 AreApart [] = ⊤
-AreApart (held ∷ others) = (list_any (is_held held.dataset held.part) others ≡ false) × AreApart others
-
--- the block stands at this place, and no other has its name
-pub record StandsAt (dataset part : ℕ) (blocks : List Held) (place : ℕ) : Type 0 where
-  pub within : place < length blocks
-  pub found : held_at blocks dataset part ≡ slice_get blocks place
-  pub others : remove blocks place ≡ without dataset part blocks
-  pub changed : (held : Held) → slice_get blocks place ≡ Some held → slice_set blocks place (unpinned dataset part held) ≡ map (unpinned dataset part) blocks
+AreApart (held ∷ others) =
+    (list_any (is_held held.dataset held.part) others ≡ false) × AreApart others

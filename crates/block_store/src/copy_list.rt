@@ -11,7 +11,7 @@ use std::marker::Model;
 /// The copies of blocks, the oldest first. Contracts see their list, and for how many more there is
 /// room.
 #[derive(Drop)]
-pub struct CopyList {
+pub(crate) struct CopyList {
     copies: Vec<BlockCopy>,
     room: u64,
 }
@@ -29,7 +29,7 @@ impl Model for CopyList {
 
 impl CopyList {
     /// No copies, and room for none.
-    pub fn new(alloc: Global) -> CopyList
+    pub(crate) fn new(alloc: Global) -> CopyList
         ensures { result ≡ record { list = []; room = 0 } }
     {
         CopyList {
@@ -39,7 +39,7 @@ impl CopyList {
     }
 
     /// Whether the block has a copy.
-    pub fn has(&self, dataset: u32, part: u32) -> bool
+    pub(crate) fn has(&self, dataset: u32, part: u32) -> bool
         ensures { result ≡ has_copy self.now.list dataset part }
     {
         self.copies
@@ -48,7 +48,7 @@ impl CopyList {
     }
 
     /// The block's copy.
-    pub fn find(&self, dataset: u32, part: u32) -> Option<BlockCopy>
+    pub(crate) fn find(&self, dataset: u32, part: u32) -> Option<BlockCopy>
         ensures { result ≡ copy_at self.now.list dataset part }
     {
         self.copies
@@ -58,7 +58,7 @@ impl CopyList {
     }
 
     /// Makes room for `n` copies. After an `Err`, which is want of memory, all is as before.
-    pub fn reserve(&mut self, n: u64) -> Result<(), AllocError>
+    pub(crate) fn reserve(&mut self, n: u64) -> Result<(), AllocError>
         ensures ok { OnOk result (n ≤ self.new.room) }
         ensures keeps { self.old.room ≤ self.new.room }
         ensures same { self.new.list ≡ self.old.list }
@@ -71,7 +71,7 @@ impl CopyList {
     }
 
     /// Adds a copy, for which there is room.
-    pub fn add(&mut self, copy: BlockCopy)
+    pub(crate) fn add(&mut self, copy: BlockCopy)
         requires { 0 < self.old.room }
         ensures list { self.new.list ≡ self.old.list ++ copy ∷ [] }
         ensures room { self.new.room + 1 ≡ self.old.room }
@@ -81,7 +81,7 @@ impl CopyList {
     }
 
     /// Takes the first copy of a dataset out of the list.
-    pub fn take_of(&mut self, dataset: u32) -> Option<BlockCopy>
+    pub(crate) fn take_of(&mut self, dataset: u32) -> Option<BlockCopy>
         ensures taken { IfSome result (λ copy. (place : ℕ)
             × (slice_get self.old.list place ≡ Some copy)
             × (self.new.list ≡ remove self.old.list place)) }

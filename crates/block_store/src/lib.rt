@@ -5,8 +5,9 @@ mod block;
 mod block_copy;
 mod copy_list;
 mod copying;
+mod resident;
 mod residents;
-mod slot;
+mod slots;
 mod store;
 
 pub use block::Block;

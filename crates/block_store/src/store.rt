@@ -1,6 +1,6 @@
 //! Blocks in memory and their copies on one disk.
 
-ghost use Rattle.std.specs.Prelude.{◌≡◌, ◌≤◌, ◌<◌, ◌+◌, ◌++◌, ◌∷◌, ◌==◌, [], ℕ, map, max, length, true, false, Option, Some, None, Ok, IsSome, is_some, IfOk, IfSome, IfNone, OnOk, OnErr};
+ghost use Rattle.std.specs.Prelude.{◌≡◌, ◌≤◌, ◌<◌, ◌+◌, ◌++◌, ◌∷◌, ◌==◌, [], ℕ, map, max, length, true, false, Option, Some, None, Ok, IsSome, is_some, IfOk, IfSome, IfNone, OnOk, OnErr, vec_capacity};
 ghost use Rattle.std.specs.Arc.{arc_value};
 ghost use Rattle.row_page.specs.Spelling.{page_bytes};
 ghost use Rattle.fault_count.specs.Faults.{Rose};
@@ -26,14 +26,18 @@ use std::sync::Arc;
 pub struct Store<K: Disk> {
     alloc: Global,
     memory: Residents,
+    candidates: Vec<Candidate>,
     copies: CopyList,
     disk: K,
     ghost room: { length memory.blocks + memory.room ≤ copies.room },
+    ghost listed: { length memory.blocks + memory.room ≤ vec_capacity candidates },
     ghost stored: { AreStored (K.files disk) (K.next_number disk) copies.list } by { AreStored-prop (K.files disk) (K.next_number disk) copies.list },
 }
 
 impl<K: Disk> Store<K> {
+    ghost use Rattle.std.specs.Borrow.{sem};
     ghost use Rattle.block_store.specs.Seen.{blocks_of, room_of, copies_of, disk_of};
+    ghost use Rattle.block_store.specs.Listing.{StaysAsItIs};
 
     /// No blocks and no copies, over this disk. It takes no memory.
     pub fn new(alloc: Global, disk: K) -> Store<K>
@@ -45,17 +49,21 @@ impl<K: Disk> Store<K> {
         Store {
             alloc,
             memory: Residents::new(alloc),
+            candidates: Vec::new(alloc),
             copies: CopyList::new(alloc),
             disk,
         }
     }
 
     /// What a choice of victims sees of the blocks in memory, the least recently used first.
-    pub fn list(&self) -> &[Candidate]
-        ensures list { result.now ≡ map candidate_of (blocks_of self.now) }
-        ensures apart { AreApart (blocks_of self.now) }
+    /// It takes no memory: `reserve` has made room for them.
+    pub fn list(&mut self) -> &[Candidate]
+        ensures list { result.now ≡ map candidate_of (blocks_of self.old) }
+        ensures apart { AreApart (blocks_of self.old) }
+        ensures* same { sem 𝓛 (StaysAsItIs K.row K.Disk self.entry) }
     {
-        self.memory.list()
+        self.memory.list_to(&mut self.candidates);
+        &self.candidates
     }
 
     /// Whether the block has a copy. On a disk that tells a copy has rows.
@@ -93,11 +101,12 @@ impl<K: Disk> Store<K> {
         ensures copies { copies_of self.new ≡ copies_of self.old }
         ensures disk { disk_of self.new ≡ disk_of self.old }
     {
-        let count = self.memory.list().len() as u64;
-        let Some(needed) = count.checked_add(n) else {
+        let Some(needed) = self.memory.count().checked_add(n) else {
             return Err(AllocError);
         };
         self.copies.reserve(needed)?;
+        self.candidates.clear();
+        self.candidates.reserve(needed as usize)?;
         self.memory.reserve(n)
     }
 
@@ -209,8 +218,8 @@ impl<K: Disk> Store<K> {
     }
 
     /// The block's copy, read back as a block of level `Disk`. `None` where there is none, where
-    /// the disk failed, or where what a disk that tells nothing gave is no page. An `Err` is want of
-    /// memory.
+    /// the disk failed, or where what a disk that tells nothing gave is no page. An `Err` is want
+    /// of memory.
     pub fn copy_of(
         &mut self,
         dataset: u32,

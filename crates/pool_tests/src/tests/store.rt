@@ -8,6 +8,7 @@
 use crate::tests::pages::{page_of, put_blocks};
 use crate::tests::words::{bytes, cut, number, put_after};
 use block_store::{Block, Store};
+use eviction::Candidate;
 use pool_ledger::{Fate, Level};
 use row_page::Page;
 use spill_disk::{Disk, DiskError, FolderDisk, MemoryDisk};
@@ -32,6 +33,18 @@ fn blocks_stand_in_use_order_with_their_pins(rt: HostRuntime) -> Result<(), Fail
         list=/1.1:106/2.0:105/1.0:105:pinned unpin:1.0 list=/1.1:106/2.0:105/1.0:105 pins:1.1=0 \
         remove:1.1 list=/2.0:105/1.0:105 files=0:0,0,0";
     check(&rt, alloc, "", THREE, script)
+}
+
+#[test]
+fn a_thousand_blocks_stand_in_the_order_of_their_pins(rt: HostRuntime) -> Result<(), Fail> {
+    let alloc = rt.alloc();
+    let mut store = Store::new(alloc, MemoryDisk::new(Vec::new(alloc)));
+    put_parts(&mut store, alloc, 1000)?;
+    assert_eq!(rt; ordered_by(store.list(), 1, 1000), 1000);
+    // By sevens: 7, 14, 21 and so on, past 1,000 from the front again, and at last 0.
+    use_parts(&mut store, 7, 1000)?;
+    assert_eq!(rt; ordered_by(store.list(), 7, 1000), 1000);
+    Ok(())
 }
 
 #[test]
@@ -99,6 +112,46 @@ fn a_store_over_a_folder_writes_and_reads(rt: HostRuntime) -> Result<(), Fail> {
 }
 
 fn is_sent<T: Send>(_value: &T) {}
+
+// The part of the block that is put, or used, at this step: by so many, from the first of so many again past the last.
+fn part_at(step: u32, by: u32, count: u32) -> u32 {
+    let place = u64::from(step).wrapping_add(1).wrapping_mul(u64::from(by));
+    place.checked_rem(u64::from(count)).unwrap_or(0) as u32
+}
+
+// Puts so many blocks of dataset 1 into memory.
+fn put_parts<K: Disk>(store: &mut Store<K>, alloc: Global, count: u32) -> Result<(), Fail> {
+    for step in 0..count {
+        put(
+            store,
+            block_of(alloc, 1, part_at(step, 1, count), "memory:row")?,
+        )?;
+    }
+    Ok(())
+}
+
+// Pins and unpins each, by so many.
+fn use_parts<K: Disk>(store: &mut Store<K>, by: u32, count: u32) -> Result<(), Fail> {
+    for step in 0..count {
+        let part = part_at(step, by, count);
+        store.pin(1, part)?.ok_or("it isn't in memory")?;
+        unpin(store, 1, part)?;
+    }
+    Ok(())
+}
+
+// How many of the blocks stand where they do if each was used by so many, and without pins.
+fn ordered_by(blocks: &[Candidate], by: u32, count: u32) -> u32 {
+    let mut found = 0u32;
+    let mut step = 0u32;
+    for block in blocks {
+        if block.part == part_at(step, by, count) && !block.pinned {
+            found = found.wrapping_add(1);
+        }
+        step = step.wrapping_add(1);
+    }
+    found
+}
 
 fn play_in_folder(rt: &HostRuntime, steps: &str) -> Result<String, Fail> {
     let path = String::from_str(rt.alloc(), "copies")?;

@@ -1,7 +1,29 @@
-use Rattle.block_store.specs.Slots.{held_in}
-use Rattle.block_store.proofs.UseOrder.{gone}
+use Rattle.std.proofs.Common.{sym, ap}
+use Rattle.std.specs.Prelude.{is_some}
+use Rattle.block_store.proofs.Written.{opened, is_found, is_known, set_is, pinned, same_count}
 use Rattle.block_store.proofs.residents.Residents.pin.Goals as goal
 
-pub put_last-requires-clause-absent : goal.put_last-requires-clause-absent
-put_last-requires-clause-absent c =
-    gone c.args.dataset c.args.part c.args.self.now.blocks c.take_at-slot.new.self.blocks c.in-Some.place (held_in c.take_at-slot.result) c.in-Some.ensures.found c.take_at-slot.ensures.value c.take_at-slot.ensures.blocks
+pub invariant_of-self-2 : goal.invariant_of-self-2
+invariant_of-self-2 c =
+    let shown = opened c.self.inside.slots c.in-Some.slots c.self.inside.count c.self.inside.room c.args.self.now c.self.invariant c.self.view_is c.in-Some.is in
+    rw (set_is c.in-Some.slots c.self.inside.count c.self.inside.room c.args.self.now shown c.args.dataset c.args.part c.in-Some-find.number c.in-Some-find.resident.now c.in-Some-find.ensures.found c.in-Some-get_mut.slot.now c.set_pins.new.slot c.in-Some-checked_add.pins c.set_pins.ensures c.in-Some-get_mut.ensures.value) (pinned c.in-Some.slots c.self.inside.count c.self.inside.room c.args.self.now shown c.args.dataset c.args.part c.in-Some-find.number c.in-Some-find.resident.now c.in-Some-find.ensures.found c.in-Some-checked_add.pins _ c.in-Some-checked_add.ensures.1 c.in_ok-block.ensures).0
+
+pub returns-clause-found : goal.returns-clause-found
+returns-clause-found c =
+    let shown = opened c.self.inside.slots c.in-Some.slots c.self.inside.count c.self.inside.room c.args.self.now c.self.invariant c.self.view_is c.in-Some.is in
+    sym (ap is_some (is_found c.in-Some.slots c.self.inside.count c.self.inside.room c.args.self.now shown c.args.dataset c.args.part c.in-Some-find.number c.in-Some-find.resident.now c.in-Some-find.ensures.found))
+
+pub returns-clause-value : goal.returns-clause-value
+returns-clause-value c =
+    let shown = opened c.self.inside.slots c.in-Some.slots c.self.inside.count c.self.inside.room c.args.self.now c.self.invariant c.self.view_is c.in-Some.is in
+    is_known c.in-Some.slots c.self.inside.count c.self.inside.room c.args.self.now shown c.args.dataset c.args.part c.in-Some-find.number c.in-Some-find.resident.now c.in-Some-find.ensures.found _ c.in_ok-block.ensures
+
+pub returns-clause-last : goal.returns-clause-last
+returns-clause-last c =
+    let shown = opened c.self.inside.slots c.in-Some.slots c.self.inside.count c.self.inside.room c.args.self.now c.self.invariant c.self.view_is c.in-Some.is in
+    rw (set_is c.in-Some.slots c.self.inside.count c.self.inside.room c.args.self.now shown c.args.dataset c.args.part c.in-Some-find.number c.in-Some-find.resident.now c.in-Some-find.ensures.found c.in-Some-get_mut.slot.now c.set_pins.new.slot c.in-Some-checked_add.pins c.set_pins.ensures c.in-Some-get_mut.ensures.value) (pinned c.in-Some.slots c.self.inside.count c.self.inside.room c.args.self.now shown c.args.dataset c.args.part c.in-Some-find.number c.in-Some-find.resident.now c.in-Some-find.ensures.found c.in-Some-checked_add.pins _ c.in-Some-checked_add.ensures.1 c.in_ok-block.ensures).1
+
+pub returns-clause-count : goal.returns-clause-count
+returns-clause-count c =
+    let shown = opened c.self.inside.slots c.in-Some.slots c.self.inside.count c.self.inside.room c.args.self.now c.self.invariant c.self.view_is c.in-Some.is in
+    rw (set_is c.in-Some.slots c.self.inside.count c.self.inside.room c.args.self.now shown c.args.dataset c.args.part c.in-Some-find.number c.in-Some-find.resident.now c.in-Some-find.ensures.found c.in-Some-get_mut.slot.now c.set_pins.new.slot c.in-Some-checked_add.pins c.set_pins.ensures c.in-Some-get_mut.ensures.value) (same_count c.in-Some.slots c.self.inside.count c.self.inside.room c.args.self.now shown _ (pinned c.in-Some.slots c.self.inside.count c.self.inside.room c.args.self.now shown c.args.dataset c.args.part c.in-Some-find.number c.in-Some-find.resident.now c.in-Some-find.ensures.found c.in-Some-checked_add.pins _ c.in-Some-checked_add.ensures.1 c.in_ok-block.ensures).0)

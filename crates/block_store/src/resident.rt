@@ -6,7 +6,7 @@ use std::sync::Arc;
 
 /// A block in memory, and how many pins keep it there.
 #[derive(Drop)]
-pub struct Slot {
+pub(crate) struct Resident {
     pub(crate) block: Arc<Block, Global>,
     pub(crate) pins: u64,
 }
