@@ -3,13 +3,14 @@ use Rattle.std.proofs.Common.{◌≡◌, ◌∙◌, ◌∷◌, ◌++◌, ◌⊎�
 use Rattle.std.specs.Prelude.{IfOk, Result, length}
 use Rattle.pool_ledger.specs.declared.entry.Entry.{Entry}
 use Rattle.pool_ledger.specs.declared.entry.Event.TheVariants.{Attempt}
+use Rattle.pool_ledger.specs.Sizes.{Sizes}
 use Rattle.pool_ledger.specs.History.{held}
 use Rattle.pool_ledger.specs.Journal.{history_of, journal_of}
 use Rattle.pool_ledger.specs.Workers.{entries_of}
 use Rattle.pool_laws.specs.Growing.{entry_by}
 use Rattle.memory_core.specs.declared.attempted.Attempted.{Attempted}
 use Rattle.memory_core.specs.declared.attempted.Attempted.TheVariants.{Wait}
-use Rattle.memory_core.specs.Attempts.{granted_in}
+use Rattle.memory_core.specs.Attempts.{granted_in, KeepsFloor}
 use Rattle.memory_core.specs.Caches.{Memory}
 use Rattle.turn_lock.specs.Passes.{PassState}
 use Rattle.memory_lock.specs.Fitting.{own_in}
@@ -20,6 +21,11 @@ module _ {E : Type 0} where
   -- what was freed, where what is held is known in two ways
   pub freed_as : (result : Result ℕ E) (bytes one other : ℕ) → one ≡ other → IfOk result (λ freed. freed ≡ min bytes one) → IfOk result (λ freed. freed ≡ min bytes other)
   freed_as result bytes one other same is = subst (λ (n : ℕ). IfOk result (λ freed. freed ≡ min bytes n)) same is
+
+  -- a short grant keeps the floor, where what was held is known in two ways
+  pub floor_as : (result : Result Attempted E) (setup sizes : Sizes) (asked one other : ℕ) → setup ≡ sizes → one ≡ other → IfOk result (KeepsFloor setup one asked) → IfOk result (KeepsFloor sizes other asked)
+  floor_as result setup sizes asked one other sized same is =
+      subst (λ (s : Sizes). IfOk result (KeepsFloor s other asked)) sized (subst (λ (n : ℕ). IfOk result (KeepsFloor setup n asked)) same is)
 
 -- ---- what a worker holds, by the state and by the worker
 

@@ -1,5 +1,5 @@
 -- A worker's own entries decide what a state says of it and of its task.
-use Rattle.std.proofs.Common.{◌≡◌, ◌≤◌, ◌∙◌, ◌∷◌, [], ℕ, List, Option, Some, arith, refl, sym, ap, subst, inl, inr}
+use Rattle.std.proofs.Common.{◌≡◌, ◌≤◌, ◌^◌, ◌∙◌, ◌∷◌, [], ℕ, List, Option, Some, arith, refl, sym, ap, subst, inl, inr}
 use Rattle.std.specs.Prelude.{reverse, ◌==◌}
 use Rattle.std.proofs.lemmas.Bool.{cases_Bool, eqb-true}
 use Rattle.std.proofs.lemmas.Grind.{reverse_onto}
@@ -8,7 +8,7 @@ use Rattle.pool_ledger.specs.declared.entry.Entry.{Entry}
 use Rattle.pool_ledger.specs.declared.entry.Event.{Event}
 use Rattle.pool_ledger.specs.declared.entry.Event.TheVariants.{Begin, End}
 use Rattle.pool_ledger.specs.Sizes.{Sizes}
-use Rattle.pool_ledger.specs.History.{History, open_task, task_after}
+use Rattle.pool_ledger.specs.History.{History, maximum, open_task, task_after}
 use Rattle.pool_ledger.specs.Journal.{history_of, journal_of}
 use Rattle.pool_ledger.specs.Legal.{IsPermitted}
 use Rattle.pool_ledger.specs.Workers.{entries_of}
@@ -64,9 +64,10 @@ module _ (tells_worker : (journal : List Entry) (worker : ℕ) → TellsWorker (
   fit_pool laws sizes owner given before after number task range was fits now =
       let its = open_is_owned owner before.history number task was.owned (of_own_task sizes owner given before number task was now).open_is in
       let holds = (of_task sizes owner given after number task fits its).holds in
-      let law = laws sizes after.history range fits.legal.permitted in
+      let law = laws sizes after.history range.region_fits fits.legal.permitted in
+      let pool : maximum sizes after.history ≤ 2 ^ 40 = range.maximum_small in
       let part = law.tasks_fit task in
-      record { holds = holds; most = omega (arith, holds, part, law.never_passes.exec_fits, law.never_passes.pools_add_up) }
+      record { holds = holds; most = omega (arith, holds, part, law.never_passes.exec_fits, law.never_passes.pools_add_up, pool) }
 
   pub decide : OwnEntriesDecide
   decide = record { worker = of_worker; task = of_task; own_task = of_own_task }

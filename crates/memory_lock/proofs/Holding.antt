@@ -1,5 +1,5 @@
 -- What a task holds, through an attempt.
-use Rattle.std.proofs.Common.{◌≡◌, ◌∙◌, ◌∷◌, ◌++◌, [], ℕ, ◌+◌, ◌≤◌, List, Option, Some, refl, sym, ap, subst, inl, inr, arith, true, false}
+use Rattle.std.proofs.Common.{◌≡◌, ◌∙◌, ◌∷◌, [], ℕ, ◌+◌, ◌≤◌, List, Option, Some, refl, sym, ap, subst, inl, inr, arith, true, false}
 use Rattle.std.specs.Prelude.{◌==◌, unwrap_or, IfOk, OnOk, Result, Ok, Err, nat_lt, nat_eq, ◌&&◌}
 use Rattle.std.proofs.lemmas.Bool.{cases_Bool, eqb-true, or_parts}
 use Rattle.std.proofs.lemmas.Bool.Decides.{nat_tests}

@@ -6,5 +6,7 @@ pub mod Answering
 pub mod Adding
 pub mod Staying
 pub mod Turned
+pub mod Ending
+pub mod Answered
 pub mod Crews
 pub mod Pairs

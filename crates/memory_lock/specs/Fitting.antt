@@ -1,8 +1,8 @@
 -- What holds of the state whenever no thread has it, and what a worker's own entries tell of it.
 -- This project's own.
-use Rattle.std.specs.Prelude.{ℕ, ◌≡◌, ◌≤◌, Option, Some, List}
+use Rattle.std.specs.Prelude.{ℕ, ◌≡◌, ◌≤◌, ◌^◌, Option, Some, List}
 use Rattle.pool_ledger.specs.declared.entry.Entry.{Entry}
-use Rattle.pool_ledger.specs.Sizes.{Sizes}
+use Rattle.pool_ledger.specs.Sizes.{Sizes, IsInRange}
 use Rattle.pool_ledger.specs.History.{History, held, open_task, was_begun}
 use Rattle.pool_ledger.specs.Journal.{history_of, journal_of}
 use Rattle.pool_ledger.specs.Legal.{IsLegal}
@@ -42,17 +42,17 @@ pub record OwnTaskDecides (memory : Memory) (worker task : ℕ) : Type 0 where
   pub open_is : open_task memory.history worker ≡ Some task
   pub holds : held memory.history task ≡ held (own_in worker memory) task
 
--- what a state says that a task holds is what its worker's own entries say, and it is within the pool
-pub record HoldsWithinPool (sizes : Sizes) (memory : Memory) (number task : ℕ) : Type 0 where
+-- what a state says that a task holds is what its worker's own entries say, and no pool is larger than 2 ^ 41 bytes
+pub record HoldsWithinPool (memory : Memory) (number task : ℕ) : Type 0 where
   pub holds : held memory.history task ≡ held (own_in number memory) task
-  pub most : held (own_in number memory) task ≤ sizes.maximum
+  pub most : held (own_in number memory) task ≤ 2 ^ 41
 
 -- the same of a worker's open task after a call
 abbrev pub TasksFitPool : Type 0
 TasksFitPool =
-    (sizes : Sizes) (owner : ℕ → Option ℕ) (given : RowsByName) (before after : Memory) (number task : ℕ) → sizes.region ≤ sizes.maximum
+    (sizes : Sizes) (owner : ℕ → Option ℕ) (given : RowsByName) (before after : Memory) (number task : ℕ) → IsInRange sizes.maximum sizes.region sizes.workers
     → FitsBasis sizes owner given before → FitsBasis sizes owner given after → open_task (own_in number before) number ≡ Some task
-    → HoldsWithinPool sizes after number task
+    → HoldsWithinPool after number task
 
 -- a worker's own entries decide
 pub record OwnEntriesDecide : Type 0 where

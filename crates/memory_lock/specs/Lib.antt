@@ -1,3 +1,4 @@
 pub mod Fitting
 pub mod Workers
+pub mod Endings
 pub mod Crew

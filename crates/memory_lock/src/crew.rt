@@ -13,6 +13,7 @@ impl<K: Disk, B: Basis> Manager<K, B> {
     ghost use Rattle.std.specs.Prelude.{◌≡◌, ◌<◌, ℕ, None, false, is_some, IfOk, OnErr};
     ghost use Rattle.pool_ledger.specs.Journal.{history_of};
     ghost use Rattle.pool_ledger.specs.Legal.{IsLegal};
+    ghost use Rattle.pool_laws.specs.Owners.{AreOwned};
     ghost use Rattle.turn_lock.specs.Passes.{joined_with, split_from, without_spare};
     ghost use Rattle.turn_lock.specs.Parts.{IsPart};
     ghost use Rattle.memory_lock.specs.Crew.{AreNew, AreWorkers, HasAll};
@@ -30,7 +31,8 @@ impl<K: Disk, B: Basis> Manager<K, B> {
         ensures fresh { IfOk result (λ made. AreNew made.1.items) }
     {
         let count = setup.workers();
-        let (lock, pass) = TurnLock::<Locked<K>, B>::new(alloc, Locked::new(alloc, setup, store))?;
+        let locked = Locked::new(alloc, setup, store)?;
+        let (lock, pass) = TurnLock::<Locked<K>, B>::new(alloc, locked)?;
         let manager = Manager::around(lock, setup);
         let mut newest = Worker { pass };
         let mut workers = Vec::with_capacity(alloc, count as usize)?;
@@ -48,6 +50,7 @@ impl<K: Disk, B: Basis> Manager<K, B> {
     pub fn close(self, mut workers: Vec<Worker<B>>) -> (Journal, K)
         requires all { AreWorkers self B.sizes.workers workers.items }
         ensures legal { IsLegal B.sizes (history_of result.0) }
+        ensures owned { AreOwned B.owner (history_of result.0) }
         ensures whole { HasAll workers.items result.0 }
     {
         let _range = self.setup().max();

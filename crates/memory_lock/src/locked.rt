@@ -6,10 +6,11 @@ ghost use Rattle.row_page.specs.Spelling.{page_cost};
 ghost use Rattle.pool_ledger.specs.Blocks.{worker_pin};
 ghost use Rattle.pool_ledger.specs.History.{held, open_task, was_begun};
 ghost use Rattle.pool_ledger.specs.Journal.{journal_of};
+ghost use Rattle.pool_ledger.specs.Sizes.{IsInRange};
 ghost use Rattle.pool_ledger.specs.Workers.{Continues, entries_of};
 ghost use Rattle.pool_ledger.specs.declared.entry.Event.TheVariants.{Begin, Release, End, Unpin};
 ghost use Rattle.pool_laws.specs.Growing.{entry_by};
-ghost use Rattle.memory_core.specs.Attempts.{granted_in};
+ghost use Rattle.memory_core.specs.Attempts.{granted_in, KeepsFloor};
 ghost use Rattle.memory_core.specs.Caches.{AreGiven};
 ghost use Rattle.memory_core.specs.Changes.{IsNamed};
 ghost use Rattle.memory_lock.specs.Fitting.{FitsBasis, OwnEntriesDecide, TasksFitPool, own_in};
@@ -27,9 +28,15 @@ use std::mem;
 use std::sync::Arc;
 use turn_lock::Kept;
 
-// A memory state that lies under the lock. It also knows of which workers the open task has asked before.
+// A memory state that lies under the lock, behind a pointer: so a turn moves no more than that.
 #[derive(Drop)]
-pub struct Locked<K: Disk> {
+pub(crate) struct Locked<K: Disk> {
+    inside: Box<Inside<K>>,
+}
+
+// What is behind the pointer: the state, and of which workers the open task has asked before.
+#[derive(Drop)]
+struct Inside<K: Disk> {
     state: MemoryState<K>,
     asked: [bool; 16],
 }
@@ -42,7 +49,7 @@ impl<K: Disk> Model for Locked<K> {
 
     ghost coded = { Prim.hlevel (codes, files_coded) };
 
-    ghost view = { λ locked. locked.state };
+    ghost view = { λ locked. locked.inside.value.state };
 }
 
 impl<K: Disk, B: Basis> Kept<B> for Locked<K> {
@@ -71,21 +78,24 @@ fn own_entries_decide()
 
 impl<K: Disk> Locked<K> {
     // An empty state over this store disk.
-    pub fn new(alloc: Global, setup: Setup, store: K) -> Locked<K>
-        ensures setup { result.setup ≡ setup }
-        ensures empty { result.history ≡ [] }
-        ensures blocks { result.cache.blocks ≡ [] }
-        ensures copies { result.cache.copies ≡ [] }
-        ensures files { result.cache.files ≡ K.files store }
+    pub(crate) fn new(alloc: Global, setup: Setup, store: K) -> Result<Locked<K>, AllocError>
+        ensures setup { IfOk result (λ locked. locked.setup ≡ setup) }
+        ensures empty { IfOk result (λ locked. locked.history ≡ []) }
+        ensures blocks { IfOk result (λ locked. locked.cache.blocks ≡ []) }
+        ensures copies { IfOk result (λ locked. locked.cache.copies ≡ []) }
+        ensures files { IfOk result (λ locked. locked.cache.files ≡ K.files store) }
     {
-        Locked {
+        let inside = Inside {
             state: MemoryState::new(alloc, setup, store),
             asked: [false; 16],
-        }
+        };
+        Ok(Locked {
+            inside: Box::new(alloc, inside)?,
+        })
     }
 
     // Begins the worker's task.
-    pub fn begin<B: Basis>(&mut self, worker: u32, task: u32) -> Result<(), AllocError>
+    pub(crate) fn begin<B: Basis>(&mut self, worker: u32, task: u32) -> Result<(), AllocError>
         requires fits { FitsBasis B.sizes B.owner B.rows self.old }
         requires known { worker < B.sizes.workers }
         requires owner { B.owner task ≡ Some worker }
@@ -99,23 +109,24 @@ impl<K: Disk> Locked<K> {
         ensures err { OnErr result (journal_of self.new.history ≡ journal_of self.old.history) }
     {
         own_entries_decide();
-        let begun = self.state.begin(worker, task);
-        let _legal = self.state.entries();
+        let state = &mut self.inside.state;
+        let begun = state.begin(worker, task);
+        let _legal = state.entries();
         begun
     }
 
     // Whether the next attempt of the worker's task is its first: contracts say nothing of it.
-    pub fn asks_first(&mut self, worker: u32) -> bool
+    pub(crate) fn asks_first(&mut self, worker: u32) -> bool
         ensures { self.new ≡ self.old }
     {
-        match self.asked.get_mut(worker as usize) {
+        match self.inside.asked.get_mut(worker as usize) {
             Some(asked) => !mem::replace(asked, true),
             None => false,
         }
     }
 
     // An attempt of the worker's task.
-    pub fn attempt<B: Basis>(
+    pub(crate) fn attempt<B: Basis>(
         &mut self,
         worker: u32,
         task: u32,
@@ -126,7 +137,7 @@ impl<K: Disk> Locked<K> {
         requires its_task { open_task (own_in worker self.old) worker ≡ Some task }
         requires some_asked { 1 ≤ asked }
         requires few_asked { asked ≤ 2 ^ 50 }
-        requires range { B.sizes.region ≤ B.sizes.maximum }
+        requires range { IsInRange B.sizes.maximum B.sizes.region B.sizes.workers }
         ensures fits { FitsBasis B.sizes B.owner B.rows self.new }
         ensures own { Continues worker (journal_of self.old.history) (journal_of self.new.history) }
         ensures ok { IfOk result (λ got. AddsAttempt worker task asked (granted_in got)
@@ -134,18 +145,20 @@ impl<K: Disk> Locked<K> {
         ensures few { IfOk result (λ got. IsAtMost asked (granted_in got)) }
         ensures grows { IfOk result (λ got. held (own_in worker self.new) task
             ≡ held (own_in worker self.old) task + unwrap_or (granted_in got) 0) }
-        ensures holds { held (own_in worker self.new) task ≤ B.sizes.maximum }
+        ensures holds { held (own_in worker self.new) task ≤ 2 ^ 41 }
+        ensures floor { IfOk result (KeepsFloor B.sizes (held (own_in worker self.old) task) asked) }
         ensures err { OnErr result (journal_of self.new.history ≡ journal_of self.old.history) }
     {
         own_entries_decide();
         tasks_fit_the_pool();
-        let answer = self.state.attempt(worker, task, asked);
-        let _legal = self.state.entries();
+        let state = &mut self.inside.state;
+        let answer = state.attempt(worker, task, asked);
+        let _legal = state.entries();
         answer
     }
 
     // A release of the worker's task.
-    pub fn release<B: Basis>(
+    pub(crate) fn release<B: Basis>(
         &mut self,
         worker: u32,
         task: u32,
@@ -162,13 +175,14 @@ impl<K: Disk> Locked<K> {
         ensures err { OnErr result (journal_of self.new.history ≡ journal_of self.old.history) }
     {
         own_entries_decide();
-        let freed = self.state.release(worker, task, bytes);
-        let _legal = self.state.entries();
+        let state = &mut self.inside.state;
+        let freed = state.release(worker, task, bytes);
+        let _legal = state.entries();
         freed
     }
 
     // The end of the worker's task.
-    pub fn end<B: Basis>(&mut self, worker: u32, task: u32) -> u64
+    pub(crate) fn end<B: Basis>(&mut self, worker: u32, task: u32) -> u64
         requires fits { FitsBasis B.sizes B.owner B.rows self.old }
         requires known { worker < B.sizes.workers }
         requires its_task { open_task (own_in worker self.old) worker ≡ Some task }
@@ -179,16 +193,17 @@ impl<K: Disk> Locked<K> {
             ≡ entries_of worker (journal_of self.old.history) ++ entry_by worker (End task result) ∷ [] }
     {
         own_entries_decide();
-        let freed = self.state.end(worker, task);
-        let _legal = self.state.entries();
-        if let Some(asked) = self.asked.get_mut(worker as usize) {
+        let state = &mut self.inside.state;
+        let freed = state.end(worker, task);
+        let _legal = state.entries();
+        if let Some(asked) = self.inside.asked.get_mut(worker as usize) {
             *asked = false;
         }
         freed
     }
 
     // Keeps a block in memory, if there is room.
-    pub fn admit<B: Basis>(
+    pub(crate) fn admit<B: Basis>(
         &mut self,
         worker: u32,
         block: Arc<Block, Global>,
@@ -202,13 +217,14 @@ impl<K: Disk> Locked<K> {
             (entries_of worker (journal_of self.old.history)) (entries_of worker (journal_of self.new.history)) self.new.history) }
         ensures err { OnErr result (journal_of self.new.history ≡ journal_of self.old.history) }
     {
-        let answer = self.state.admit(worker, block);
-        let _legal = self.state.entries();
+        let state = &mut self.inside.state;
+        let answer = state.admit(worker, block);
+        let _legal = state.entries();
         answer
     }
 
     // Pins a block for the worker, if it is in memory, or reads its copy.
-    pub fn pin<B: Basis>(
+    pub(crate) fn pin<B: Basis>(
         &mut self,
         worker: u32,
         dataset: u32,
@@ -226,13 +242,14 @@ impl<K: Disk> Locked<K> {
         ensures err { OnErr result (journal_of self.new.history ≡ journal_of self.old.history) }
     {
         own_entries_decide();
-        let pinned = self.state.pin(worker, dataset, part);
-        let _legal = self.state.entries();
+        let state = &mut self.inside.state;
+        let pinned = state.pin(worker, dataset, part);
+        let _legal = state.entries();
         pinned
     }
 
     // Gives the worker's pin back.
-    pub fn unpin<B: Basis>(&mut self, worker: u32, dataset: u32, part: u32)
+    pub(crate) fn unpin<B: Basis>(&mut self, worker: u32, dataset: u32, part: u32)
         requires fits { FitsBasis B.sizes B.owner B.rows self.old }
         requires known { worker < B.sizes.workers }
         requires its_pin { worker_pin (own_in worker self.old) worker ≡ Some (record { dataset = dataset; part = part }) }
@@ -242,12 +259,13 @@ impl<K: Disk> Locked<K> {
             ≡ entries_of worker (journal_of self.old.history) ++ entry_by worker (Unpin dataset part) ∷ [] }
     {
         own_entries_decide();
-        self.state.unpin(worker, dataset, part);
-        let _legal = self.state.entries();
+        let state = &mut self.inside.state;
+        state.unpin(worker, dataset, part);
+        let _legal = state.entries();
     }
 
     // Removes a dataset's blocks but for pinned ones, and forgets its copies.
-    pub fn remove<B: Basis>(&mut self, worker: u32, dataset: u32) -> Result<(), AllocError>
+    pub(crate) fn remove<B: Basis>(&mut self, worker: u32, dataset: u32) -> Result<(), AllocError>
         requires fits { FitsBasis B.sizes B.owner B.rows self.old }
         requires known { worker < B.sizes.workers }
         ensures fits { FitsBasis B.sizes B.owner B.rows self.new }
@@ -256,16 +274,18 @@ impl<K: Disk> Locked<K> {
             (entries_of worker (journal_of self.old.history)) (entries_of worker (journal_of self.new.history)) self.new.history) }
         ensures err { OnErr result (journal_of self.new.history ≡ journal_of self.old.history) }
     {
-        let removed = self.state.remove(worker, dataset);
-        let _legal = self.state.entries();
+        let state = &mut self.inside.state;
+        let removed = state.remove(worker, dataset);
+        let _legal = state.entries();
         removed
     }
 
     // The journal at the end, and the store disk.
-    pub fn close(self) -> (Journal, K)
+    pub(crate) fn close(self) -> (Journal, K)
         ensures journal { result.0 ≡ journal_of self.history }
     {
-        let Locked { state, asked: _ } = self;
+        let Locked { inside } = self;
+        let Inside { state, asked: _ } = Box::into_inner(inside);
         state.close()
     }
 }

@@ -36,15 +36,19 @@ impl<K: Disk, B: Basis> Model for Manager<K, B> {
 }
 
 impl<K: Disk, B: Basis> Manager<K, B> {
-    ghost use Rattle.std.specs.Prelude.{◌≡◌, ◌≤◌, ◌+◌, ◌^◌, ◌∷◌, [], Some, unwrap_or, false, min, IfOk, IfErr, OnOk, OnErr};
+    ghost use Rattle.std.specs.Prelude.{◌≡◌, ◌<◌, ◌≤◌, ◌+◌, ◌^◌, ◌∷◌, [], Some, unwrap_or, false, min, IfOk, IfErr, OnOk, OnErr};
     ghost use Rattle.std.specs.Arc.{arc_value};
     ghost use Rattle.row_page.specs.Spelling.{page_cost};
+    ghost use Rattle.pool_ledger.specs.Sizes.{floor_of};
     ghost use Rattle.pool_ledger.specs.History.{held, was_begun};
+    ghost use Rattle.pool_ledger.specs.Journal.{history_of};
+    ghost use Rattle.pool_ledger.specs.Legal.{IsLegal};
     ghost use Rattle.pool_ledger.specs.declared.entry.Event.TheVariants.{Begin, Release, End, Unpin};
     ghost use Rattle.pool_laws.specs.Growing.{entry_by};
-    ghost use Rattle.memory_core.specs.Attempts.{granted_in};
+    ghost use Rattle.memory_core.specs.Attempts.{granted_in, KeepsFloor};
     ghost use Rattle.memory_core.specs.Caches.{AreGiven};
     ghost use Rattle.memory_core.specs.Changes.{IsNamed};
+    ghost use Rattle.memory_lock.specs.Endings.{EndsWith, EndsWithAdded, EndsWithAdmission, EndsWithAttempt, EndsWithPin};
     ghost use Rattle.memory_lock.specs.Workers.{Adds, AddsAdmission, AddsAttempt, AddsGrant, AddsPin, AddsRemovals, AddsWaits, HandsRows, HasNoPin, HasPin, IsAtMost, IsFree, IsOpen, KeepsPin, KeepsTask, SeesMore, own_entries, own_of};
 
     /// The sizes that the pool started with. It takes no turn.
@@ -96,6 +100,8 @@ impl<K: Disk, B: Basis> Manager<K, B> {
         ensures err { OnErr result (own_entries worker.new ≡ own_entries worker.old) }
         ensures pin { KeepsPin worker.old worker.new }
         ensures sees { SeesMore worker.old worker.new }
+        ensures legal { IsLegal B.sizes (history_of worker.new.seen) }
+        ensures last { IfOk result (λ _. EndsWith worker.new.seen (entry_by worker.old.number (Begin task) ∷ [])) }
     {
         let number = worker.pass.number();
         let mut locked = self.lock.take(rt, &mut worker.pass);
@@ -122,14 +128,17 @@ impl<K: Disk, B: Basis> Manager<K, B> {
         ensures ok { IfOk result (λ got. AddsGrant worker.old.number task.now asked got (own_entries worker.old) (own_entries worker.new)) }
         ensures few { IfOk result (λ got. got ≤ asked) }
         ensures grows { IfOk result (λ got. held (own_of worker.new) task.now ≡ held (own_of worker.old) task.now + got) }
-        ensures holds { IfOk result (λ _. held (own_of worker.new) task.now ≤ B.sizes.maximum) }
+        ensures holds { IfOk result (λ _. held (own_of worker.new) task.now ≤ 2 ^ 41) }
+        ensures floor { IfOk result (λ got. got < asked → floor_of B.sizes ≤ held (own_of worker.new) task.now) }
         ensures err { OnErr result (AddsWaits worker.old.number task.now asked (own_entries worker.old) (own_entries worker.new)) }
         ensures its_task { IsOpen worker.new task.now }
         ensures pin { KeepsPin worker.old worker.new }
         ensures sees { SeesMore worker.old worker.new }
+        ensures legal { IsLegal B.sizes (history_of worker.new.seen) }
+        ensures last { IfOk result (λ got. EndsWithAttempt worker.old.number task.now asked (Some got) worker.new.seen) }
     {
         for _ in rt.forever() {
-            let mut seen = self.count.now(rt);
+            let mut seen = self.count.now();
             match self.attempt(rt, worker, task, asked, &mut seen)? {
                 Attempted::Granted(bytes) => return Ok(bytes),
                 Attempted::Wait => self.count.wait_past(rt, seen),
@@ -155,6 +164,8 @@ impl<K: Disk, B: Basis> Manager<K, B> {
         ensures its_task { IsOpen worker.new task.now }
         ensures pin { KeepsPin worker.old worker.new }
         ensures sees { SeesMore worker.old worker.new }
+        ensures legal { IsLegal B.sizes (history_of worker.new.seen) }
+        ensures last { IfOk result (λ freed. EndsWith worker.new.seen (entry_by worker.old.number (Release task.now freed) ∷ [])) }
     {
         let number = worker.pass.number();
         let mut locked = self.lock.take(rt, &mut worker.pass);
@@ -174,6 +185,8 @@ impl<K: Disk, B: Basis> Manager<K, B> {
         ensures free { IsFree worker.new }
         ensures pin { KeepsPin worker.old worker.new }
         ensures sees { SeesMore worker.old worker.new }
+        ensures legal { IsLegal B.sizes (history_of worker.new.seen) }
+        ensures last { EndsWith worker.new.seen (entry_by worker.old.number (End task result) ∷ []) }
     {
         let number = worker.pass.number();
         let mut locked = self.lock.take(rt, &mut worker.pass);
@@ -201,6 +214,8 @@ impl<K: Disk, B: Basis> Manager<K, B> {
         ensures err { OnErr result (own_entries worker.new ≡ own_entries worker.old) }
         ensures task { KeepsTask worker.old worker.new }
         ensures sees { SeesMore worker.old worker.new }
+        ensures legal { IsLegal B.sizes (history_of worker.new.seen) }
+        ensures last { IfOk result (λ pinned. EndsWithPin pinned worker.old.number dataset part worker.new.seen) }
     {
         let number = worker.pass.number();
         let mut locked = self.lock.take(rt, &mut worker.pass);
@@ -217,6 +232,8 @@ impl<K: Disk, B: Basis> Manager<K, B> {
         ensures free { HasNoPin worker.new }
         ensures task { KeepsTask worker.old worker.new }
         ensures sees { SeesMore worker.old worker.new }
+        ensures legal { IsLegal B.sizes (history_of worker.new.seen) }
+        ensures last { EndsWith worker.new.seen (entry_by worker.old.number (Unpin dataset part) ∷ []) }
     {
         let number = worker.pass.number();
         let mut locked = self.lock.take(rt, &mut worker.pass);
@@ -240,6 +257,8 @@ impl<K: Disk, B: Basis> Manager<K, B> {
         ensures task { KeepsTask worker.old worker.new }
         ensures pin { KeepsPin worker.old worker.new }
         ensures sees { SeesMore worker.old worker.new }
+        ensures legal { IsLegal B.sizes (history_of worker.new.seen) }
+        ensures last { IfOk result (λ answer. EndsWithAdmission answer (arc_value block) (page_cost (arc_value block).page.rows) worker.old.number worker.new.seen) }
     {
         let number = worker.pass.number();
         let mut locked = self.lock.take(rt, &mut worker.pass);
@@ -262,6 +281,8 @@ impl<K: Disk, B: Basis> Manager<K, B> {
         ensures task { KeepsTask worker.old worker.new }
         ensures pin { KeepsPin worker.old worker.new }
         ensures sees { SeesMore worker.old worker.new }
+        ensures legal { IsLegal B.sizes (history_of worker.new.seen) }
+        ensures last { EndsWithAdded worker.old worker.new }
     {
         let number = worker.pass.number();
         let mut locked = self.lock.take(rt, &mut worker.pass);
@@ -288,11 +309,14 @@ impl<K: Disk, B: Basis> Manager<K, B> {
         ensures few { IfOk result (λ got. IsAtMost asked (granted_in got)) }
         ensures grows { IfOk result (λ got. held (own_of worker.new) task.now
             ≡ held (own_of worker.old) task.now + unwrap_or (granted_in got) 0) }
-        ensures holds { held (own_of worker.new) task.now ≤ B.sizes.maximum }
+        ensures holds { held (own_of worker.new) task.now ≤ 2 ^ 41 }
+        ensures floor { IfOk result (KeepsFloor B.sizes (held (own_of worker.old) task.now) asked) }
         ensures err { OnErr result (own_entries worker.new ≡ own_entries worker.old) }
         ensures its_task { IsOpen worker.new task.now }
         ensures pin { KeepsPin worker.old worker.new }
         ensures sees { SeesMore worker.old worker.new }
+        ensures legal { IsLegal B.sizes (history_of worker.new.seen) }
+        ensures last { IfOk result (λ got. EndsWithAttempt worker.old.number task.now asked (granted_in got) worker.new.seen) }
     {
         // Its range is known with it.
         let _max = self.setup.max();

@@ -113,9 +113,9 @@ granted_is task asked got before after adds few grows small =
     }
 
 module _ {E : Type 0} where
-  pub acquire_grants : (result : Result ℕ E) (task asked most : ℕ) (before after : PassState) → most ≤ 2 ^ 40
+  pub acquire_grants : (result : Result ℕ E) (task asked : ℕ) (before after : PassState)
       → IfOk result (λ got. AddsGrant before.number task asked got (own_entries before) (own_entries after)) → IfOk result (λ got. got ≤ asked)
-      → IfOk result (λ got. held (own_of after) task ≡ held (own_of before) task + got) → IfOk result (λ _. held (own_of after) task ≤ most)
+      → IfOk result (λ got. held (own_of after) task ≡ held (own_of before) task + got) → IfOk result (λ _. held (own_of after) task ≤ 2 ^ 41)
       → IfOk result (λ got. Grants (held_by task before) (held_by task after) asked got)
-  acquire_grants (Ok got) task asked most before after range adds few grows holds = granted_is task asked got before after adds few grows (omega (arith, range, holds))
-  acquire_grants (Err e) task asked most before after range adds few grows holds = tt
+  acquire_grants (Ok got) task asked before after adds few grows holds = granted_is task asked got before after adds few grows (omega (arith, holds))
+  acquire_grants (Err e) task asked before after adds few grows holds = tt

@@ -40,8 +40,6 @@ impl<'a, K: Disk, B: Basis> Account<'a, K, B> {
         ensures open { IsAtWork self.now.manager.now self.now.task worker.new }
         ensures goes { Goes self.now.task worker.old worker.new }
     {
-        // The pool's size is known with it: no task holds more.
-        let _max = self.manager.setup().max();
         self.manager.acquire(rt, worker, &self.task, asked)
     }
 

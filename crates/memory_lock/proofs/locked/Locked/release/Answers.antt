@@ -6,12 +6,12 @@ use Rattle.memory_lock.proofs.locked.Locked.release.Goals as goal
 
 pub release-freed-requires-clause-its_task : goal.release-freed-requires-clause-its_task
 release-freed-requires-clause-its_task g c =
-    ap (λ (m : Memory). open_task m.history c.args.worker) c.self.view_is
+    ap (λ (m : Memory). open_task m.history c.args.worker) ((λ i. (c.deref_mut.ensures.value i).state) ∙ c.self.view_is)
     ∙ (c.own_entries_decide.ensures.own_task _ _ _ c.args.self.now c.args.worker c.args.task c.requires.fits c.requires.its_task).open_is
 
 pub returns-clause-freed : goal.returns-clause-freed
 returns-clause-freed g c =
     let holds =
-    ap (λ (m : Memory). held m.history c.args.task) c.self.view_is
+    ap (λ (m : Memory). held m.history c.args.task) ((λ i. (c.deref_mut.ensures.value i).state) ∙ c.self.view_is)
     ∙ (c.own_entries_decide.ensures.own_task _ _ _ c.args.self.now c.args.worker c.args.task c.requires.fits c.requires.its_task).holds in
     freed_as c.release-freed.result c.args.bytes _ _ holds c.release-freed.ensures.freed

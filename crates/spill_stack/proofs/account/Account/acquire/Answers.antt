@@ -1,13 +1,11 @@
-use Rattle.std.proofs.Common.{◌≤◌, ◌^◌, ◌∙◌, sym, subst}
-use Rattle.pool_ledger.specs.Sizes.{Sizes}
+use Rattle.std.proofs.Common.{◌∙◌, sym}
 use Rattle.memory_lock.specs.Workers.{own_entries}
 use Rattle.spill_stack.proofs.Granted.{acquire_adds, acquire_grants}
 use Rattle.spill_stack.proofs.account.Account.acquire.Goals as goal
 
 pub returns-clause-ok : goal.returns-clause-ok
 returns-clause-ok g c =
-    let small = subst (λ (s : Sizes). s.maximum ≤ 2 ^ 40) c.setup.ensures c.max-max.ensures.range.maximum_small in
-    acquire_grants c.acquire.result c.args.self.now.task c.args.asked g.B.Basis.sizes.maximum c.args.worker.now c.acquire.new.worker small
+    acquire_grants c.acquire.result c.args.self.now.task c.args.asked c.args.worker.now c.acquire.new.worker
     c.acquire.ensures.ok c.acquire.ensures.few c.acquire.ensures.grows c.acquire.ensures.holds
 
 pub returns-clause-goes : goal.returns-clause-goes
