@@ -113,7 +113,7 @@ impl<K: Disk, B: Basis> Manager<K, B> {
 
     /// Asks for bytes, 1 to 2^50, until the answer isn't to wait, and sleeps between two attempts. Each
     /// attempt has its entry, behind its evictions. After an `Err` the entries that it added are attempts that were
-    /// told to wait, and evictions. What the task holds is never more than the pool.
+    /// told to wait, and evictions. A grant may be short, and then leaves the task at least the floor.
     pub fn acquire<R: Wait + Sync>(
         &self,
         rt: &R,

@@ -2,13 +2,14 @@
 //
 // `acquire:N` asks for N bytes and `release:N` gives back so many; `keep:D.P:L:B:N` and `look:D.P:L:B:N` are of a block.
 // `raise:S` and `await:S` are of a sign, and `probe` asks for a byte more, and gives it back, until another task counts.
-ghost use Rattle.std.specs.Prelude.{◌≡◌, [], ℕ, Some, None, IfOk};
+ghost use Rattle.std.specs.Prelude.{◌≡◌, ◌≤◌, ◌^◌, [], ℕ, Some, None, IfOk};
 ghost use Rattle.memory_lock.specs.Crew.{IsWorker};
+ghost use Rattle.memory_lock.specs.Endings.{IsLastAnswer};
 ghost use Rattle.memory_lock.specs.Workers.{HasNoPin, IsOpen, SeesMore};
 
 use crate::tests::blocks::take_block_step;
 use crate::tests::signs::{Sign, Signs};
-use memory_lock::{Basis, Manager, Task, Worker};
+use memory_lock::{Basis, Manager, Task, Worker, last_attempts_are_answered};
 use pool_ledger::{Entry, Event};
 use spill_disk::MemoryDisk;
 use std::alloc::{AllocError, Global};
@@ -22,6 +23,28 @@ pub fn cut(text: &str, at: char) -> (&str, &str) {
 // The number that a script has, and 0 for anything else.
 pub fn number(text: &str) -> u32 {
     text.parse().unwrap_or(0)
+}
+
+// Bytes for a task. Its worker knows from what it has seen that they are the rules' answer, before the manager is closed.
+fn acquire<B: Basis, R: Wait + Sync>(
+    rt: &R,
+    manager: &Manager<MemoryDisk, B>,
+    worker: &mut Worker<B>,
+    task: &Task,
+    asked: u64,
+) -> Result<u64, AllocError>
+    requires manager { worker.old.lock ≡ manager.now }
+    requires its_task { IsOpen worker.old task.now }
+    requires free { HasNoPin worker.old }
+    requires some_asked { 1 ≤ asked }
+    requires few_asked { asked ≤ 2 ^ 50 }
+    ensures answers { IfOk result (λ got. IsLastAnswer B.sizes worker.old.number task.now asked (Some got) worker.new.seen) }
+    ensures its_task { IsOpen worker.new task.now }
+    ensures free { HasNoPin worker.new }
+    ensures sees { SeesMore worker.old worker.new }
+{
+    last_attempts_are_answered();
+    manager.acquire(rt, worker, task, asked)
 }
 
 // An ask. The event is what its caller knows of it: not what moved from storage.
@@ -40,7 +63,7 @@ fn ask<B: Basis, R: Wait + Sync>(
     ensures sees { SeesMore worker.old worker.new }
 {
     let asked = u64::from(bytes).max(1);
-    let got = manager.acquire(rt, worker, task, asked)?;
+    let got = acquire(rt, manager, worker, task, asked)?;
     Ok(Event::Attempt {
         task: task.number(),
         asked,
