@@ -3,6 +3,7 @@ use crate::tests::streams::{shows, three_reads, write_one};
 use byte_io::{FileSink, FileSource, SinkError};
 use std::fs;
 use std::process::Abort;
+use std::rt::Files;
 use std::test::Fail;
 
 fn source_of(rt: &HostRuntime, path: &str) -> Result<FileSource<HostRuntime>, Fail> {
@@ -55,27 +56,31 @@ fn a_folder_is_no_source(rt: HostRuntime) -> Result<(), Fail> {
     Ok(())
 }
 
-// The file is made where it isn't there, and is emptied where it is.
-fn a_file_takes_all(rt: &HostRuntime, path: &str) -> Result<(), Fail> {
-    let mut sink = sink_of(rt, path)?;
-    assert_eq!(rt; write_one(&mut sink, b"abc"), Ok(3), "{path}");
-    assert_eq!(rt; write_one(&mut sink, b"de"), Ok(2), "{path}");
-    assert!(rt; sink.is_open(), "{path}");
-    Ok(())
+// Five bytes in two writes.
+fn takes_all<R: Files + Drop>(rt: &impl Abort, sink: &mut FileSink<R>) {
+    assert_eq!(rt; write_one(sink, b"abc"), Ok(3));
+    assert_eq!(rt; write_one(sink, b"de"), Ok(2));
+    assert!(rt; sink.is_open());
 }
 
+// What the file of this path has once a sink took five bytes for it.
+fn written_to(rt: &HostRuntime, abort: &impl Abort, path: &str) -> Result<Vec<u8>, Fail> {
+    let mut sink = sink_of(rt, path)?;
+    takes_all(abort, &mut sink);
+    drop(sink);
+    let bytes = fs::read(rt, path)?;
+    fs::remove_file(rt, path)?;
+    Ok(bytes)
+}
+
+// The file is made where it isn't there, and is emptied where it is.
 #[test]
 fn a_file_is_a_sink(rt: HostRuntime) -> Result<(), Fail> {
     fs::write(&rt, "old", b"old and long".as_slice())?;
-    for path in ["old", "new"] {
-        a_file_takes_all(&rt, path)?;
-        assert_eq!(rt;
-            fs::read(&rt, path)?.as_slice(),
-            b"abcde".as_slice(),
-            "{path}"
-        );
-        fs::remove_file(&rt, path)?;
-    }
+    let old = written_to(&rt, &rt, "old")?;
+    assert_eq!(rt; old.as_slice(), b"abcde".as_slice());
+    let new = written_to(&rt, &rt, "new")?;
+    assert_eq!(rt; new.as_slice(), b"abcde".as_slice());
     Ok(())
 }
 
