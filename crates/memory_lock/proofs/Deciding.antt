@@ -60,12 +60,13 @@ module _ (tells_worker : (journal : List Entry) (worker : ℕ) → TellsWorker (
       record { open_is = there; holds = (of_task sizes owner given memory number task fits its).holds }
 
   -- what a task holds is part of what all hold
-  pub fit_pool : ((sizes : Sizes) (history : History) → sizes.region ≤ sizes.maximum → IsPermitted sizes history → KeepsLaws sizes history) → TasksFitPool
-  fit_pool laws sizes owner given before after number task range was fits now =
+  pub fit_pool : ((sizes : Sizes) (history : History) → sizes.region ≤ sizes.maximum → IsPermitted sizes history → KeepsLaws sizes history)
+      → ((sizes : Sizes) (history : History) → sizes.maximum ≤ 2 ^ 40 → IsPermitted sizes history → maximum sizes history ≤ 2 ^ 41) → TasksFitPool
+  fit_pool laws small sizes owner given before after number task range was fits now =
       let its = open_is_owned owner before.history number task was.owned (of_own_task sizes owner given before number task was now).open_is in
       let holds = (of_task sizes owner given after number task fits its).holds in
       let law = laws sizes after.history range.region_fits fits.legal.permitted in
-      let pool : maximum sizes after.history ≤ 2 ^ 40 = range.maximum_small in
+      let pool = small sizes after.history range.maximum_small fits.legal.permitted in
       let part = law.tasks_fit task in
       record { holds = holds; most = omega (arith, holds, part, law.never_passes.exec_fits, law.never_passes.pools_add_up, pool) }
 

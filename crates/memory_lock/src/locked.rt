@@ -19,7 +19,7 @@ ghost use Rattle.memory_lock.specs.Workers.{AddsAttempt, AdmissionGrows, HandsRo
 use crate::basis::Basis;
 use block_store::Block;
 use memory_core::{Admission, Attempted, MemoryState, Pinned};
-use pool_laws::{own_entries_tell, permitted_histories_keep_laws};
+use pool_laws::{own_entries_tell, permitted_histories_keep_laws, sums_stay_small};
 use pool_ledger::{Journal, Setup};
 use spill_disk::Disk;
 use std::alloc::{AllocError, Global};
@@ -67,6 +67,7 @@ fn tasks_fit_the_pool()
 {
     own_entries_tell();
     permitted_histories_keep_laws();
+    sums_stay_small();
 }
 
 // A worker's own entries tell what the whole journal would.
