@@ -17,7 +17,8 @@ use Rattle.pool_laws.specs.Growing.{Grows, entry_by}
 use Rattle.pool_laws.specs.Evicting.{EvictsOneByOne, eviction_by, evicting_attempt_by}
 use Rattle.block_store.specs.Stores.{Held, without}
 use Rattle.memory_core.specs.Caches.{Cache}
-use Rattle.memory_core.specs.Changes.{EvictsInTurn, RemovesInTurn, admission_by, refusal_by}
+use Rattle.memory_core.specs.Changes.{RemovesInTurn}
+use Rattle.memory_core.specs.Evictions.{EvictsInTurn, admission_by, refusal_by}
 use Rattle.memory_core.specs.Steady.{Goes, IsSteady, StatesGoOn, end_owed, owed, unpin_owed}
 use Rattle.memory_core.proofs.Owing.{owed-own, owed_same, owes, owes_few, owes_nothing}
 use Rattle.memory_core.proofs.Fitting.{admits_fits, clears_fits, evicts_fits, hit_given, pins_fits, read_given, reads_fits, unpins_fits}

@@ -9,8 +9,8 @@ use Rattle.block_store.specs.Stores.{Held, held_at, is_held, pins_at, without}
 use Rattle.block_store.specs.Copies.{has_copy}
 use Rattle.block_store.proofs.Places.{find_none, none_kept}
 use Rattle.block_store.proofs.UseOrder.{name_is}
-use Rattle.memory_core.specs.Caches.{Cache}
-use Rattle.memory_core.specs.Steady.{IsInStep, resident_of}
+use Rattle.memory_core.specs.Caches.{Cache, resident_of}
+use Rattle.memory_core.specs.Steady.{IsInStep}
 
 -- what the history says of the blocks without one of them
 pub without_mapped : (d p : ℕ) (blocks : List Held) → map resident_of (without d p blocks) ≡ residents_without d p (map resident_of blocks)

@@ -3,10 +3,13 @@ pub mod Choosing
 pub mod Fitting
 pub mod Going
 pub mod Gone
+pub mod LeastPart
 pub mod Naming
 pub mod NextVictim
 pub mod Owing
+pub mod PinSteps
 pub mod Planned
-pub mod Removing
+pub mod Removals
+pub mod RowsFound
 pub mod Stepping
 pub mod Turning

@@ -19,10 +19,10 @@ use Rattle.eviction.specs.Victims.{is_evictable}
 use Rattle.eviction.specs.declared.candidate.Candidate.{Candidate}
 use Rattle.block_store.specs.Stores.{Held, candidate_of, held_at, level_at, rows_at, without}
 use Rattle.block_store.specs.Copies.{copy_rows, has_copy}
-use Rattle.block_store.specs.Evictions.{KeepsOthers, is_name}
-use Rattle.memory_core.specs.Caches.{Cache}
-use Rattle.memory_core.specs.Changes.{Drops, EvictsInTurn, WritesNothing}
-use Rattle.memory_core.specs.Steady.{IsAmid, IsInStep, resident_of}
+use Rattle.block_store.specs.Evictions.{BeginsAtMost, KeepsOthers, WritesRows, is_name}
+use Rattle.memory_core.specs.Caches.{Cache, resident_of}
+use Rattle.memory_core.specs.Evictions.{Drops, EvictsInTurn, WritesNothing}
+use Rattle.memory_core.specs.Steady.{IsAmid, IsInStep}
 use Rattle.memory_core.proofs.Choosing.{AreFound, IsSeen, all_found, goers, goers_named, goers_seen, pinned_as_kept}
 use Rattle.memory_core.proofs.Gone.{in_step_gone}
 
@@ -120,6 +120,8 @@ pub record IsPutOut (dataset part : ℕ) (fate : Fate) (before after : Cache) : 
   pub rows : fate ≡ ToDisk → has_copy before.copies dataset part ≡ false → is_some before.files ≡ true
       → copy_rows after.files after.copies dataset part ≡ rows_at before.blocks dataset part
   pub lost : (fate ≡ ToDisk → ⊥) → after.copies ≡ before.copies
+  pub written : fate ≡ ToDisk → has_copy before.copies dataset part ≡ false → WritesRows before.files after.files (rows_at before.blocks dataset part)
+  pub begun : (fate ≡ ToDisk → ⊥) → BeginsAtMost before.files after.files
   pub others : KeepsOthers dataset part before.files before.copies after.files after.copies
   pub tells : is_some after.files ≡ is_some before.files
   pub later : before.faults ≤ after.faults
@@ -154,6 +156,8 @@ module _ (history : History) (before after : Cache) (except : Option ℕ) (next 
     copy = out.copy;
     rows = out.rows;
     lost = out.lost;
+    written = out.written;
+    begun = out.begun;
     others = out.others;
     tells = out.tells;
     later = out.later;

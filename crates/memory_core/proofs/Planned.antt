@@ -19,9 +19,11 @@ use Rattle.pool_laws.specs.Evicting.{IsEvicting, evicting_attempt_by}
 use Rattle.block_store.specs.Stores.{Held, held_at, is_held, pins_at}
 use Rattle.block_store.proofs.Places.{any_parts}
 use Rattle.memory_core.specs.Caches.{Cache}
-use Rattle.memory_core.specs.Changes.{EvictsInTurn, HasPinnedAlone, admission_by, may_be_removed, refusal_by}
+use Rattle.memory_core.specs.Changes.{HasPinnedAlone, may_be_removed}
+use Rattle.memory_core.specs.Evictions.{EvictsInTurn, admission_by, refusal_by}
 use Rattle.memory_core.specs.Steady.{Goes, IsAmid, IsInStep, IsSteady, owed}
-use Rattle.memory_core.proofs.Fitting.{None≢Some, and_left, found_passes, same_Some}
+use Rattle.memory_core.proofs.Fitting.{found_passes}
+use Rattle.memory_core.proofs.RowsFound.{None≢Some, and_left, same_Some}
 use Rattle.memory_core.proofs.Going.{goes_on_nothing}
 use Rattle.memory_core.proofs.Stepping.{resident_is}
 
@@ -42,6 +44,12 @@ turned base begun had kept worker except count blocks amid has b k first gone ev
       evicting = subst (λ (h : History). IsEvicting amid h worker except blocks []) b (subst (λ (bs : List Resident). IsEvicting amid begun worker except bs []) chosen evicting);
     }
 
+-- what the evictions of an ask leave: they are those of its growth, and its attempt may follow
+pub record MayAttempt (setup : Sizes) (base : History) (had : Cache) (worker task asked : ℕ) (amid : History) (has : Cache) : Type 0 where
+  pub gone : EvictsInTurn worker (growth setup base asked).evicted base had amid has
+  pub may : MayFollow setup amid (evicting_attempt_by setup base worker task asked)
+  pub goes : Goes setup base (evicting_attempt_by setup base worker task asked ∷ amid) worker 0 0
+
 -- the entry of a plan
 pub attempt_entry : (setup : Sizes) (base : History) (worker task asked moved evictions : ℕ) (got : Option ℕ)
     → moved ≡ (growth setup base asked).moved → evictions ≡ length (growth setup base asked).evicted → got ≡ answer setup base task asked
@@ -49,6 +57,13 @@ pub attempt_entry : (setup : Sizes) (base : History) (worker task asked moved ev
 attempt_entry setup base worker task asked moved evictions got m e g =
     ap (λ (v : ℕ). entry_by worker (Attempt task asked v evictions got)) m ∙ ap (λ (v : ℕ). entry_by worker (Attempt task asked (growth setup base asked).moved v got)) e
     ∙ ap (λ (v : Option ℕ). entry_by worker (Attempt task asked (growth setup base asked).moved (length (growth setup base asked).evicted) v)) g
+
+-- the numbers are those that the rules give a block
+pub record IsPlan (setup : Sizes) (base : History) (dataset size : ℕ) (admitted : Bool) (borrowed evictions : ℕ) : Type 0 where
+  pub admitted_is : admitted ≡ (admission setup base dataset size).admitted
+  pub borrowed_is : borrowed ≡ (admission setup base dataset size).borrowed
+  pub evictions_is : evictions ≡ length (admission setup base dataset size).evicted
+  pub first : take evictions (evictable base (Some dataset)) ≡ (admission setup base dataset size).evicted
 
 pub admit_entry : (setup : Sizes) (base : History) (worker dataset part size : ℕ) (level : Level) (borrowed evictions : ℕ)
     → borrowed ≡ (admission setup base dataset size).borrowed → evictions ≡ length (admission setup base dataset size).evicted

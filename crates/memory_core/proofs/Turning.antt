@@ -7,7 +7,7 @@ use Rattle.pool_ledger.specs.Legal.{pending}
 use Rattle.pool_laws.specs.Evicting.{IsEvicting, eviction_by}
 use Rattle.pool_laws.proofs.NextEntries.{whole}
 use Rattle.memory_core.specs.Caches.{Cache, PoolView}
-use Rattle.memory_core.specs.Changes.{EvictsInTurn}
+use Rattle.memory_core.specs.Evictions.{EvictsInTurn}
 use Rattle.memory_core.specs.Steady.{IsAmid}
 
 -- ---- lists

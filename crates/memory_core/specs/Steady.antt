@@ -16,8 +16,9 @@ use Rattle.pool_laws.specs.Evicting.{IsEvicting, evicting_attempt_by}
 use Rattle.block_store.specs.declared.block.Block.{Block}
 use Rattle.block_store.specs.Stores.{Held, held_at, held_of, pins_at, unpinned, without}
 use Rattle.block_store.specs.Copies.{copy_rows, has_copy}
-use Rattle.memory_core.specs.Caches.{AreGiven, Cache, FitsRows, Memory, RowsByName}
-use Rattle.memory_core.specs.Changes.{Clears, EvictsInTurn, ReadsAlone, RemovesInTurn, StillFits, StillFitsWith, admission_by, refusal_by}
+use Rattle.memory_core.specs.Caches.{AreGiven, Cache, FitsRows, Memory, RowsByName, resident_of}
+use Rattle.memory_core.specs.Changes.{Clears, ReadsAlone, RemovesInTurn, StillFits, StillFitsWith}
+use Rattle.memory_core.specs.Evictions.{EvictsInTurn, admission_by, refusal_by}
 
 -- 1 for a worker with a task
 abbrev pub end_owed : Option ℕ → ℕ
@@ -33,10 +34,6 @@ unpin_owed (Some name) = 1
 abbrev pub owed : ℕ → History → ℕ
 owed zero history = 0
 owed (suc worker) history = owed worker history + end_owed (open_task history worker) + unpin_owed (worker_pin history worker)
-
--- what a history says of a block in memory
-abbrev pub resident_of : Held → Resident
-resident_of held = record { dataset = held.dataset; part = held.part; size = held.size; level = held.level }
 
 -- the blocks are those of the history, in use order, each with its pins, and each copy was left by an eviction
 pub record IsInStep (history : History) (cache : Cache) : Type 0 where

@@ -1,10 +1,7 @@
 //! The answer to an ask for execution memory.
 
 ghost use Rattle.std.specs.Prelude.{◌≡◌};
-ghost use Rattle.execution_pool.specs.Shares.{granted_in as granted_by};
 ghost use Rattle.memory_core.specs.Attempts.{granted_in};
-
-use execution_pool::Share;
 
 /// What an ask for execution memory is answered. After Spark's `ExecutionMemoryPool.acquireMemory`, which
 /// blocks where this says `Wait`.
@@ -16,18 +13,8 @@ pub enum Attempted {
     Wait,
 }
 
-// What is granted, if it is no wait.
-pub fn bytes_of(share: Share) -> Option<u64>
-    ensures { result ≡ granted_by share }
-{
-    match share {
-        Share::Grant(bytes) => Some(bytes),
-        Share::Wait => None,
-    }
-}
-
-// The same as an answer.
-pub fn answered(got: Option<u64>) -> Attempted
+// What was planned, as an answer.
+pub(crate) fn answered(got: Option<u64>) -> Attempted
     ensures { granted_in result ≡ got }
 {
     match got {

@@ -4,8 +4,12 @@
 mod admission;
 mod attempted;
 mod choice;
+mod evicting;
+mod listing;
 mod pinned;
+mod pinning;
 mod pool;
+mod removing;
 mod state;
 
 pub use admission::Admission;

@@ -1,22 +1,23 @@
 //! The state: a legal journal and the blocks, with room kept for the end of each open task and for each unpin.
 
-ghost use Rattle.std.specs.Prelude.{◌≡◌, ◌≢◌, ◌+◌, ◌≤◌, ◌<◌, ◌^◌, Option, Some, None, Ok, [], ◌∷◌, ℕ, List, map, false, length, min, nat_lt, IsOk, IfOk, OnOk, OnErr};
+ghost use Rattle.std.specs.Prelude.{◌≡◌, ◌≢◌, ◌+◌, ◌≤◌, ◌<◌, ◌^◌, Option, Some, None, Ok, [], ◌∷◌, ℕ, List, map, false, length, count_by, min, nat_lt, IsOk, IfOk, OnOk, OnErr};
 ghost use Rattle.std.specs.Arc.{arc_value};
 ghost use Rattle.row_page.specs.Spelling.{page_cost};
-ghost use Rattle.pool_ledger.specs.History.{held, open_task, was_begun};
+ghost use Rattle.pool_ledger.specs.History.{held, maximum, open_task, was_begun};
 ghost use Rattle.pool_ledger.specs.Blocks.{is_pinned, residents, worker_pin};
 ghost use Rattle.pool_ledger.specs.Journal.{history_of, journal_of};
-ghost use Rattle.pool_ledger.specs.Answers.{answer, growth};
+ghost use Rattle.pool_ledger.specs.Answers.{admission, answer, growth};
 ghost use Rattle.pool_ledger.specs.Legal.{IsLegal};
 ghost use Rattle.pool_ledger.specs.Workers.{Continues};
 ghost use Rattle.pool_ledger.specs.declared.entry.Event.TheVariants.{Begin, Release, End, Unpin};
 ghost use Rattle.pool_laws.specs.Growing.{entry_by};
 ghost use Rattle.pool_laws.specs.Laws.{HoldsMost};
-ghost use Rattle.block_store.specs.Stores.{candidate_of, pins_at, unpinned};
+ghost use Rattle.block_store.specs.Stores.{pins_at, unpinned};
 ghost use Rattle.memory_core.specs.Attempts.{granted_in, KeepsFloor, WaitsBehind};
-ghost use Rattle.memory_core.specs.Caches.{Cache};
-ghost use Rattle.memory_core.specs.Changes.{Attempts, Clears, HandsGiven, HasPinnedAlone, IsAnswered, IsNamed, IsPinned, ReadsAlone, StillFits, StillFitsWith};
-ghost use Rattle.memory_core.specs.Steady.{IsSteady, StatesGoOn, resident_of};
+ghost use Rattle.memory_core.specs.Caches.{Cache, resident_of};
+ghost use Rattle.memory_core.specs.Changes.{Clears, HandsGiven, HasPinnedAlone, IsNamed, IsPinned, ReadsAlone, StillFits, StillFitsWith, may_be_removed};
+ghost use Rattle.memory_core.specs.Evictions.{Attempts, IsAnswered};
+ghost use Rattle.memory_core.specs.Steady.{IsSteady, StatesGoOn};
 ghost use Rattle.memory_core.specs.declared.attempted.Attempted.TheVariants.{Wait};
 
 use crate::admission::Admission;
@@ -24,7 +25,6 @@ use crate::attempted::{Attempted, answered};
 use crate::pinned::Pinned;
 use crate::pool::Pool;
 use block_store::Block;
-use eviction::Candidate;
 use pool_laws::{legal_histories_grow, permitted_histories_keep_laws, victims_go_one_by_one};
 use pool_ledger::{Entry, Event, Journal, Setup};
 use spill_disk::Disk;
@@ -86,22 +86,25 @@ impl<K: Disk> MemoryState<K> {
         }
     }
 
-    /// The journal so far, the oldest entry first. It is legal whatever was called.
+    /// The bytes of both pools together.
+    pub fn max(&self) -> u64
+        ensures { result ≡ maximum self.now.setup self.now.history }
+    {
+        self.pool.ledger().max()
+    }
+
+    /// The journal so far, the oldest entry first. It is legal whatever was called, and tells which blocks are in
+    /// memory, in which order they were used, and which are pinned.
     pub fn entries(&self) -> &[Entry]
         ensures journal { result.now ≡ journal_of self.now.history }
         ensures history { history_of result.now ≡ self.now.history }
         ensures legal { IsLegal self.now.setup self.now.history }
-    {
-        self.pool.ledger().entries()
-    }
 
-    /// The blocks in memory, the least recently used first, with their sizes and whether a pin keeps them.
-    pub fn blocks(&self) -> &[Candidate]
-        ensures blocks { result.now ≡ map candidate_of self.now.cache.blocks }
+        // The blocks are the journal's residents in use order, each with the journal's pins.
         ensures use_order { map resident_of self.now.cache.blocks ≡ residents self.now.history }
         ensures pins { (dataset part : ℕ) → nat_lt 0 (pins_at self.now.cache.blocks dataset part) ≡ is_pinned self.now.history dataset part }
     {
-        self.pool.list()
+        self.pool.ledger().entries()
     }
 
     /// Makes room for `n` entries beside the ends of open tasks and the unpins. After an `Err` all is as before;
@@ -249,6 +252,8 @@ impl<K: Disk> MemoryState<K> {
         ensures setup { self.new.setup ≡ self.old.setup }
         ensures own { Continues worker (journal_of self.old.history) (journal_of self.new.history) }
         ensures rows { StillFitsWith (arc_value block) self.old.cache self.new.cache }
+        ensures room { self.old.spare ≤ self.new.spare
+            + length (admission self.old.setup self.old.history (arc_value block).dataset (page_cost (arc_value block).page.rows)).evicted + 1 }
     {
         let (dataset, part, size) = (block.dataset, block.part, block.size());
         if self.pool.is_resident(dataset, part) {
@@ -294,6 +299,7 @@ impl<K: Disk> MemoryState<K> {
         ensures setup { self.new.setup ≡ self.old.setup }
         ensures own { Continues worker (journal_of self.old.history) (journal_of self.new.history) }
         ensures rows { StillFits self.old.cache self.new.cache }
+        ensures room { self.old.spare ≤ self.new.spare + 2 }
     {
         states_go_on();
         if self.pool.is_resident(dataset, part) {
@@ -328,7 +334,8 @@ impl<K: Disk> MemoryState<K> {
     }
 
     /// Removes the blocks of a dataset that no pin keeps, ascending by part, and forgets all its copies. What the
-    /// store disk answers to the removal of their files changes nothing. After an `Err` all is as before.
+    /// store disk answers to the removal of their files changes nothing. After an `Err` all is as before; it doesn't
+    /// come where there is room for an entry for each of these blocks.
     pub fn remove(&mut self, worker: u32, dataset: u32) -> Result<(), AllocError>
         requires known { worker < self.old.setup.workers }
         ensures ok { OnOk result (Clears worker dataset self.old self.new) }
@@ -337,6 +344,8 @@ impl<K: Disk> MemoryState<K> {
         ensures setup { self.new.setup ≡ self.old.setup }
         ensures own { Continues worker (journal_of self.old.history) (journal_of self.new.history) }
         ensures rows { StillFits self.old.cache self.new.cache }
+        ensures enough { count_by (may_be_removed dataset) self.old.cache.blocks ≤ self.old.spare → IsOk result }
+        ensures room { self.old.spare ≤ self.new.spare + count_by (may_be_removed dataset) self.old.cache.blocks }
     {
         let count = self.pool.removable(dataset);
         self.reserve(count)?;

@@ -4,6 +4,7 @@ mod faults;
 mod game;
 mod memory;
 mod pages;
+mod replay;
 mod scripts;
 mod store;
 mod words;

@@ -6,6 +6,7 @@ ghost use Rattle.pool_ledger.specs.Journal.{history_of};
 
 use crate::tests::entries::put_entries;
 use crate::tests::pages::{page_of, put_blocks};
+use crate::tests::replay::blocks_after;
 use crate::tests::words::{bytes, cut, number, put_after};
 use block_store::Block;
 use memory_core::{Admission, Attempted, MemoryState, Pinned};
@@ -222,7 +223,11 @@ impl Game {
     // What is left.
     fn close(self, alloc: Global) -> Result<String, Fail> {
         let mut blocks = String::new(alloc);
-        put_blocks(&mut blocks, " ", self.state.blocks())?;
+        put_blocks(
+            &mut blocks,
+            " ",
+            &blocks_after(alloc, self.state.entries())?,
+        )?;
         let Game {
             state,
             workers: _,

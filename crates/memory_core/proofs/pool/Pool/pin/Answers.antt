@@ -12,7 +12,8 @@ use Rattle.pool_laws.specs.Growing.{entry_by}
 use Rattle.pool_ledger.specs.declared.entry.Event.TheVariants.{Pin}
 use Rattle.memory_core.specs.Caches.{PoolView}
 use Rattle.memory_core.specs.Steady.{IsAmid}
-use Rattle.memory_core.proofs.Stepping.{amid_at, amid_more, in_step_pinned, may_pin, resident_is}
+use Rattle.memory_core.proofs.PinSteps.{in_step_pinned}
+use Rattle.memory_core.proofs.Stepping.{amid_at, amid_more, may_pin, resident_is}
 use Rattle.memory_core.proofs.pool.Pool.pin.Goals as goal
 
 pub unreachable-requires : goal.unreachable-requires

@@ -5,7 +5,8 @@ use Rattle.pool_laws.specs.Growing.{entry_by}
 use Rattle.block_store.specs.Stores.{pins_at}
 use Rattle.memory_core.specs.Caches.{PoolView}
 use Rattle.memory_core.specs.Steady.{IsAmid}
-use Rattle.memory_core.proofs.Stepping.{amid_at, amid_more, in_step_unpinned, may_unpin, pins_left}
+use Rattle.memory_core.proofs.PinSteps.{in_step_unpinned}
+use Rattle.memory_core.proofs.Stepping.{amid_at, amid_more, may_unpin, pins_left}
 use Rattle.memory_core.proofs.pool.Pool.unpin.Goals as goal
 
 pub unpin-requires : goal.unpin-requires

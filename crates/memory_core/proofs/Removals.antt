@@ -1,9 +1,11 @@
--- The removal of a dataset's blocks, one by one: the one of the least part, what is left without it, and how removals in turn go on.
-use Rattle.std.proofs.Common.{◌≡◌, ℕ, zero, suc, ◌+◌, ◌<◌, ◌≤◌, Bool, true, false, not, cond, eqb, leb, ltb, ◌&&◌, ◌⊎◌, List, [], ◌∷◌, ◌++◌, map, length, drop, get_or, count_by, Option, Some, None, refl, sym, ap, subst, ◌∙◌, inl, inr, arith}
-use Rattle.std.specs.List.{list_any, find, remove, slice_get}
+-- The removal of a dataset's blocks, one by one: what is left without a block, and how removals in turn go on.
+use Rattle.std.proofs.Common.{◌≡◌, ℕ, zero, suc, ◌+◌, ◌<◌, ◌≤◌, true, false, not, cond, eqb, ltb, ◌&&◌, List, [], ◌∷◌, ◌++◌, map, get_or, count_by, Option, Some, refl, sym, ap, subst, ◌∙◌, inl, inr, arith}
+use Rattle.std.specs.List.{list_any, find, filter, remove, slice_get}
+use Rattle.std.specs.List.Sorted.{IsPermutation}
 use Rattle.std.specs.Option.{option_map_or}
-use Rattle.std.proofs.lemmas.Bool.{cases_Bool, and_parts, and_from, and_left, and_right, both_ways, cond-true, cond-false, eq-eqb, eqb-true, le-ltb, ltb-false, leb-true, leb-false, le-leb, lt-leb, or_from, not-true}
-use Rattle.std.proofs.lemmas.List.{at_drop_more}
+use Rattle.std.proofs.lemmas.Bool.{cases_Bool, and_parts, and_from, and_left, both_ways, cond-true, cond-false, eq-eqb, eqb-true, le-ltb, ltb-false, or_from, not-true}
+use Rattle.std.proofs.lemmas.List.{append-nil, append_assoc}
+use Rattle.std.proofs.lemmas.List.Sorted.{IsPermutation-append_right, IsPermutation-cons, IsPermutation-middle, IsPermutation-refl, IsPermutation-trans}
 use Rattle.std.proofs.lemmas.List.Sums.{sum_by-cons, sum_by-remove}
 use Rattle.std.proofs.lemmas.Option.{none-some, same_Some, slice_get_within, get_or_from_slice_get}
 use Rattle.eviction.specs.declared.candidate.Candidate.{Candidate}
@@ -17,177 +19,14 @@ use Rattle.pool_laws.specs.Growing.{entry_by}
 use Rattle.pool_laws.proofs.NextEntries.{whole}
 use Rattle.block_store.specs.declared.block_copy.BlockCopy.{BlockCopy}
 use Rattle.block_store.specs.Copies.{has_copy}
-use Rattle.block_store.specs.Stores.{Held, AreApart, candidate_of, held_at, is_held, pins_at, without}
+use Rattle.block_store.specs.Stores.{Held, AreApart, held_at, is_held, pins_at, without}
 use Rattle.block_store.proofs.Places.{any_parts}
 use Rattle.block_store.proofs.UseOrder.{stands}
-use Rattle.memory_core.specs.Caches.{Cache}
-use Rattle.memory_core.specs.Choices.{least_from, least_in, lesser, may_go_of}
-use Rattle.memory_core.specs.Changes.{RemovesInTurn, may_be_removed, may_be_removed_below}
-use Rattle.memory_core.specs.Steady.{IsAmid, resident_of}
+use Rattle.memory_core.specs.Caches.{Cache, resident_of}
+use Rattle.memory_core.specs.Changes.{RemovesInTurn, may_be_removed, may_be_removed_below, removable_of}
+use Rattle.memory_core.specs.Steady.{IsAmid}
 use Rattle.memory_core.proofs.Gone.{in_step_gone}
-
--- ---- a walk for the least part
-
--- one block further
-pub next_least : (dataset : ℕ) (least now : Option Candidate) (list : List Candidate) (i : ℕ) (d : Candidate) → i < length list
-    → least_from dataset least (drop i list) ≡ least_in dataset list
-    → now ≡ cond (may_go_of dataset (get_or list i d)) (lesser least (get_or list i d)) least
-    → least_from dataset now (drop (i + 1) list) ≡ least_in dataset list
-next_least dataset least now list i d within so_far is =
-    ap (λ (l : Option Candidate). least_from dataset l (drop (i + 1) list)) is
-    ∙ sym (at_drop_more (least_from dataset least) list i d within)
-    ∙ so_far
-
--- a block that no pin keeps, of the dataset, may go
-goes : (dataset : ℕ) (block : Candidate) → block.pinned ≡ false → block.dataset ≡ dataset → may_go_of dataset block ≡ true
-goes dataset block free same = rw (free, eq-eqb block.dataset dataset same) refl
-
--- one of no lesser part stays behind the least so far
-pub least_stays : (dataset : ℕ) (least now : Option Candidate) (other block : Candidate) → block.pinned ≡ false → block.dataset ≡ dataset
-    → least ≡ Some other → other.part ≤ block.part → now ≡ Some other → now ≡ cond (may_go_of dataset block) (lesser least block) least
-least_stays dataset least now other block free same was below is =
-    is ∙ sym (cond-true (leb other.part block.part) (Some other) (Some block) (le-leb other.part block.part below))
-    ∙ sym (ap (λ (l : Option Candidate). lesser l block) was)
-    ∙ sym (cond-true (may_go_of dataset block) (lesser least block) least (goes dataset block free same))
-
--- one of a lesser part is the least then
-pub least_falls : (dataset : ℕ) (least now : Option Candidate) (other block : Candidate) → block.pinned ≡ false → block.dataset ≡ dataset
-    → least ≡ Some other → block.part < other.part → now ≡ Some block → now ≡ cond (may_go_of dataset block) (lesser least block) least
-least_falls dataset least now other block free same was below is =
-    is ∙ sym (cond-false (leb other.part block.part) (Some other) (Some block) (lt-leb other.part block.part below))
-    ∙ sym (ap (λ (l : Option Candidate). lesser l block) was)
-    ∙ sym (cond-true (may_go_of dataset block) (lesser least block) least (goes dataset block free same))
-
--- the first that may go is the least
-pub least_begins : (dataset : ℕ) (least now : Option Candidate) (block : Candidate) → block.pinned ≡ false → block.dataset ≡ dataset
-    → least ≡ None → now ≡ Some block → now ≡ cond (may_go_of dataset block) (lesser least block) least
-least_begins dataset least now block free same was is =
-    is
-    ∙ sym (ap (λ (l : Option Candidate). lesser l block) was)
-    ∙ sym (cond-true (may_go_of dataset block) (lesser least block) least (goes dataset block free same))
-
--- a block that may not go is passed
-pub least_passes : (dataset : ℕ) (least now : Option Candidate) (block : Candidate) → may_go_of dataset block ≡ false → now ≡ least
-    → now ≡ cond (may_go_of dataset block) (lesser least block) least
-least_passes dataset least now block kept is = is ∙ sym (cond-false (may_go_of dataset block) (lesser least block) least kept)
-
--- ---- the one of the least part
-
--- what a choice sees of a block says whether it may be removed
-same_test : (dataset : ℕ) (held : Held) → may_go_of dataset (candidate_of held) ≡ may_be_removed dataset held
-same_test dataset held = turned (not (ltb 0 held.pins)) (eqb held.dataset dataset)
-  where
-    turned : (a b : Bool) → (a && b) ≡ (b && a)
-    turned true true = refl
-    turned true false = refl
-    turned false true = refl
-    turned false false = refl
-
--- a block that may be removed stands at a place of the list
-pub record Stands (dataset : ℕ) (blocks : List Held) (next : Candidate) : Type 0 where
-  pub place : ℕ
-  pub held : Held
-  pub here : slice_get blocks place ≡ Some held
-  pub may_go : may_be_removed dataset held ≡ true
-  pub seen : candidate_of held ≡ next
-
--- the one of the least part is the one that there was before, or stands in the list; no other has a lesser part
-record IsLeast (dataset : ℕ) (least : Option Candidate) (blocks : List Held) (next : Candidate) : Type 0 where
-  among : (least ≡ Some next) ⊎ Stands dataset blocks next
-  before : (other : Candidate) → least ≡ Some other → next.part ≤ other.part
-  others : list_any (may_be_removed_below dataset next.part) blocks ≡ false
-
--- a block that isn't below a part
-not_below : (dataset end : ℕ) (held : Held) → end ≤ held.part → may_be_removed_below dataset end held ≡ false
-not_below dataset end held above = and_right (may_be_removed dataset held) (ltb held.part end) (le-ltb held.part end above)
-
--- it stands one place further behind one more block
-later : (dataset : ℕ) (block : Held) (blocks : List Held) (next : Candidate) → Stands dataset blocks next → Stands dataset (block ∷ blocks) next
-later dataset block blocks next found = record { place = suc found.place; held = found.held; here = found.here; may_go = found.may_go; seen = found.seen }
-
--- what a walk finds from here on
-least_is : (dataset : ℕ) (least : Option Candidate) (blocks : List Held) (next : Candidate)
-    → least_from dataset least (map candidate_of blocks) ≡ Some next → IsLeast dataset least blocks next
-least_is dataset least [] next is = record {
-  among = inl is;
-  before = λ other was. omega (arith, ap (λ (c : Candidate). c.part) (same_Some next other (sym is ∙ was)));
-  others = refl;
-}
-least_is dataset least (b ∷ bs) next is = elim (cases_Bool (may_be_removed dataset b)) [
-  | inr kept ↦
-      let rest = least_is dataset least bs next (subst (λ (l : Option Candidate). least_from dataset l (map candidate_of bs) ≡ Some next) (cond-false (may_go_of dataset (candidate_of b)) (lesser least (candidate_of b)) least (same_test dataset b ∙ kept)) is) in
-      record {
-        among = elim rest.among [ inl was ↦ inl was | inr found ↦ inr (later dataset b bs next found) ];
-        before = rest.before;
-        others = or_from (may_be_removed_below dataset next.part b) (list_any (may_be_removed_below dataset next.part) bs) (and_left (may_be_removed dataset b) (ltb b.part next.part) kept) rest.others;
-      }
-  | inl may ↦
-      with_this may least (least_is dataset (lesser least (candidate_of b)) bs next (subst (λ (l : Option Candidate). least_from dataset l (map candidate_of bs) ≡ Some next) (cond-true (may_go_of dataset (candidate_of b)) (lesser least (candidate_of b)) least (same_test dataset b ∙ may)) is))
-]
-  where
-    -- where the walk went on with this block
-    taken : (old : Option Candidate) → may_be_removed dataset b ≡ true → ((other : Candidate) → old ≡ Some other → b.part ≤ other.part)
-        → IsLeast dataset (Some (candidate_of b)) bs next → IsLeast dataset old (b ∷ bs) next
-    taken old may less rest =
-        let below : next.part ≤ b.part = rest.before (candidate_of b) refl in
-        record {
-          among = elim rest.among [
-            | inl this ↦ inr (record { place = 0; held = b; here = refl; may_go = may; seen = same_Some (candidate_of b) next this })
-            | inr found ↦ inr (later dataset b bs next found)
-          ];
-          before = λ other was. omega (arith, below, less other was);
-          others = or_from (may_be_removed_below dataset next.part b) (list_any (may_be_removed_below dataset next.part) bs) (not_below dataset next.part b below) rest.others;
-        }
-
-    -- the walk went on with this block, or with the one before
-    with_this : may_be_removed dataset b ≡ true → (old : Option Candidate) → IsLeast dataset (lesser old (candidate_of b)) bs next → IsLeast dataset old (b ∷ bs) next
-    with_this may None rest = taken None may (λ other was. absurd (none-some other was)) rest
-    with_this may (Some other) rest = elim (cases_Bool (leb other.part b.part)) [
-      | inl stays ↦
-          let kept : IsLeast dataset (Some other) bs next = subst (λ (l : Option Candidate). IsLeast dataset l bs next) (cond-true (leb other.part b.part) (Some other) (Some (candidate_of b)) stays) rest in
-          let below : next.part ≤ other.part = kept.before other refl in
-          record {
-            among = elim kept.among [ inl was ↦ inl was | inr found ↦ inr (later dataset b bs next found) ];
-            before = kept.before;
-            others = or_from (may_be_removed_below dataset next.part b) (list_any (may_be_removed_below dataset next.part) bs) (not_below dataset next.part b (omega (arith, below, leb-true other.part b.part stays))) kept.others;
-          }
-      | inr falls ↦
-          taken (Some other) may (λ o was. omega (arith, leb-false other.part b.part falls, ap (λ (c : Candidate). c.part) (same_Some other o was)))
-          (subst (λ (l : Option Candidate). IsLeast dataset l bs next) (cond-false (leb other.part b.part) (Some other) (Some (candidate_of b)) falls) rest)
-    ]
-
--- what was found stands in the list, and no other has a lesser part
-pub least_stands : (dataset : ℕ) (blocks : List Held) (next : Candidate) → least_in dataset (map candidate_of blocks) ≡ Some next
-    → Stands dataset blocks next × (list_any (may_be_removed_below dataset next.part) blocks ≡ false)
-least_stands dataset blocks next is =
-    let least = least_is dataset None blocks next is in
-    (elim least.among [ inl was ↦ absurd (none-some next was) | inr found ↦ found ], least.others)
-
--- where nothing was found none may be removed
-none_counted : (dataset : ℕ) (least : Option Candidate) (blocks : List Held) → least_from dataset least (map candidate_of blocks) ≡ None
-    → (least ≡ None) × (count_by (may_be_removed dataset) blocks ≡ 0)
-none_counted dataset least [] is = (is, refl)
-none_counted dataset least (b ∷ bs) is = elim (cases_Bool (may_be_removed dataset b)) [
-  | inr kept ↦
-      let rest = none_counted dataset least bs (subst (λ (l : Option Candidate). least_from dataset l (map candidate_of bs) ≡ None) (cond-false (may_go_of dataset (candidate_of b)) (lesser least (candidate_of b)) least (same_test dataset b ∙ kept)) is) in
-      (rest.0, omega (arith, rest.1, sum_by-cons (λ (x : Held). cond {A = ℕ} (may_be_removed dataset x) 1 0) b bs, cond-false {A = ℕ} (may_be_removed dataset b) 1 0 kept))
-  | inl may ↦
-      let rest = none_counted dataset (lesser least (candidate_of b)) bs (subst (λ (l : Option Candidate). least_from dataset l (map candidate_of bs) ≡ None) (cond-true (may_go_of dataset (candidate_of b)) (lesser least (candidate_of b)) least (same_test dataset b ∙ may)) is) in
-      absurd (some_lesser least rest.0)
-]
-  where
-    -- the lesser of two is one of them
-    some_lesser : (old : Option Candidate) → lesser old (candidate_of b) ≡ None → ⊥
-    some_lesser None none = none-some (candidate_of b) (sym none)
-    some_lesser (Some other) none = some_either (leb other.part b.part) (Some other) (Some (candidate_of b)) other (candidate_of b) refl refl none
-      where
-        some_either : (t : Bool) (x y : Option Candidate) (a c : Candidate) → x ≡ Some a → y ≡ Some c → cond t x y ≡ None → ⊥
-        some_either true x y a c p q none = none-some a (sym none ∙ p)
-        some_either false x y a c p q none = none-some c (sym none ∙ q)
-
--- the same of a whole list
-pub nothing_least : (dataset : ℕ) (blocks : List Held) → least_in dataset (map candidate_of blocks) ≡ None → count_by (may_be_removed dataset) blocks ≡ 0
-nothing_least dataset blocks is = (none_counted dataset None blocks is).1
+use Rattle.memory_core.proofs.LeastPart.{Stands, not_below}
 
 -- ---- the block that goes
 
@@ -347,11 +186,74 @@ removes_more worker dataset from amid end [] block before between after had has 
 removes_more worker dataset from amid end (b ∷ gone) block before between after had has left first more =
     (first.0, first.1, removes_more worker dataset (b.part + 1) amid end gone block (entry_by worker (Remove dataset b.part b.size) ∷ before) between after (without dataset b.part had) has left first.2 more)
 
+-- ---- each that may be removed goes, and no other
+
+-- the block at a place and those that may be removed without it
+taken_at : (dataset place : ℕ) (blocks : List Held) (held : Held) → slice_get blocks place ≡ Some held → may_be_removed dataset held ≡ true
+    → IsPermutation (resident_of held ∷ removable_of dataset (remove blocks place)) (removable_of dataset blocks)
+taken_at dataset place [] held here may = absurd (none-some held here)
+taken_at dataset zero (b ∷ bs) held here may =
+    let this : b ≡ held = same_Some b held here in
+    let goes : may_be_removed dataset b ≡ true = ap (may_be_removed dataset) this ∙ may in
+    subst (λ (rs : List Resident). IsPermutation (resident_of held ∷ removable_of dataset bs) rs)
+    (ap (λ (h : Held). resident_of h ∷ removable_of dataset bs) (sym this) ∙ sym (ap (map resident_of) (cond-true (may_be_removed dataset b) (b ∷ filter (may_be_removed dataset) bs) (filter (may_be_removed dataset) bs) goes)))
+    (IsPermutation-refl (resident_of held ∷ removable_of dataset bs))
+taken_at dataset (suc place) (b ∷ bs) held here may =
+    let rest : IsPermutation (resident_of held ∷ removable_of dataset (remove bs place)) (removable_of dataset bs) = taken_at dataset place bs held here may in
+    elim (cases_Bool (may_be_removed dataset b)) [
+      | inl goes ↦
+          let left : removable_of dataset (remove (b ∷ bs) (suc place)) ≡ resident_of b ∷ removable_of dataset (remove bs place) =
+          ap (map resident_of) (cond-true (may_be_removed dataset b) (b ∷ filter (may_be_removed dataset) (remove bs place)) (filter (may_be_removed dataset) (remove bs place)) goes) in
+          let all : removable_of dataset (b ∷ bs) ≡ resident_of b ∷ removable_of dataset bs =
+          ap (map resident_of) (cond-true (may_be_removed dataset b) (b ∷ filter (may_be_removed dataset) bs) (filter (may_be_removed dataset) bs) goes) in
+          subst (λ (rs : List Resident). IsPermutation (resident_of held ∷ rs) (removable_of dataset (b ∷ bs))) (sym left)
+          (subst (λ (rs : List Resident). IsPermutation (resident_of held ∷ resident_of b ∷ removable_of dataset (remove bs place)) rs) (sym all)
+          (IsPermutation-trans _ (resident_of b ∷ resident_of held ∷ removable_of dataset (remove bs place)) _
+          (IsPermutation-middle (resident_of held ∷ []) (resident_of b) (removable_of dataset (remove bs place)))
+          (IsPermutation-cons (resident_of b) _ _ rest)))
+      | inr stays ↦
+          let left : removable_of dataset (remove (b ∷ bs) (suc place)) ≡ removable_of dataset (remove bs place) =
+          ap (map resident_of) (cond-false (may_be_removed dataset b) (b ∷ filter (may_be_removed dataset) (remove bs place)) (filter (may_be_removed dataset) (remove bs place)) stays) in
+          let all : removable_of dataset (b ∷ bs) ≡ removable_of dataset bs =
+          ap (map resident_of) (cond-false (may_be_removed dataset b) (b ∷ filter (may_be_removed dataset) bs) (filter (may_be_removed dataset) bs) stays) in
+          subst (λ (rs : List Resident). IsPermutation (resident_of held ∷ rs) (removable_of dataset (b ∷ bs))) (sym left)
+          (subst (λ (rs : List Resident). IsPermutation (resident_of held ∷ removable_of dataset (remove bs place)) rs) (sym all) rest)
+    ]
+
+-- the same of the block that goes
+pub goes_one : (dataset : ℕ) (blocks has : List Held) (next : Candidate) (found : Stands dataset blocks next) → AreApart blocks → has ≡ without next.dataset next.part blocks
+    → IsPermutation (resident_of found.held ∷ removable_of dataset has) (removable_of dataset blocks)
+goes_one dataset blocks has next found apart is =
+    let held = found.held in
+    let place = stands held.dataset held.part blocks found.place apart (record { item = held; here = found.here; passes = its_name held }) in
+    let left : has ≡ remove blocks found.place = is ∙ sym (ap (λ (c : Candidate). without c.dataset c.part blocks) found.seen) ∙ sym place.others in
+    subst (λ (bs : List Held). IsPermutation (resident_of held ∷ removable_of dataset bs) (removable_of dataset blocks)) (sym left)
+    (taken_at dataset found.place blocks held found.here found.may_go)
+
+-- and of one more, behind those that went
+pub goes_more : (gone left next all : List Resident) (block : Resident) → IsPermutation (gone ++ left) all → IsPermutation (block ∷ next) left → IsPermutation ((gone ++ block ∷ []) ++ next) all
+goes_more gone left next all block before more =
+    subst (λ (rs : List Resident). IsPermutation rs all) (sym (append_assoc gone (block ∷ []) next))
+    (IsPermutation-trans _ _ _ (IsPermutation-append_right gone (block ∷ next) left more) before)
+
+-- where none is left that may be removed, those that went are all
+pub goes_all : (dataset : ℕ) (gone all : List Resident) (blocks : List Held) → list_any (may_be_removed dataset) blocks ≡ false
+    → IsPermutation (gone ++ removable_of dataset blocks) all → IsPermutation gone all
+goes_all dataset gone all blocks none before =
+    subst (λ (rs : List Resident). IsPermutation rs all) (ap (λ (rs : List Resident). gone ++ rs) (nothing blocks none) ∙ append-nil gone) before
+  where
+    nothing : (bs : List Held) → list_any (may_be_removed dataset) bs ≡ false → removable_of dataset bs ≡ []
+    nothing [] is = refl
+    nothing (b ∷ bs) is =
+        let parts = any_parts (may_be_removed dataset) b bs is in
+        ap (map resident_of) (cond-false (may_be_removed dataset b) (b ∷ filter (may_be_removed dataset) bs) (filter (may_be_removed dataset) bs) parts.0) ∙ nothing bs parts.1
+
 -- the removal of one alone
-pub removes_one : (worker dataset from : ℕ) (next : Candidate) (before after : History) (had has : List Held) → Stands dataset had next
+pub removes_one : (worker dataset from : ℕ) (next : Candidate) (before after : History) (had has : List Held) → Stands dataset had next → AreApart had
     → list_any (may_be_removed_below dataset from) had ≡ false → after ≡ entry_by worker (Remove next.dataset next.part next.size) ∷ before → has ≡ without next.dataset next.part had
     → (block : Resident) × (block.part ≡ next.part) × RemovesInTurn worker dataset from (next.part + 1) (block ∷ []) before had after has
-removes_one worker dataset from next before after had has found none history blocks =
+    × IsPermutation (block ∷ removable_of dataset has) (removable_of dataset had)
+removes_one worker dataset from next before after had has found apart none history blocks =
     let held = found.held in
     let of_it : held.dataset ≡ dataset = its_dataset dataset held found.may_go in
     let part : held.part ≡ next.part = ap (λ (c : Candidate). c.part) found.seen in (
@@ -366,4 +268,5 @@ removes_one worker dataset from next before after had has found none history blo
           blocks ∙ sym (ap (λ (c : Candidate). without c.dataset c.part had) found.seen) ∙ ap (λ n. without n held.part had) of_it,
         ),
       ),
+      goes_one dataset had has next found apart blocks,
     )
