@@ -1,6 +1,7 @@
 -- The slots after one was written to: the blocks in use order, and what is kept of the slots.
 use Rattle.std.proofs.Common.{◌≡◌, ℕ, suc, ◌<◌, ◌+◌, ◌-◌, Bool, true, false, cond, nat_eq, List, [], ◌∷◌, ◌++◌, map, length, Option, Some, None, sym, ap, subst, ◌∙◌, inl, inr, arith}
 use Rattle.std.specs.List.{list_any}
+use Rattle.std.specs.Prelude.{IfSome}
 use Rattle.std.specs.Option.{option_map, option_map_or}
 use Rattle.std.specs.Map.{lookup, lookup_entry, remove_entry, set_value}
 use Rattle.std.specs.Arc.{arc_value}
@@ -271,6 +272,12 @@ module _ (cache : LruCache ℕ (Option Resident)) (count room : ℕ) (view : Mem
     pub slot_is : (slot : Option Resident) → Some slot ≡ lookup (nat_eq number) cache.entries → slot ≡ Some resident
     slot_is slot e = same_Some slot (Some resident) (e ∙ has.here)
 
+    -- what a call that brings the slot to the front leaves
+    pub used_is : (new : LruCache ℕ (Option Resident)) (pins : ℕ) → IfSome (lookup (nat_eq number) cache.entries) (λ slot. new ≡ lru_cache (set_value (nat_eq number) (promoted (nat_eq number) cache.entries) (option_map (with_pins pins) slot)) cache.cap) → new ≡ lru_cache (set_value (nat_eq number) (promoted (nat_eq number) cache.entries) (Some (with_pins pins resident))) cache.cap
+    used_is new pins used =
+        subst (λ (o : Option (Option Resident)). IfSome o (λ slot. new ≡ lru_cache (set_value (nat_eq number) (promoted (nat_eq number) cache.entries) (option_map (with_pins pins) slot)) cache.cap)) has.here used
+
+    -- what one that keeps its place leaves in it
     pub set_is : (slot now : Option Resident) (pins : ℕ) → now ≡ option_map (with_pins pins) slot → Some slot ≡ lookup (nat_eq number) cache.entries → now ≡ Some (with_pins pins resident)
     set_is slot now pins set e = set ∙ ap (option_map (with_pins pins)) (slot_is slot e)
 

@@ -1,14 +1,12 @@
 //! The blocks in memory.
 
 ghost use Rattle.std.specs.Prelude.{◌≡◌, ◌≤◌, ◌<◌, ◌+◌, ◌++◌, ◌∷◌, [], map, max, Some, None, IsSome, IfOk, OnOk, OnErr, IfSome, IfNone, is_some, length, vec_capacity};
-ghost use Rattle.std.specs.Option.{option_map};
 ghost use Rattle.std.specs.Arc.{arc_value};
 ghost use Rattle.block_store.specs.Stores.{candidate_of, held_of, held_at, pins_at, without, unpinned, AreApart};
-ghost use Rattle.block_store.specs.Slots.{with_pins};
 
 use crate::Block;
 use crate::resident::Resident;
-use crate::slots::{Slots, add_slots, find, find_empty, list_blocks};
+use crate::slots::{Slots, add_slots, find, find_empty, list_blocks, set_pins, use_slot};
 use eviction::Candidate;
 use lru::LruCache;
 use std::alloc::{AllocError, Global};
@@ -165,10 +163,7 @@ impl Residents {
             return Err(AllocError);
         };
         let block = Arc::try_clone(&resident.block)?;
-        let Some(slot) = slots.get_mut(&number) else {
-            unreachable!()
-        };
-        set_pins(slot, pins);
+        use_slot(slots, number, pins);
         Ok(Some(block))
     }
 
@@ -215,14 +210,5 @@ impl Residents {
         };
         self.count -= 1;
         block
-    }
-}
-
-/// Sets the pins of the block that a slot has.
-fn set_pins(slot: &mut Option<Resident>, pins: u64)
-    ensures { slot.new ≡ option_map (with_pins pins) slot.old }
-{
-    if let Some(resident) = slot {
-        resident.pins = pins;
     }
 }

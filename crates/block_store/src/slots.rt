@@ -1,9 +1,11 @@
 //! Numbered slots in use order, and walks over them.
 
 ghost use Rattle.std.specs.Prelude.{◌≡◌, ◌≤◌, ◌<◌, ◌+◌, ◌-◌, ◌^◌, ◌++◌, ◌∷◌, [], map, Some, None, IfSome, IfNone, OnOk, OnErr, length, nat_eq, vec_len, vec_capacity};
-ghost use Rattle.std.specs.Map.{lookup};
+ghost use Rattle.std.specs.Option.{option_map};
+ghost use Rattle.std.specs.Map.{lookup, set_value};
+ghost use Rattle.lru.specs.LruCache.{lru_cache, promoted};
 ghost use Rattle.block_store.specs.Stores.{candidate_of, is_held, held_at};
-ghost use Rattle.block_store.specs.Slots.{held_in, blocks_in, AreBelow, HasBlock};
+ghost use Rattle.block_store.specs.Slots.{held_in, with_pins, blocks_in, AreBelow, HasBlock};
 
 use crate::resident::Resident;
 use eviction::Candidate;
@@ -55,6 +57,27 @@ pub(crate) fn find_empty(slots: &Slots) -> Option<u64>
         }
     }
     None
+}
+
+/// Sets the pins of the block that a slot has, and makes the slot the last used.
+pub(crate) fn use_slot(slots: &mut Slots, number: u64, pins: u64)
+    ensures { IfSome (lookup (nat_eq number) slots.old.entries) (λ slot.
+        slots.new ≡ lru_cache (set_value (nat_eq number)
+        (promoted (nat_eq number) slots.old.entries)
+        (option_map (with_pins pins) slot)) slots.old.cap) }
+{
+    if let Some(slot) = slots.get_mut(&number) {
+        set_pins(slot, pins);
+    }
+}
+
+/// Sets the pins of the block that a slot has.
+pub(crate) fn set_pins(slot: &mut Option<Resident>, pins: u64)
+    ensures { slot.new ≡ option_map (with_pins pins) slot.old }
+{
+    if let Some(resident) = slot {
+        resident.pins = pins;
+    }
 }
 
 /// Adds empty slots until there are so many. After an `Err`, which is want of memory, some were

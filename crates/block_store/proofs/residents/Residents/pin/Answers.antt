@@ -1,12 +1,12 @@
 use Rattle.std.proofs.Common.{sym, ap}
 use Rattle.std.specs.Prelude.{is_some}
-use Rattle.block_store.proofs.Written.{opened, is_found, is_known, set_is, pinned, same_count}
+use Rattle.block_store.proofs.Written.{opened, is_found, is_known, used_is, pinned, same_count}
 use Rattle.block_store.proofs.residents.Residents.pin.Goals as goal
 
 pub invariant_of-self-2 : goal.invariant_of-self-2
 invariant_of-self-2 c =
     let shown = opened c.self.inside.slots c.in-Some.slots c.self.inside.count c.self.inside.room c.args.self.now c.self.invariant c.self.view_is c.in-Some.is in
-    rw (set_is c.in-Some.slots c.self.inside.count c.self.inside.room c.args.self.now shown c.args.dataset c.args.part c.in-Some-find.number c.in-Some-find.resident.now c.in-Some-find.ensures.found c.in-Some-get_mut.slot.now c.set_pins.new.slot c.in-Some-checked_add.pins c.set_pins.ensures c.in-Some-get_mut.ensures.value) (pinned c.in-Some.slots c.self.inside.count c.self.inside.room c.args.self.now shown c.args.dataset c.args.part c.in-Some-find.number c.in-Some-find.resident.now c.in-Some-find.ensures.found c.in-Some-checked_add.pins _ c.in-Some-checked_add.ensures.1 c.in_ok-block.ensures).0
+    rw (used_is c.in-Some.slots c.self.inside.count c.self.inside.room c.args.self.now shown c.args.dataset c.args.part c.in-Some-find.number c.in-Some-find.resident.now c.in-Some-find.ensures.found c.use_slot.new.slots c.in-Some-checked_add.pins c.use_slot.ensures) (pinned c.in-Some.slots c.self.inside.count c.self.inside.room c.args.self.now shown c.args.dataset c.args.part c.in-Some-find.number c.in-Some-find.resident.now c.in-Some-find.ensures.found c.in-Some-checked_add.pins _ c.in-Some-checked_add.ensures.1 c.in_ok-block.ensures).0
 
 pub returns-clause-found : goal.returns-clause-found
 returns-clause-found c =
@@ -21,9 +21,9 @@ returns-clause-value c =
 pub returns-clause-last : goal.returns-clause-last
 returns-clause-last c =
     let shown = opened c.self.inside.slots c.in-Some.slots c.self.inside.count c.self.inside.room c.args.self.now c.self.invariant c.self.view_is c.in-Some.is in
-    rw (set_is c.in-Some.slots c.self.inside.count c.self.inside.room c.args.self.now shown c.args.dataset c.args.part c.in-Some-find.number c.in-Some-find.resident.now c.in-Some-find.ensures.found c.in-Some-get_mut.slot.now c.set_pins.new.slot c.in-Some-checked_add.pins c.set_pins.ensures c.in-Some-get_mut.ensures.value) (pinned c.in-Some.slots c.self.inside.count c.self.inside.room c.args.self.now shown c.args.dataset c.args.part c.in-Some-find.number c.in-Some-find.resident.now c.in-Some-find.ensures.found c.in-Some-checked_add.pins _ c.in-Some-checked_add.ensures.1 c.in_ok-block.ensures).1
+    rw (used_is c.in-Some.slots c.self.inside.count c.self.inside.room c.args.self.now shown c.args.dataset c.args.part c.in-Some-find.number c.in-Some-find.resident.now c.in-Some-find.ensures.found c.use_slot.new.slots c.in-Some-checked_add.pins c.use_slot.ensures) (pinned c.in-Some.slots c.self.inside.count c.self.inside.room c.args.self.now shown c.args.dataset c.args.part c.in-Some-find.number c.in-Some-find.resident.now c.in-Some-find.ensures.found c.in-Some-checked_add.pins _ c.in-Some-checked_add.ensures.1 c.in_ok-block.ensures).1
 
 pub returns-clause-count : goal.returns-clause-count
 returns-clause-count c =
     let shown = opened c.self.inside.slots c.in-Some.slots c.self.inside.count c.self.inside.room c.args.self.now c.self.invariant c.self.view_is c.in-Some.is in
-    rw (set_is c.in-Some.slots c.self.inside.count c.self.inside.room c.args.self.now shown c.args.dataset c.args.part c.in-Some-find.number c.in-Some-find.resident.now c.in-Some-find.ensures.found c.in-Some-get_mut.slot.now c.set_pins.new.slot c.in-Some-checked_add.pins c.set_pins.ensures c.in-Some-get_mut.ensures.value) (same_count c.in-Some.slots c.self.inside.count c.self.inside.room c.args.self.now shown _ (pinned c.in-Some.slots c.self.inside.count c.self.inside.room c.args.self.now shown c.args.dataset c.args.part c.in-Some-find.number c.in-Some-find.resident.now c.in-Some-find.ensures.found c.in-Some-checked_add.pins _ c.in-Some-checked_add.ensures.1 c.in_ok-block.ensures).0)
+    rw (used_is c.in-Some.slots c.self.inside.count c.self.inside.room c.args.self.now shown c.args.dataset c.args.part c.in-Some-find.number c.in-Some-find.resident.now c.in-Some-find.ensures.found c.use_slot.new.slots c.in-Some-checked_add.pins c.use_slot.ensures) (same_count c.in-Some.slots c.self.inside.count c.self.inside.room c.args.self.now shown _ (pinned c.in-Some.slots c.self.inside.count c.self.inside.room c.args.self.now shown c.args.dataset c.args.part c.in-Some-find.number c.in-Some-find.resident.now c.in-Some-find.ensures.found c.in-Some-checked_add.pins _ c.in-Some-checked_add.ensures.1 c.in_ok-block.ensures).0)
