@@ -1,6 +1,6 @@
 -- Values, joined number by number from the first place to the last.
 use Rattle.std.proofs.Common.{◌≡◌, ◌<◌, ◌+◌, ◌*◌, ◌∷◌, ◌++◌, ◌∙◌, [], ℕ, suc, List, length, take, drop, refl, sym, ap, arith, append_assoc, get_or}
-use Rattle.std.proofs.lemmas.List.{append-nil, drop-drop, length-append, take_at, drop_at, length-take, take_more}
+use Rattle.std.proofs.lemmas.List.{append-nil, drop-drop, length-append, take_at, drop_at, length-take, take_more, take_all, drop_all}
 use Rattle.aggregate.specs.declared.agg_list.Agg.{Agg}
 use Rattle.aggregate.specs.declared.agg_list.Agg.TheVariants.{Count}
 use Rattle.aggregate.specs.Partial.{combined, joined, joined_bytes, number}
@@ -56,3 +56,24 @@ combine-step aggs i k old from into new lt ek inv made =
     let last = combined-more (take i aggs) (get_or aggs i Count) old from in
     rw (ek, inv, piece, take_more aggs i Count lt, last, many)
     (put-slot i (combined (take i aggs) old from) old (joined_bytes (get_or aggs i Count) (slot i old) (slot i from)) long)
+
+-- a value of one number is joined whole
+pub one_joined : (aggs : List Agg) (old from new : List ℕ) → length aggs ≡ 1 → length old ≡ 16 → length from ≡ 16 → new ≡ joined_bytes (get_or aggs 0 Count) old from → new ≡ combined aggs old from
+one_joined [] old from new one long long_from made = absurd (omega arith)
+one_joined (agg ∷ []) old from new one long long_from made =
+    let first : take 16 old ≡ old = take_all 16 old (omega arith) in
+    let second : take 16 from ≡ from = take_all 16 from (omega arith) in
+    rw (first, second) (made ∙ sym (append-nil (joined_bytes agg old from)))
+one_joined (agg ∷ (next ∷ aggs)) old from new one long long_from made = absurd (omega arith)
+
+-- one of two numbers in two steps
+pub two_joined : (aggs : List Agg) (old from first second : List ℕ) → length aggs ≡ 2 → length old ≡ 32
+    → first ≡ joined_bytes (get_or aggs 0 Count) (take 16 old) (take 16 from)
+    → second ≡ joined_bytes (get_or aggs 1 Count) (take 16 (drop 16 (first ++ drop 16 old))) (take 16 (drop 16 from))
+    → put_mid 16 16 (first ++ drop 16 old) second ≡ combined aggs old from
+two_joined aggs old from first second two long is_first is_second =
+    let step = combine-step aggs 0 16 old from old first (omega arith) refl refl is_first in
+    let last = combine-step aggs 1 16 old from (first ++ drop 16 old) second (omega arith) refl step is_second in
+    let none : drop 32 old ≡ [] = drop_all 32 old (omega arith) in
+    let all : take 2 aggs ≡ aggs = take_all 2 aggs (omega arith) in
+    last ∙ rw (none, all) (append-nil (combined aggs old from))

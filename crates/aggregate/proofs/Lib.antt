@@ -7,3 +7,4 @@ pub mod Totalling
 pub mod NumberKeys
 pub mod NumberOrder
 pub mod Ascending
+pub mod Fronts

@@ -28,7 +28,7 @@ digits-ranked m a b r s Greater t small_r small_s more low =
     let next : (b + 1) * m ≡ b * m + 1 * m = add-mul b 1 m in
     omega arith
 
-digits-order : (m a b r s : ℕ) → r < m → s < m → ordering_then (nat_cmp a b) (nat_cmp r s) ≡ nat_cmp (a * m + r) (b * m + s)
+pub digits-order : (m a b r s : ℕ) → r < m → s < m → ordering_then (nat_cmp a b) (nat_cmp r s) ≡ nat_cmp (a * m + r) (b * m + s)
 digits-order m a b r s small_r small_s =
     nat_cmp_is (a * m + r) (b * m + s) (ordering_then (nat_cmp a b) (nat_cmp r s))
     (digits-ranked m a b r s (nat_cmp a b) (nat_cmp r s) small_r small_s (ranked a b (nat_cmp a b) refl) (ranked r s (nat_cmp r s) refl))

@@ -22,7 +22,7 @@ abbrev pub last_group : List Agg → Entry → List Entry → List Entry
 last_group aggs e [] = e ∷ []
 last_group aggs e (x ∷ xs) = last_group_at aggs (key_cmp e.key x.key) e x xs (last_group aggs e xs)
 
-same_key : (a b : List ℕ) → key_cmp a b ≡ Equal → a ≡ b
+pub same_key : (a b : List ℕ) → key_cmp a b ≡ Equal → a ≡ b
 same_key a b e = slice_cmp-IsAntisymmetric nat_cmp-IsAntisymmetric a b e
 
 pub turn : (a b : List ℕ) (o : Ordering) → key_cmp a b ≡ o → key_cmp b a ≡ ordering_reverse o

@@ -3,3 +3,4 @@ pub mod Partial
 pub mod PartialLaws
 pub mod Totals
 pub mod Rows
+pub mod Fronts

@@ -1,5 +1,5 @@
 // Partial values, combined number by number.
-ghost use Rattle.std.specs.Prelude.{◌≡◌, ◌++◌, ◌+◌, ◌*◌, ◌<◌, length, OnErr, OnOk};
+ghost use Rattle.std.specs.Prelude.{◌≡◌, ◌++◌, ◌+◌, ◌*◌, ◌<◌, ◌≤◌, length, OnErr, OnOk};
 ghost use Rattle.aggregate.specs.Partial.{combined, joined, joined_bytes, narrowed, number, number_at, partial_of};
 ghost use Rattle.aggregate.specs.PartialLaws.{IsAssociative, NumbersAreJoined, NumbersComeBack, PartialsAreSixteenBytes, SumsAreExact};
 
@@ -26,7 +26,25 @@ pub fn combine(aggs: &AggList, into: &mut [u8], from: &[u8])
     requires from { length from.now ≡ 16 * length aggs.now }
     ensures { into.new ≡ combined aggs.now into.old from.now }
 {
-    for (i, agg) in aggs.items().iter().enumerate() {
+    match aggs.items() {
+        // A count, and a count and a sum, are what most queries ask for.
+        [only] => join_bytes(*only, into, from),
+        [first, second] => {
+            join_bytes(*first, &mut into[..16], &from[..16]);
+            join_bytes(*second, &mut into[16..32], &from[16..32]);
+        }
+        list => combine_each(list, into, from),
+    }
+}
+
+// Combines a value into another, aggregate by aggregate.
+fn combine_each(aggs: &[Agg], into: &mut [u8], from: &[u8])
+    requires into { length into.old ≡ 16 * length aggs.now }
+    requires from { length from.now ≡ 16 * length aggs.now }
+    requires few { length aggs.now ≤ 8 }
+    ensures { into.new ≡ combined aggs.now into.old from.now }
+{
+    for (i, agg) in aggs.iter().enumerate() {
         let at = 16 * i;
         join_bytes(*agg, &mut into[at..at + 16], &from[at..at + 16]);
     }
