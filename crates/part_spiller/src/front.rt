@@ -6,9 +6,10 @@ ghost use Rattle.aggregate.specs.declared.kind.Kind.TheVariants.{Order};
 ghost use Rattle.aggregate.specs.Rows.{Ascends};
 ghost use Rattle.aggregate.specs.Totals.{costs as costs_of, key_cmp};
 ghost use Rattle.part_spiller.specs.declared.row.Row.{Row};
-ghost use Rattle.part_spiller.specs.Rows.{entries_of_rows, fields_of_row, Puts};
+ghost use Rattle.part_spiller.specs.Rows.{entries_of_rows, Puts};
 
 use crate::Row;
+use consumer_trait::{cost_of, put_entry};
 use row_page::{Page, PageFault, RowBuf};
 use std::alloc::{AllocError, Global};
 
@@ -39,18 +40,6 @@ pub fn front_of(rows: &[Row], most: usize) -> usize
     end
 }
 
-/// Puts a row on the page. After an `Err` the page is as it was.
-fn put_row(alloc: Global, row: &Row, out: &mut Page) -> Result<(), PageFault>
-    ensures ok { OnOk result
-        (out.new ≡ record out.old { rows = out.old.rows ++ fields_of_row row.now ∷ [] }) }
-    ensures err { OnErr result (out.new ≡ out.old) }
-{
-    let mut fields = RowBuf::new(alloc);
-    fields.add(&row.key)?;
-    fields.add(&row.value)?;
-    out.push(fields.view())
-}
-
 /// Puts the first `most` rows on the page, or as many as it has room for, and says how many.
 pub fn put_front(
     alloc: Global,
@@ -64,8 +53,9 @@ pub fn put_front(
     ensures puts { IfOk result (λ count. Puts rows.now most count out.new.rows) }
     ensures room { out.new.room ≡ out.old.room }
 {
+    let mut fields = RowBuf::new(alloc);
     for i in 0..most {
-        match put_row(alloc, &rows[i], out) {
+        match put_entry(&mut fields, &rows[i].key, &rows[i].value, out) {
             Ok(()) => {}
             Err(PageFault::Full) if i > 0 => return Ok(i),
             Err(_) => return Err(AllocError),
@@ -84,6 +74,6 @@ pub fn drop_front(rows: &mut Vec<Row>, costs: &mut u64, count: usize)
 {
     for _i in 0..count {
         let row = rows.remove(0);
-        *costs -= 32 + row.key.len() as u64 + row.value.len() as u64;
+        *costs -= cost_of(&row.key, &row.value);
     }
 }
