@@ -1,19 +1,24 @@
 -- Entries of different keys: their total has just them, ascending, and is that of each list that has just them.
-use Rattle.std.proofs.Common.{◌≡◌, ℕ, false, List, [], ◌∷◌, ◌⊎◌, inl, inr, ⊎_elim, arith, refl, sym, ap, ◌∙◌}
+use Rattle.std.proofs.Common.{◌≡◌, ℕ, false, List, [], ◌∷◌, ◌++◌, Some, ◌⊎◌, inl, inr, ⊎_elim, arith, refl, sym, ap, subst, ◌∙◌, append_assoc}
 use Rattle.std.specs.Prelude.{Contains}
-use Rattle.std.specs.Ordering.{is_eq}
-use Rattle.std.specs.List.{AllByRecursion}
+use Rattle.std.specs.Ordering.{is_eq, is_gt}
+use Rattle.std.specs.List.{All, AllByRecursion, IsDistinct}
 use Rattle.std.specs.List.Sorted.{IsPermutation}
 use Rattle.std.specs.declared.cmp.Ordering.{Ordering}
 use Rattle.std.specs.declared.cmp.Ordering.TheVariants.{Less, Equal, Greater}
 use Rattle.std.proofs.lemmas.Cmp.{nat_list_cmp_total, tied_itself}
-use Rattle.std.proofs.lemmas.List.Elements.{All-contains, All-from_recursion, Contains-append_cases, Contains-append_right, Contains-get_or}
-use Rattle.std.proofs.lemmas.List.Sorted.{Contains-permutation, IsPermutation-cons, IsPermutation-middle, IsPermutation-refl, IsPermutation-sym, IsPermutation-trans}
+use Rattle.std.proofs.lemmas.List.Elements.{All-cons, All-contains, All-from_recursion, All-head, All-nil, All-tail, Contains-append_cases, Contains-append_right, Contains-get_or}
+use Rattle.std.proofs.lemmas.List.Sorted.{Contains-permutation, IsPermutation-append_comm, IsPermutation-append_left, IsPermutation-cons, IsPermutation-middle, IsPermutation-refl, IsPermutation-sym, IsPermutation-trans}
 use Rattle.aggregate.specs.declared.agg_list.Agg.{Agg}
-use Rattle.aggregate.specs.declared.kind.Kind.TheVariants.{Group}
+use Rattle.aggregate.specs.declared.kind.Kind.TheVariants.{Group, Order}
 use Rattle.aggregate.specs.Partial.{combined}
+use Rattle.aggregate.specs.Rows.{Ascends, StandsBefore}
 use Rattle.aggregate.specs.Totals.{Entry, group_at, insert_group, key_cmp, total}
-use Rattle.group_map.proofs.LastEntries.{last_group, last_group_at, turn}
+use Rattle.aggregate.proofs.Totalling.{last_group, last_group_at, turn}
+use Rattle.aggregate.proofs.Ascending.{pairs-first, pairs-rest}
+use Rattle.std.proofs.lemmas.List.Kept.{AllPairs-cons}
+use Rattle.std.proofs.lemmas.Map.Keys.{IsDistinct-IsPermutation}
+use Rattle.group_map.specs.Pairs.{AreApart, same_key}
 
 -- the key isn't that of any entry
 abbrev pub IsAbsent : List ℕ → List Entry → Type 0
@@ -140,3 +145,71 @@ joined_last aggs k a b (y ∷ ys) absent = at (key_cmp k y.key) refl absent.0 (j
     at Less o n rec = ap (λ r. group_at aggs r x e (y ∷ ys) (insert_group aggs x (y ∷ ys))) (tied_itself nat_list_cmp_total k)
     at Equal o n rec = absurd (cc)
     at Greater o n rec = ap (λ r. group_at aggs r x y (last_group aggs e ys) (insert_group aggs x (last_group aggs e ys))) o ∙ ap (λ zs. y ∷ zs) rec
+
+-- ---- entries that are apart, by either word
+
+pub distinct_of : (es : List Entry) → AreApart es → AreDistinct es
+unfolding IsDistinct
+distinct_of [] d = tt
+distinct_of (e ∷ es) d = (d.0, distinct_of es d.1)
+
+pub apart_of : (es : List Entry) → AreDistinct es → AreApart es
+unfolding IsDistinct
+apart_of [] d = tt
+apart_of (e ∷ es) d = (d.0, apart_of es d.1)
+
+pub same_flips : (a b : Entry) → same_key a b ≡ same_key b a
+same_flips a b = at (key_cmp a.key b.key) refl
+  where
+    at : (o : Ordering) → key_cmp a.key b.key ≡ o → is_eq o ≡ same_key b a
+    at Less e = sym (ap is_eq (turn a.key b.key Less e))
+    at Equal e = sym (ap is_eq (turn a.key b.key Equal e))
+    at Greater e = sym (ap is_eq (turn a.key b.key Greater e))
+
+-- entries stay apart in any order
+pub apart_permuted : (es fs : List Entry) → IsPermutation es fs → AreApart es → AreApart fs
+apart_permuted es fs same d = IsDistinct-IsPermutation same_key same_flips es fs same d
+
+-- and where those at the front go
+pub apart_behind : (front es : List Entry) → AreApart (front ++ es) → AreApart es
+unfolding IsDistinct
+apart_behind [] es d = d
+apart_behind (e ∷ front) es d = apart_behind front es d.1
+
+-- what comes first goes behind the rest
+pub moved_behind : (front rows left : List Entry) → IsPermutation (front ++ (rows ++ left)) (rows ++ (front ++ left))
+moved_behind front rows left =
+    subst (λ (es : List Entry). IsPermutation es (rows ++ (front ++ left))) (append_assoc front rows left)
+    (subst (λ (es : List Entry). IsPermutation ((front ++ rows) ++ left) es) (append_assoc rows front left)
+    (IsPermutation-append_left left (front ++ rows) (rows ++ front) (IsPermutation-append_comm front rows)))
+
+pub apart_left : (front rows left : List Entry) → AreApart (front ++ (rows ++ left)) → AreApart (front ++ left)
+apart_left front rows left d = apart_behind rows (front ++ left) (apart_permuted (front ++ (rows ++ left)) (rows ++ (front ++ left)) (moved_behind front rows left) d)
+
+-- entries that are apart come to the same in any order
+pub total_permuted : (aggs : List Agg) (es fs : List Entry) → AreApart es → IsPermutation es fs → total (Group aggs) fs ≡ total (Group aggs) es
+total_permuted aggs es fs d same =
+    let back = IsPermutation-sym es fs same in
+    let distinct = distinct_of es d in
+    total_that_rises aggs fs (total (Group aggs) es) (distinct_of fs (apart_permuted es fs same d))
+    (IsPermutation-trans fs es (total (Group aggs) es) back (same_total aggs es distinct))
+    (rises_total aggs es distinct)
+
+-- ---- entries that are apart and don't fall rise
+
+all_less : (x : Entry) (es : List Entry) → AllByRecursion (λ e. same_key x e ≡ false) es → All (StandsBefore (Some Order) x) es → All (StandsBefore (Some (Group [])) x) es
+all_less x [] apart up = All-nil (StandsBefore (Some (Group [])) x)
+all_less x (e ∷ es) apart up = All-cons (StandsBefore (Some (Group [])) x) e es (at (key_cmp x.key e.key) apart.0 (All-head (StandsBefore (Some Order) x) e es up)) (all_less x es apart.1 (All-tail (StandsBefore (Some Order) x) e es up))
+  where
+    at : (o : Ordering) → is_eq o ≡ false → is_gt o ≡ false → o ≡ Less
+    at Less n g = refl
+    at Equal n g = absurd (cc)
+    at Greater n g = absurd (cc)
+
+pub ascends_apart : (es : List Entry) → AreApart es → Ascends (Some Order) es → Ascends (Some (Group [])) es
+unfolding IsDistinct
+ascends_apart [] d up = λ i j e a b. absurd (omega arith)
+ascends_apart (x ∷ es) d up =
+    AllPairs-cons (StandsBefore (Some (Group []))) x es
+    (all_less x es d.0 (pairs-first (StandsBefore (Some Order)) x es up))
+    (ascends_apart es d.1 (pairs-rest (StandsBefore (Some Order)) x es up))

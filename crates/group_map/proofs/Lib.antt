@@ -1,6 +1,7 @@
-pub mod LastEntries
 pub mod Distinct
-pub mod Grouping
-pub mod Charging
-pub mod Moving
+pub mod Taking
+pub mod ByPlace
+pub mod Widths
+pub mod Places
 pub mod Pages
+pub mod Ending

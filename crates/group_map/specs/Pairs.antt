@@ -1,33 +1,30 @@
--- The pairs of a map as entries.
+-- Keys, and the value of each at its place in one list of bytes, as entries.
 -- This project's own.
-use Rattle.std.specs.Prelude.{◌≡◌, ℕ, ◌+◌, ◌*◌, ◌≤◌, List, [], ◌∷◌, ◌++◌, Option, Some, None, length, map, drop, All}
-use Rattle.std.specs.List.Sorted.{IsStrictlySortedBy}
-use Rattle.std.specs.Map.{keys_of}
+use Rattle.std.specs.Prelude.{◌≡◌, ℕ, ◌+◌, ◌*◌, List, [], ◌∷◌, ◌++◌, Bool, Option, Some, None, length, take, drop}
 use Rattle.std.specs.Global.{Vec}
+use Rattle.std.specs.List.{IsDistinct}
+use Rattle.std.specs.Ordering.{is_eq}
 use Rattle.aggregate.specs.declared.agg_list.Agg.{Agg}
 use Rattle.aggregate.specs.declared.kind.Kind.TheVariants.{Group}
 use Rattle.aggregate.specs.Totals.{Entry, costs, key_cmp, total}
+use Rattle.group_map.specs.declared.groups.Groups.{Groups}
 
--- the entry that a pair is
-abbrev pub entry_of_pair : (Vec ℕ × Vec ℕ) → Entry
-entry_of_pair pair = record { key = pair.0.items; value = pair.1.items }
+-- the entries: the value of the key at place i has `width` bytes from width * i on
+abbrev pub entries_by : ℕ → List (Vec ℕ) → List ℕ → List Entry
+entries_by width [] values = []
+entries_by width (key ∷ keys) values = record { key = key.items; value = take width values } ∷ entries_by width keys (drop width values)
 
--- the entries that a map's pairs are
-abbrev pub entries_of_pairs : List (Vec ℕ × Vec ℕ) → List Entry
-entries_of_pairs pairs = map entry_of_pair pairs
+-- the entries of groups, in the order in which their keys came
+abbrev pub entries_of_groups : Groups → List Entry
+entries_of_groups groups = entries_by groups.width groups.keys.keys groups.values.items
 
--- the same from a place on
-abbrev pub entries_from : ℕ → List (Vec ℕ × Vec ℕ) → List Entry
-entries_from at pairs = entries_of_pairs (drop at pairs)
+-- whether two entries have one key
+abbrev pub same_key : Entry → Entry → Bool
+same_key a b = is_eq (key_cmp a.key b.key)
 
--- the keys ascend, each once
-abbrev pub IsInOrder : List (Vec ℕ × Vec ℕ) → Type 0
-IsInOrder pairs = IsStrictlySortedBy (λ a b. key_cmp a.items b.items) (keys_of pairs)
-
--- an entry that has room on an empty page
-pub record Fits (entry : Entry) : Type 0 where
-  pub key : length entry.key ≤ 131152
-  pub value : length entry.value ≤ 65568
+-- no two entries have one key
+abbrev pub AreApart : List Entry → Type 0
+AreApart entries = IsDistinct same_key entries
 
 -- an entry with a value of so many bytes
 abbrev pub HasLength : ℕ → Entry → Type 0
@@ -38,9 +35,8 @@ abbrev pub width_of : Option (List Agg) → ℕ
 width_of None = 0
 width_of (Some aggs) = 16 * length aggs
 
--- the list of entries has one more taken in, which is charged so many bytes
+-- a list of entries has one more taken in, which is charged so many bytes
 pub record TakesIn (aggs : List Agg) (old new : List Entry) (entry : Entry) (bytes : ℕ) : Type 0 where
   pub total : total (Group aggs) new ≡ total (Group aggs) (old ++ entry ∷ [])
   pub charged : costs new ≡ costs old + bytes
-  pub fits : All Fits new
-  pub widths : All (HasLength (16 * length aggs)) new
+  pub apart : AreApart new

@@ -1,8 +1,7 @@
-//! The consumer of queries that group: it keeps one value a key, and sorts the keys when it spills.
+//! The consumer of queries that group: it keeps one value a key, and spills as many of the last keys as it can order.
 #![tactic(auto)]
 
-mod filling;
+mod groups;
 mod map;
-mod pairs;
 
 pub use map::GroupMap;

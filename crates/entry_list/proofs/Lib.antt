@@ -1,0 +1,4 @@
+pub mod StableSort
+pub mod PlaceOrder
+pub mod Parts
+pub mod Ends

@@ -1,0 +1,119 @@
+//! One value a key.
+
+ghost use Rattle.std.specs.Prelude.{◌≡◌, ◌≤◌, ◌*◌, length, All};
+
+use aggregate::{AggList, combine, combine_is_associative};
+use entry_list::EntryList;
+use indexmap::IndexSet;
+use std::alloc::{AllocError, Global};
+
+/// Keys in the order in which they came, and their values in one run of bytes: that of the key at place i
+/// from `width * i` on. Contracts see them as `entries_of_groups`.
+#[derive(Drop)]
+pub struct Groups {
+    pub width: usize,
+    keys: IndexSet<Vec<u8>>,
+    values: Vec<u8>,
+    ghost whole: { length values.items ≡ width * length keys.keys },
+    ghost narrow: { width ≤ 128 },
+    ghost short: { All (λ key. length key.items ≤ 131152) keys.keys },
+}
+
+impl Groups {
+    ghost use Rattle.std.specs.Prelude.{◌∷◌, ◌++◌, ◌↔◌, [], true, false, take, drop, IsTrue, IfOk, OnOk, OnErr};
+    ghost use Rattle.aggregate.specs.Totals.{cost, costs};
+    ghost use Rattle.consumer_trait.specs.Calls.{has_key};
+    ghost use Rattle.entry_list.specs.Lists.{entries_of_list};
+    ghost use Rattle.group_map.specs.Pairs.{AreApart, entries_of_groups, TakesIn};
+
+    /// No key. Each value will have so many bytes.
+    pub fn new(alloc: Global, width: usize) -> Groups
+        requires { width ≤ 128 }
+        ensures none { entries_of_groups result ≡ [] }
+        ensures width { result.width ≡ width }
+    {
+        Groups {
+            width,
+            keys: IndexSet::new(alloc),
+            values: Vec::new(alloc),
+        }
+    }
+
+    /// How many keys there are.
+    pub fn len(&self) -> usize
+        ensures { result ≡ length (entries_of_groups self.now) }
+    {
+        self.keys.len()
+    }
+
+    /// Whether there is none.
+    pub fn is_empty(&self) -> bool
+        ensures { IsTrue result ↔ (entries_of_groups self.now ≡ []) }
+    {
+        self.keys.is_empty()
+    }
+
+    /// Combines the value into that of its key, and says whether the key was there. It takes no memory.
+    pub fn combine_known(&mut self, aggs: &AggList, key: &[u8], value: &[u8]) -> bool
+        requires value { length value.now ≡ 16 * length aggs.now }
+        requires width { self.old.width ≡ 16 * length aggs.now }
+        requires apart { AreApart (entries_of_groups self.old) }
+        ensures known { result ≡ has_key key.now (entries_of_groups self.old) }
+        ensures takes { result ≡ true → TakesIn aggs.now (entries_of_groups self.old)
+            (entries_of_groups self.new) (record { key = key.now; value = value.now }) 0 }
+        ensures enough { result ≡ true → cost (record { key = key.now; value = value.now })
+            ≤ costs (entries_of_groups self.old) }
+        ensures same { result ≡ false → entries_of_groups self.new ≡ entries_of_groups self.old }
+        ensures width { self.new.width ≡ self.old.width }
+    {
+        combine_is_associative();
+        let Some(place) = self.keys.get_index_of(key) else {
+            return false;
+        };
+        let at = self.width * place;
+        combine(aggs, &mut self.values[at..at + self.width], value);
+        true
+    }
+
+    /// Puts a copy of an entry behind the others. After an `Err` nothing changed.
+    pub fn push(&mut self, alloc: Global, key: &[u8], value: &[u8]) -> Result<(), AllocError>
+        requires new { has_key key.now (entries_of_groups self.old) ≡ false }
+        requires key_fits { length key.now ≤ 131152 }
+        requires value { length value.now ≡ self.old.width }
+        ensures ok { OnOk result (entries_of_groups self.new
+            ≡ entries_of_groups self.old ++ record { key = key.now; value = value.now } ∷ []) }
+        ensures err { OnErr result (entries_of_groups self.new ≡ entries_of_groups self.old) }
+        ensures width { self.new.width ≡ self.old.width }
+    {
+        let copy = key.to_vec(alloc)?;
+        let count = self.values.len();
+        self.values.extend_from_slice(value)?;
+        let Ok(_) = self.keys.insert(copy) else {
+            self.values.truncate(count);
+            return Err(AllocError);
+        };
+        Ok(())
+    }
+
+    /// The entries from a place on, as a list of their own.
+    pub fn copy_from(&self, alloc: Global, first: usize) -> Result<EntryList, AllocError>
+        ensures { IfOk result (λ list. entries_of_list list ≡ drop first (entries_of_groups self.now)) }
+    {
+        let mut list = EntryList::new(alloc);
+        for place in first..self.keys.len() {
+            let at = self.width * place;
+            list.push(&self.keys[place], &self.values[at..at + self.width])?;
+        }
+        Ok(list)
+    }
+
+    /// Lets go the entries from a place on.
+    pub fn truncate(&mut self, len: usize)
+        requires { len ≤ length (entries_of_groups self.old) }
+        ensures kept { entries_of_groups self.new ≡ take len (entries_of_groups self.old) }
+        ensures width { self.new.width ≡ self.old.width }
+    {
+        self.keys.truncate(len);
+        self.values.truncate(self.width * len);
+    }
+}
