@@ -4,6 +4,7 @@ use crate::tests::faults::{FAULTS, SCRIPT};
 use crate::tests::game::play_script;
 use crate::tests::scripts::{COPIES, CROWDS, EVICTIONS, LIMITS, LOANS, REMOVALS, USES, WAITS};
 use crate::tests::words::cut;
+use pool_ledger::Setup;
 use std::alloc::Global;
 use std::process::Abort;
 use std::string::String;
@@ -102,6 +103,21 @@ fn a_task_that_gave_all_back_no_longer_counts(rt: HostRuntime) -> Result<(), Fai
 ask:0:400=400 release:0:1000=400 ask:1:600=600 ask:0:100=wait release:0:1=0
 journal begin,0,0 begin,1,1 attempt,0,0,400,100,0,400 release,0,0,400 attempt,1,1,600,200,0,600 \
     attempt,0,0,100,0,0,wait release,0,0,0
+blocks
+files 0 0
+storage 0";
+    check(&rt, rt.alloc(), script)
+}
+
+// Half an equal share of what execution starts with is 75: an ask within it isn't granted short.
+#[test]
+fn an_ask_within_the_floor_waits_or_is_granted_whole(rt: HostRuntime) -> Result<(), Fail> {
+    assert_eq!(rt; Setup::of(600, 0, 1000, 500, 2)?.floor(), 75);
+    let script = "\
+600 500 2 2 the journal by hand
+ask:0:500=500 ask:0:100=100 ask:1:75=wait release:0:75=75 ask:1:75=75
+journal begin,0,0 begin,1,1 attempt,0,0,500,200,0,500 attempt,0,0,100,100,0,100 \
+    attempt,1,1,75,0,0,wait release,0,0,75 attempt,1,1,75,0,0,75
 blocks
 files 0 0
 storage 0";

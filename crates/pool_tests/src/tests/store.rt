@@ -38,7 +38,7 @@ fn blocks_stand_in_use_order_with_their_pins(rt: HostRuntime) -> Result<(), Fail
 #[test]
 fn a_thousand_blocks_stand_in_the_order_of_their_pins(rt: HostRuntime) -> Result<(), Fail> {
     let alloc = rt.alloc();
-    let mut store = Store::new(alloc, MemoryDisk::new(Vec::new(alloc)));
+    let mut store = Store::new(alloc, MemoryDisk::new(alloc, Vec::new(alloc)));
     put_parts(&mut store, alloc, 1000)?;
     assert_eq!(rt; ordered_by(store.list(), 1, 1000), 1000);
     // By sevens: 7, 14, 21 and so on, past 1,000 from the front again, and at last 0.
