@@ -1,9 +1,9 @@
--- Numbered slots: what the first that passes tells, the blocks in the order of the slots, and one slot more.
+-- Numbered slots: what the first that passes tells, the blocks in the order of the slots, and their numbers.
 use Rattle.std.proofs.Common.{◌≡◌, ℕ, zero, suc, ◌≤◌, ◌<◌, ◌-◌, ◌^◌, take, Bool, true, false, cond, nat_eq, List, [], ◌∷◌, ◌++◌, map, length, Option, Some, None, refl, sym, ap, ◌∙◌, inl, inr, arith}
 use Rattle.std.specs.Prelude.{slice_get}
 use Rattle.std.specs.List.{find, IsDistinct}
 use Rattle.std.specs.Option.{option_or, option_map_or}
-use Rattle.std.specs.Map.{lookup, lookup_entry, remove_entry, keys_of}
+use Rattle.std.specs.Map.{lookup, lookup_entry, remove_entry, set_value, keys_of}
 use Rattle.std.specs.Cmp.{nat_eq_equiv}
 use Rattle.std.proofs.lemmas.Bool.{cases_Bool, ne_eqb}
 use Rattle.std.proofs.lemmas.Option.{none-some, same_Some}
@@ -140,6 +140,23 @@ below_put slots below =
     let last : length slots < suc (length slots) = omega arith in
     let more : length slots ≤ suc (length slots) = omega arith in
     (last, below_more (length slots) (suc (length slots)) slots more below)
+
+-- the numbers stay those below their count
+pub below_set : (count number : ℕ) (slot : Option Resident) (slots : List Numbered) → AreBelow count slots → AreBelow count (set_value (nat_eq number) slots slot)
+below_set count number slot [] below = tt
+below_set count number slot (s ∷ ss) below = by (nat_eq number s.0) (below_set count number slot ss below.1)
+  where
+    by : (t : Bool) → AreBelow count (set_value (nat_eq number) ss slot) → AreBelow count (cond t ((s.0, slot) ∷ ss) (s ∷ set_value (nat_eq number) ss slot))
+    by true rest = below
+    by false rest = (below.0, rest)
+
+pub below_removed : (count number : ℕ) (slots : List Numbered) → AreBelow count slots → AreBelow count (remove_entry (nat_eq number) slots)
+below_removed count number [] below = tt
+below_removed count number (s ∷ ss) below = by (nat_eq number s.0) (below_removed count number ss below.1)
+  where
+    by : (t : Bool) → AreBelow count (remove_entry (nat_eq number) ss) → AreBelow count (cond t ss (s ∷ remove_entry (nat_eq number) ss))
+    by true rest = below.1
+    by false rest = (below.0, rest)
 
 -- the blocks are written down from the last slot to the first
 

@@ -15,7 +15,7 @@ use Rattle.block_store.specs.declared.resident.Resident.{Resident}
 use Rattle.block_store.specs.Stores.{Held, held_of, is_held, held_at, pins_at, without, unpinned, AreApart}
 use Rattle.block_store.specs.Slots.{Numbered, MemoryView, held_in, with_pins, followed_by, blocks_in, slots_of, AreBelow, AreKept, HasBlock}
 use Rattle.block_store.proofs.Places.{none_find}
-use Rattle.block_store.proofs.Walks.{followed-append, append-nothing}
+use Rattle.block_store.proofs.Walks.{followed-append, append-nothing, below_set, below_removed}
 use Rattle.block_store.proofs.UseOrder.{IsAmong, same_test, any_joined, among, found_among, without_among, unpinned_among, apart_more, apart_unpinned}
 
 -- a slot that a look-up finds, among the others
@@ -64,23 +64,6 @@ empty_removed number (s ∷ ss) e =
       | inr later ↦
           ap (λ t. blocks_in (cond t ss (s ∷ remove_entry (nat_eq number) ss))) later ∙ ap (λ (l : List Held). followed_by l s.1) (empty_removed number ss (sym (ap (λ t. cond t (Some s.1) (lookup (nat_eq number) ss)) later) ∙ e))
     ]
-
--- the numbers stay those below their count
-below_set : (count number : ℕ) (slot : Option Resident) (slots : List Numbered) → AreBelow count slots → AreBelow count (set_value (nat_eq number) slots slot)
-below_set count number slot [] below = tt
-below_set count number slot (s ∷ ss) below = by (nat_eq number s.0) (below_set count number slot ss below.1)
-  where
-    by : (t : Bool) → AreBelow count (set_value (nat_eq number) ss slot) → AreBelow count (cond t ((s.0, slot) ∷ ss) (s ∷ set_value (nat_eq number) ss slot))
-    by true rest = below
-    by false rest = (below.0, rest)
-
-below_removed : (count number : ℕ) (slots : List Numbered) → AreBelow count slots → AreBelow count (remove_entry (nat_eq number) slots)
-below_removed count number [] below = tt
-below_removed count number (s ∷ ss) below = by (nat_eq number s.0) (below_removed count number ss below.1)
-  where
-    by : (t : Bool) → AreBelow count (remove_entry (nat_eq number) ss) → AreBelow count (cond t ss (s ∷ remove_entry (nat_eq number) ss))
-    by true rest = below.1
-    by false rest = (below.0, rest)
 
 -- a slot that is found and written to comes first
 record ComesFirst (number : ℕ) (slot : Option Resident) (slots : List Numbered) : Type 0 where
