@@ -3,9 +3,9 @@
 beside plain Rust.
 
 Run it at the top of the repository, after `rt run` in crates/spill_rate has built the program. Each entry has a key of
-8 bytes and a value of 32. Where rustc is at hand, a Rust program puts as many entries through an ordered map, a stable
-sort, and a heap over eight sorted lists in the same run. What a spill writes is let go; the runs of a merge are in
-memory.
+8 bytes and a value of 32. Where rustc is at hand, a Rust program puts as many entries through a hash map whose keys are
+sorted at the end, a stable sort, and a heap over eight sorted lists in the same run. What a spill writes is let go; the
+runs of a merge are in memory.
 """
 import os
 import shutil
@@ -19,7 +19,29 @@ ENTRIES = int(sys.argv[1]) if len(sys.argv) > 1 else 1_000_000
 REPS = 3
 PLAIN = r"""
 use std::cmp::Reverse;
-use std::collections::{BTreeMap, BinaryHeap};
+use std::collections::{BinaryHeap, HashMap};
+use std::hash::{BuildHasherDefault, Hasher};
+
+// Folds 8 bytes at a time, by a multiplication.
+#[derive(Default)]
+struct Fold(u64);
+
+fn fold(a: u64, b: u64) -> u64 {
+    let product = u128::from(a) * u128::from(b);
+    product as u64 ^ (product >> 64) as u64
+}
+
+impl Hasher for Fold {
+    fn write(&mut self, bytes: &[u8]) {
+        for part in bytes.chunks(8) {
+            let mut word = [0; 8];
+            word[..part.len()].copy_from_slice(part);
+            self.0 = fold(self.0 ^ u64::from_le_bytes(word), 0x9e37_79b9_7f4a_7c15);
+        }
+    }
+    fn write_usize(&mut self, n: usize) { self.0 = fold(self.0 ^ n as u64, 0xa24b_aed4_963e_e407); }
+    fn finish(&self) -> u64 { self.0 }
+}
 
 struct Drawn(u64);
 
@@ -37,15 +59,24 @@ fn main() {
     let mut drawn = Drawn(1);
     let rows = match words[1].as_str() {
         "map" => {
-            let mut map: BTreeMap<Vec<u8>, [i128; 2]> = BTreeMap::new();
+            let mut places: HashMap<Vec<u8>, usize, BuildHasherDefault<Fold>> = HashMap::default();
+            let mut sums: Vec<[i128; 2]> = Vec::new();
             for _ in 0..entries {
                 let key = drawn.key(keys);
-                match map.get_mut(&key[..]) {
-                    Some(sums) => sums[0] += 1,
-                    None => { map.insert(key.to_vec(), [1, 0]); }
+                match places.get(&key[..]) {
+                    Some(&place) => sums[place][0] += 1,
+                    None => { places.insert(key.to_vec(), sums.len()); sums.push([1, 0]); }
                 }
             }
-            map.len()
+            let mut rows: Vec<(&Vec<u8>, usize)> = places.iter().map(|(key, place)| (key, *place)).collect();
+            rows.sort_by(|a, b| a.0.cmp(b.0));
+            let mut page: Vec<u8> = Vec::new();
+            for (key, place) in &rows {
+                if page.len() > 262_144 { page.clear(); }
+                page.extend_from_slice(key);
+                for sum in &sums[*place] { page.extend_from_slice(&sum.to_be_bytes()); }
+            }
+            rows.len() + page.len() / (1 << 40)
         }
         "sort" => {
             let mut rows: Vec<([u8; 8], [u8; 32])> = Vec::new();
@@ -98,7 +129,7 @@ def plain_program(folder):
     program = os.path.join(folder, "plain")
     with open(source, "w") as out:
         out.write(PLAIN)
-    subprocess.run(["rustc", "-O", "-o", program, source], check=True)
+    subprocess.run(["rustc", "--edition", "2021", "-O", "-o", program, source], check=True)
     return program
 
 

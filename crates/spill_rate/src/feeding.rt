@@ -9,7 +9,7 @@ use consumer_trait::{Consumer, Fed, Turn};
 use row_page::Page;
 use std::alloc::{AllocError, Global};
 
-// Spills a consumer whole, and answers how many rows that wrote.
+// Spills a consumer, which is granted what it asks for, and answers how many rows that wrote.
 fn spill<C: Consumer>(consumer: &mut C, page: &mut Page) -> Result<u64, AllocError>
     requires kind { IsSome (C.state consumer.old).kind }
     requires page { page.old ≡ record { rows = []; room = 262144 } }
@@ -20,10 +20,9 @@ fn spill<C: Consumer>(consumer: &mut C, page: &mut Page) -> Result<u64, AllocErr
     let mut rows = 0u64;
     for _turn in 0..u64::MAX {
         match consumer.spill_turn(page)? {
-            Turn::Ask(_) => {
-                // That more could be granted is known with it.
-                let _used = consumer.used();
-                consumer.granted(0);
+            Turn::Ask(bytes) => {
+                let free = (1 << 50) - consumer.used();
+                consumer.granted(bytes.min(free));
             }
             Turn::Write => {
                 rows = rows.saturating_add(page.rows() as u64);

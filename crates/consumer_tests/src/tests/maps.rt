@@ -90,8 +90,10 @@ fn rows_of_one_key_are_counted_and_summed(rt: HostRuntime) -> Result<(), Fail> {
         Step::Sum(b"a", i64::MAX, Fed::Taken),
         Step::Sum(b"c", 0, Fed::Taken),
         Step::Sum(b"b", -105, Fed::Taken),
+        Step::Ask(24),
         Step::Totals(&[(b"a", 2, i64::MAX - 7), (b"b", 3, 0), (b"c", 1, 0)]),
         Step::Freed(195),
+        Step::Used(0),
         Step::Done,
         Step::Holds(false),
     ];
@@ -111,9 +113,11 @@ fn a_page_takes_as_many_rows_as_it_has_room_for(rt: HostRuntime) -> Result<(), F
         Step::Count(1, 60000, Fed::Taken),
         Step::Count(4, 60000, Fed::Taken),
         Step::Count(2, 60000, Fed::Taken),
+        Step::Ask(40),
         Step::Rows(4),
         Step::Rows(1),
         Step::Freed(400000),
+        Step::Used(0),
         Step::Done,
         // There is nothing.
         Step::Done,
@@ -131,6 +135,7 @@ fn a_reset_amid_a_spill_leaves_nothing(rt: HostRuntime) -> Result<(), Fail> {
         Step::Count(1, 60000, Fed::Taken),
         Step::Count(4, 60000, Fed::Taken),
         Step::Count(2, 60000, Fed::Taken),
+        Step::Ask(40),
         Step::Rows(4),
         Step::Holds(true),
         // It serves groups alone.
@@ -138,10 +143,39 @@ fn a_reset_amid_a_spill_leaves_nothing(rt: HostRuntime) -> Result<(), Fail> {
         Step::Groups(&[Agg::Count, Agg::Sum]),
         Step::Grant(65),
         Step::Sum(b"x", 7, Fed::Taken),
+        Step::Ask(8),
         Step::Totals(&[(b"x", 1, 7)]),
         Step::Freed(65),
+        Step::Used(0),
         Step::Done,
     ];
     assert_eq!(rt; count_steps(rt.alloc(), &[Agg::Count], steps)?, steps.len());
+    Ok(())
+}
+
+#[test]
+fn a_spill_writes_as_many_of_the_last_keys_as_it_can_order(rt: HostRuntime) -> Result<(), Fail> {
+    for (told, count, freed, used) in [
+        (0, 128, 6656, 8944),
+        (800, 228, 12656, 3744),
+        (2400, 300, 18000, 0),
+    ] {
+        let steps = [
+            // 300 keys of four bytes cost 52 each.
+            Step::Grant(15600),
+            Step::Keys(300),
+            Step::Ask(2400),
+            Step::Grant(told),
+            Step::Last(count, 300),
+            Step::Freed(freed),
+            Step::Done,
+            Step::Used(used),
+        ];
+        assert_eq!(rt;
+            count_steps(rt.alloc(), &[Agg::Count], &steps)?,
+            steps.len(),
+            "told {told} bytes"
+        );
+    }
     Ok(())
 }

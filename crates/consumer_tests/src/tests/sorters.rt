@@ -21,11 +21,13 @@ fn two_keys_come_back_in_order(rt: HostRuntime) -> Result<(), Fail> {
         Step::Feed(b"a", 0, Fed::Taken),
         Step::Write(&[b"a", b"b"], 0),
         Step::Freed(300),
+        Step::Used(0),
         Step::Done,
         // It has nothing to write.
         Step::Done,
         Step::Grant(40),
         Step::Freed(40),
+        Step::Used(0),
         Step::Done,
     ];
     assert_eq!(rt; count_steps(rt.alloc(), steps)?, steps.len());
@@ -59,6 +61,7 @@ fn an_entry_without_room_changes_nothing(rt: HostRuntime) -> Result<(), Fail> {
         Step::Feed(b"k", 40, Fed::Taken),
         Step::Write(&[b"k", b"key"], 40),
         Step::Freed(148),
+        Step::Used(0),
         Step::Done,
     ];
     assert_eq!(rt; count_steps(rt.alloc(), steps)?, steps.len());
@@ -83,12 +86,14 @@ fn a_reset_forgets_a_spill(rt: HostRuntime) -> Result<(), Fail> {
         Step::Feed(b"x", 0, Fed::Taken),
         Step::Write(&[b"x", b"y"], 0),
         Step::Freed(66),
+        Step::Used(0),
         Step::Done,
         Step::Order,
         Step::Grant(33),
         Step::Feed(b"z", 0, Fed::Taken),
         Step::Write(&[b"z"], 0),
         Step::Freed(33),
+        Step::Used(0),
         Step::Done,
     ];
     assert_eq!(rt; count_steps(rt.alloc(), steps)?, steps.len());

@@ -19,17 +19,24 @@ pub enum Step {
     Feed(&'static [u8], usize, Fed),
     /// It feeds a row with a key of one byte, so many times, to a query that counts.
     Count(u8, usize, Fed),
+    /// It feeds so many rows, each with a key of its own of four bytes, to a query that counts. All are taken.
+    Keys(u32),
     /// It feeds a row with a key and a number to a query that counts and sums.
     Sum(&'static [u8], i64, Fed),
     /// A turn of a spill writes these keys, with values of so many bytes.
     Write(&'static [&'static [u8]], usize),
     /// A turn writes so many rows.
     Rows(usize),
+    /// A turn writes just the last so many of so many keys of four bytes, ascending.
+    Last(u32, u32),
     /// A turn writes these keys, with their counts and sums.
     Totals(&'static [(&'static [u8], i64, i64)]),
-    /// A turn gives so many bytes back, and the consumer then uses none.
+    /// A turn asks for so many bytes.
+    Ask(u64),
+    /// A turn gives so many bytes back.
     Freed(u64),
     Done,
+    /// How many bytes the consumer uses.
     Used(u64),
     Least(u64),
     /// Whether an entry is in memory.
@@ -46,6 +53,46 @@ fn has_keys(page: &Page, keys: &[&[u8]], length: usize) -> bool {
     for (i, key) in keys.iter().enumerate() {
         let row = page.row(i);
         if row.count() != 2 || row.field(0) != *key || row.field(1).len() != length {
+            return false;
+        }
+    }
+    true
+}
+
+/// The key that comes at a place: no two places below 1,000 have one.
+fn key_at(place: u32) -> [u8; 4] {
+    (place.wrapping_mul(7) % 1000).to_be_bytes()
+}
+
+/// Feeds so many rows, each with a key of its own. Whether all were taken.
+fn takes_keys<C: Consumer>(task: &mut Task<C>, count: u32) -> Result<bool, Fail> {
+    let one = [0, 0, 0, 0, 0, 0, 0, 0, 0, 0, 0, 0, 0, 0, 0, 1];
+    for place in 0..count {
+        if task.feed(&key_at(place), &one)? != Fed::Taken {
+            return Ok(false);
+        }
+    }
+    Ok(true)
+}
+
+/// The last so many of so many keys, ascending.
+fn last_keys(alloc: Global, count: u32, of: u32) -> Result<Vec<[u8; 4]>, AllocError> {
+    let mut keys = Vec::new(alloc);
+    for place in of.saturating_sub(count)..of {
+        keys.push(key_at(place))?;
+    }
+    keys.sort()?;
+    Ok(keys)
+}
+
+/// Whether the page's rows have these keys.
+fn has_last(page: &Page, keys: &[[u8; 4]]) -> bool {
+    if page.rows() != keys.len() {
+        return false;
+    }
+    for (i, key) in keys.iter().enumerate() {
+        let row = page.row(i);
+        if row.count() != 2 || row.field(0) != key.as_slice() {
             return false;
         }
     }
@@ -126,6 +173,10 @@ fn takes<C: Consumer>(alloc: Global, task: &mut Task<C>, step: Step) -> Result<b
             let one = [0, 0, 0, 0, 0, 0, 0, 0, 0, 0, 0, 0, 0, 0, 0, 1];
             task.feed(&vec![in alloc; byte; length]?, &one)? == answer
         }
+        Step::Keys(count) => takes_keys(task, count)?,
+        Step::Last(count, of) => {
+            task.turn()? == Turn::Write && has_last(&task.page, &last_keys(alloc, count, of)?)
+        }
         Step::Sum(key, number, answer) => {
             feed_sum(task, &mut Vec::new(alloc), key, number)? == answer
         }
@@ -136,7 +187,8 @@ fn takes<C: Consumer>(alloc: Global, task: &mut Task<C>, step: Step) -> Result<b
         Step::Totals(groups) => {
             task.turn()? == Turn::Write && has_groups(alloc, &task.page, groups)?
         }
-        Step::Freed(bytes) => task.turn()? == Turn::Freed(bytes) && task.consumer.used() == 0,
+        Step::Ask(bytes) => task.turn()? == Turn::Ask(bytes),
+        Step::Freed(bytes) => task.turn()? == Turn::Freed(bytes),
         Step::Done => task.turn()? == Turn::Done,
         Step::Used(bytes) => task.consumer.used() == bytes,
         Step::Least(bytes) => task.consumer.least() == bytes,
