@@ -31,10 +31,18 @@ fn the_journal_of_one_partition_has_its_task_and_the_final_one(
             evictions: 0,
             got: Some(16384),
         },
+        // Two keys are ordered with 8 bytes each.
+        Event::Attempt {
+            task: 0,
+            asked: 16,
+            moved: 0,
+            evictions: 0,
+            got: Some(16),
+        },
         // What the groups took goes back as they are written.
         Event::Release {
             task: 0,
-            freed: 16384,
+            freed: 16400,
         },
         Event::Release {
             task: 0,
