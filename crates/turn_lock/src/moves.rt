@@ -13,6 +13,10 @@ use crate::view::View;
 use atomic_table::{Seat, Shared};
 use std::sync::Wait;
 use std::sync::atomic::{AtomicU64, Ordering};
+use std::thread;
+
+// How often a thread looks for the turn before it sleeps.
+const LOOKS: u32 = 60;
 
 // Waits for the turn, and takes the value. The slot stays behind with None.
 pub(crate) fn take_value<V: Kept<B>, B, R: Wait + Sync>(
@@ -32,21 +36,40 @@ pub(crate) fn take_value<V: Kept<B>, B, R: Wait + Sync>(
 {
     let word = number as u64 * 2 + 1;
     for _ in rt.forever() {
-        let found = turns.peek(0);
-        if found == 0 {
+        if turns.peek(0) == 0 {
             if turns.compare_exchange::<Takes<B>>(seat, 0, 0, word) == 0 {
                 return take_out(turns, seat);
             }
         } else {
-            // A sleep sees the low 32 bits alone: they are odd while the turn is held, and else 0. Whoever
-            // sleeps is counted before the word is looked at again, and so a holder that counts nobody after
-            // it has freed the turn has kept nobody asleep.
-            sleepers.fetch_add(1, Ordering::SeqCst);
-            turns.park(rt, 0, (found % LIMIT) as u32);
-            sleepers.fetch_sub(1, Ordering::SeqCst);
+            wait_for_turn(rt, turns, sleepers);
         }
     }
     unreachable!()
+}
+
+// Looks a while whether the turn is free, and then sleeps until it may be: most turns are shorter than a sleep.
+fn wait_for_turn<V: Kept<B>, B, R: Wait + Sync>(
+    rt: &R,
+    turns: &Shared<Option<V>, View, (), Turns<B>>,
+    sleepers: &AtomicU64,
+)
+    requires { turns.now.table_id.words ≡ 1 }
+{
+    for _ in 0..LOOKS {
+        if turns.peek(0) == 0 {
+            return;
+        }
+        thread::yield_now();
+    }
+    // A sleep sees the low 32 bits alone: they are odd while the turn is held, and else 0. Whoever sleeps is
+    // counted before the word is looked at again, and so a holder that counts nobody after it has freed the turn
+    // has kept nobody asleep.
+    let found = turns.peek(0);
+    if found != 0 {
+        sleepers.fetch_add(1, Ordering::SeqCst);
+        turns.park(rt, 0, (found % LIMIT) as u32);
+        sleepers.fetch_sub(1, Ordering::SeqCst);
+    }
 }
 
 // The value leaves its slot, and the slot goes home.
