@@ -3,7 +3,8 @@
 
 Run it at the top of the repository, after `rt run` in crates/lock_rate has built the program. Where rustc is at
 hand, a Rust program with a counter under a `std::sync::Mutex` makes as many turns in the same run. The first table
-has as many events for each number of threads; the second has one thread and longer journals.
+has as many events for each number of threads; the second has one thread and longer journals, the third one thread
+while blocks are in memory, none of which has to go.
 """
 import os
 import shutil
@@ -74,6 +75,10 @@ def main():
         for rounds in (ROUNDS // 4, ROUNDS, 4 * ROUNDS):
             took = best([PROGRAM, "1", str(rounds)]) - start
             print(f"events {2 * rounds:9}  {took / rounds / 2 * 1e9:7.1f} ns an event")
+        for blocks in (0, 1, 1000):
+            begun = best([PROGRAM, "1", "0", str(blocks)])
+            took = best([PROGRAM, "1", str(ROUNDS), str(blocks)]) - begun
+            print(f"blocks {blocks:9}  {took / ROUNDS / 2 * 1e9:7.1f} ns an event")
 
 
 main()

@@ -1,15 +1,17 @@
 //! The work of the threads.
 
-ghost use Rattle.std.specs.Prelude.{◌≡◌, ℕ, Some, [], false};
+ghost use Rattle.std.specs.Prelude.{◌≡◌, ℕ, None, Some, [], false};
 ghost use Rattle.pool_ledger.specs.History.{was_begun};
 ghost use Rattle.memory_lock.specs.Workers.{IsFree, own_of};
 
+use block_store::Block;
 use memory_lock::{Basis, Manager, Worker};
-use pool_ledger::Setup;
+use pool_ledger::{Level, Setup};
+use row_page::Page;
 use spill_disk::MemoryDisk;
 use std::alloc::{AllocError, Global};
 use std::marker::{Send, Sync};
-use std::sync::Wait;
+use std::sync::{Arc, Wait};
 use std::thread::{Threads, map_vec};
 
 /// Starts a manager of this setup and gives each worker a thread. The first so many make the rounds; the
@@ -20,22 +22,26 @@ pub fn serve_all<B: Basis + Send + Sync, R: Threads + Wait + Sync>(
     setup: Setup,
     threads: u64,
     rounds: u64,
+    blocks: u32,
 ) -> Result<u64, AllocError>
     requires basis { setup ≡ B.sizes }
     requires owner { (task : ℕ) → B.owner task ≡ Some task }
+    requires rows { (dataset part : ℕ) → B.rows dataset part ≡ None }
 {
     let store = MemoryDisk::new(alloc, Vec::new(alloc));
     let (manager, workers) = Manager::<MemoryDisk, B>::start(alloc, setup, store)?;
     let shared = &manager;
     let work = |worker: Worker<B>| -> u64
-        requires { (worker.lock ≡ shared.now) × (worker.seen ≡ []) × (B.owner worker.number ≡ Some worker.number) }
+        requires { (worker.lock ≡ shared.now) × (worker.seen ≡ []) × (B.owner worker.number ≡ Some worker.number)
+            × ((dataset part : ℕ) → B.rows dataset part ≡ None) }
     {
         let wanted = if u64::from(worker.number()) < threads {
             rounds
         } else {
             0
         };
-        serve(rt, shared, worker, wanted)
+        let kept = if worker.number() == 0 { blocks } else { 0 };
+        serve(rt, alloc, shared, worker, wanted, kept)
     };
     let made = map_vec(rt, workers, &work)?;
     let mut total = 0u64;
@@ -45,13 +51,17 @@ pub fn serve_all<B: Basis + Send + Sync, R: Threads + Wait + Sync>(
     Ok(total)
 }
 
-// Begins a task, asks for 100 bytes and gives them back in each round, and ends it.
+// Begins a task, keeps so many blocks without rows, asks for 100 bytes and gives them back in each round, and ends
+// the task.
 fn serve<B: Basis, R: Wait + Sync>(
     rt: &R,
+    alloc: Global,
     manager: &Manager<MemoryDisk, B>,
     worker: Worker<B>,
     rounds: u64,
+    blocks: u32,
 ) -> u64
+    requires rows { (dataset part : ℕ) → B.rows dataset part ≡ None }
     requires manager { worker.lock ≡ manager.now }
     requires owner { B.owner worker.number ≡ Some worker.number }
     requires free { IsFree worker }
@@ -62,6 +72,14 @@ fn serve<B: Basis, R: Wait + Sync>(
     let Ok(task) = manager.begin(rt, &mut worker, number) else {
         return 0;
     };
+    for part in 0..blocks {
+        let Ok(block) = block_of(alloc, part) else {
+            break;
+        };
+        if manager.admit(rt, &mut worker, block).is_err() {
+            break;
+        }
+    }
     let mut made = 0u64;
     for _ in 0..rounds {
         if manager.acquire(rt, &mut worker, &task, 100).is_err() {
@@ -74,4 +92,15 @@ fn serve<B: Basis, R: Wait + Sync>(
     }
     let _freed = manager.end(rt, &mut worker, task);
     made
+}
+
+// A block without rows.
+fn block_of(alloc: Global, part: u32) -> Result<Arc<Block, Global>, AllocError> {
+    let block = Block {
+        dataset: 0,
+        part,
+        level: Level::Memory,
+        page: Page::new(alloc, 0),
+    };
+    Ok(Arc::new(alloc, block)?)
 }
