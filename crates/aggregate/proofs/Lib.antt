@@ -1,5 +1,6 @@
 pub mod Spellings
 pub mod KeyOrder
+pub mod Halves
 pub mod Numbers
 pub mod Combining
 pub mod CombinedLaws

@@ -1,6 +1,7 @@
 pub mod Spelling
 pub mod Partial
 pub mod PartialLaws
+pub mod Values
 pub mod Totals
 pub mod Rows
 pub mod Fronts

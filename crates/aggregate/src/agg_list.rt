@@ -1,5 +1,6 @@
 // What a query makes of a group's rows.
 ghost use Rattle.std.specs.Prelude.{◌≡◌, ◌<◌, ◌≤◌, length, IfOk};
+ghost use Rattle.aggregate.specs.Values.{width};
 
 use std::alloc::{AllocError, Global};
 use std::marker::Model;
@@ -53,6 +54,14 @@ impl AggList {
         ensures few { length self.now ≤ 8 }
     {
         &self.items
+    }
+
+    /// The bytes that a value with these aggregates has: 16 for each.
+    pub fn width(&self) -> usize
+        ensures width { result ≡ width self.now }
+        ensures small { result ≤ 128 }
+    {
+        16 * self.items.len()
     }
 
     /// The same list in memory of its own.

@@ -1,5 +1,6 @@
 // How the entries of a query are combined.
-ghost use Rattle.std.specs.Prelude.{◌≡◌, IfOk};
+ghost use Rattle.std.specs.Prelude.{◌≡◌, ◌↔◌, IfOk, IsTrue};
+ghost use Rattle.aggregate.specs.Values.{IsValueOf};
 
 use crate::agg_list::AggList;
 use std::alloc::AllocError;
@@ -14,6 +15,16 @@ pub enum Kind {
 }
 
 impl Kind {
+    /// Whether an entry of this kind may have this value.
+    pub fn takes(&self, value: &[u8]) -> bool
+        ensures { IsTrue result ↔ IsValueOf self.now value.now }
+    {
+        match self {
+            Kind::Group(aggs) => value.len() == aggs.width(),
+            Kind::Order => true,
+        }
+    }
+
     /// The same kind in memory of its own.
     pub fn copy(&self) -> Result<Kind, AllocError>
         ensures { IfOk result (λ kind. kind ≡ self.now) }

@@ -74,14 +74,19 @@ fn read_number(bytes: &[u8]) -> i128
     requires { length bytes.now ≡ 16 }
     ensures { result ≡ number bytes.now }
 {
-    BigEndian::read_i128(bytes)
+    let high = u128::from(BigEndian::read_u64(&bytes[..8]));
+    let low = u128::from(BigEndian::read_u64(&bytes[8..16]));
+    (high * (1 << 64) + low).cast_signed()
 }
 
 fn write_number(into: &mut [u8], n: i128)
     requires { length into.old ≡ 16 }
     ensures { into.new ≡ partial_of n }
 {
-    BigEndian::write_i128(into, n)
+    // Two halves, since a number of 128 bits is written byte by byte.
+    let bits = n.cast_unsigned();
+    BigEndian::write_u64(&mut into[..8], (bits >> 64) as u64);
+    BigEndian::write_u64(&mut into[8..16], (bits % (1 << 64)) as u64);
 }
 
 /// The number of the aggregate at a place, from 0. `None` comes where it leaves the range of `i64`.

@@ -143,8 +143,8 @@ fn a_field_is_taken_back_with_its_length(rt: HostRuntime) -> Result<(), Fail> {
 fn value_of(alloc: Global, numbers: &str) -> Result<Vec<u8>, Fail> {
     let mut value = Vec::new(alloc);
     for word in numbers.split(' ') {
-        let number: i64 = word.parse()?;
-        put_partial(&mut value, i128::from(number))?;
+        let number: i128 = word.parse()?;
+        put_partial(&mut value, number)?;
     }
     Ok(value)
 }
@@ -160,6 +160,8 @@ const PARTIALS: &str = "\
     1: [0, 0, 0, 0, 0, 0, 0, 0, 0, 0, 0, 0, 0, 0, 0, 1]\n\
     75: [0, 0, 0, 0, 0, 0, 0, 0, 0, 0, 0, 0, 0, 0, 0, 75]\n\
     -1: [255, 255, 255, 255, 255, 255, 255, 255, 255, 255, 255, 255, 255, 255, 255, 255]\n\
+    1339673755198158349044581307228491536: [1, 2, 3, 4, 5, 6, 7, 8, 9, 10, 11, 12, 13, 14, 15, 16]\n\
+    -18446744073709551616: [255, 255, 255, 255, 255, 255, 255, 255, 0, 0, 0, 0, 0, 0, 0, 0]\n\
     9223372036854775807: [0, 0, 0, 0, 0, 0, 0, 0, 127, 255, 255, 255, 255, 255, 255, 255]\n\
     -9223372036854775808: [255, 255, 255, 255, 255, 255, 255, 255, 128, 0, 0, 0, 0, 0, 0, 0]";
 
@@ -194,7 +196,7 @@ fn aggs_of(alloc: Global, names: &str) -> Result<AggList, Fail> {
 
 // Combines a value into another.
 fn feed(aggs: &AggList, total: &mut [u8], fed: &[u8]) -> Result<(), Fail> {
-    let len = 16 * aggs.items().len();
+    let len = aggs.width();
     if total.len() != len || fed.len() != len {
         return Err("a value of another length".into());
     }
@@ -206,7 +208,7 @@ fn feed(aggs: &AggList, total: &mut [u8], fed: &[u8]) -> Result<(), Fail> {
 fn finished(alloc: Global, aggs: &AggList, total: &[u8]) -> Result<String, Fail> {
     let mut shown = String::new(alloc);
     for place in 0..aggs.items().len() {
-        if total.len() != 16 * aggs.items().len() {
+        if total.len() != aggs.width() {
             return Err("a value of another length".into());
         }
         let number = finish(aggs, total, place);
@@ -320,6 +322,18 @@ fn lists_and_kinds_are_copied_where_memory_is_ample(rt: HostRuntime) -> Result<(
         "Group(AggList { items: [Sum, Count, Sum] })"
     );
     assert_eq!(rt; copied(alloc, &Kind::Order)?.as_str(), "Order");
+    Ok(())
+}
+
+#[test]
+fn a_value_of_two_aggregates_has_32_bytes(rt: HostRuntime) -> Result<(), Fail> {
+    let group = Kind::Group(aggs_of(rt.alloc(), "count sum")?);
+    assert!(rt; group.takes(&[0; 32]));
+    assert!(rt; !group.takes(&[0; 31]), "a byte is missing");
+    assert!(rt;
+        Kind::Order.takes(&[0; 31]),
+        "an order's value is any bytes"
+    );
     Ok(())
 }
 

@@ -1,12 +1,14 @@
-use Rattle.std.proofs.Common.{◌≡◌, ◌∙◌, refl, arith, drop, []}
-use Rattle.std.proofs.lemmas.List.{drop_all}
-use Rattle.std.specs.Int.{w128}
+use Rattle.std.proofs.Common.{◌≡◌, ◌∙◌, ap, arith}
+use Rattle.std.specs.Int.{w128, cast_unsigned}
 use Rattle.std.proofs.lemmas.Int.{to_z-of_z}
 use Rattle.aggregate.specs.Partial.{partial_of}
+use Rattle.aggregate.proofs.Halves.{half_written, halves_written}
 use Rattle.aggregate.proofs.partial.write_number.Goals as goal
 
 pub returns : goal.returns
 unfolding partial_of
 returns c =
-    let none : drop 16 c.args.into.now ≡ [] = drop_all 16 c.args.into.now (omega arith) in
-    c.write_i128.ensures ∙ rw (none, to_z-of_z w128 c.args.n c.ranges.n) refl
+    let bits : c.cast_unsigned-bits.result ≡ cast_unsigned w128 c.args.n = c.cast_unsigned-bits.ensures ∙ ap (cast_unsigned w128) (to_z-of_z w128 c.args.n c.ranges.n) in
+    halves_written c.args.into.now c.write_u64.new.buf c.write_u64-2.new.buf (cast_unsigned w128 c.args.n) c.requires
+    (half_written c.args.into.now c.write_u64.new.buf _ _ (omega (arith, bits)) c.write_u64.ensures)
+    (half_written _ c.write_u64-2.new.buf _ _ (omega (arith, bits)) c.write_u64-2.ensures)
