@@ -9,7 +9,7 @@ use Rattle.row_page.specs.Spelling.{with_length}
 use Rattle.row_page.proofs.Fronts.{spelled_as}
 use Rattle.row_page.proofs.Lengths.{length-with_length}
 use Rattle.row_page.proofs.Shown.{rows_shown}
-use Rattle.row_page.proofs.PageRows.{is_page_push}
+use Rattle.row_page.proofs.PageRows.{is_page_push, row_at_place}
 
 -- one more place, for the rest of the rows
 pub places_more : (starts bytes : List ℕ) (rows : List (List (List ℕ))) (at : ℕ) → HasPlaces starts bytes rows → at ≤ length bytes → IsPage (drop at bytes) (drop (length starts) rows) → HasPlaces (starts ++ at ∷ []) bytes rows
@@ -91,3 +91,15 @@ pub place_leads : (starts bytes : List ℕ) (rows : List (List (List ℕ))) (i s
 place_leads starts bytes rows i start n h count lt read =
     let is : start ≡ get_or starts i 0 = get_or_read starts i start (omega arith) read 0 in
     (rw is (h.within i (omega arith)), rw is (h.each i (omega arith)))
+
+-- the places of the rows before a place, and the rows from there on
+pub record Walked (starts : List ℕ) (at : ℕ) (bytes : List ℕ) (rows : List (List (List ℕ))) : Type 0 where
+  pub rest : IsPage (drop at bytes) (drop (length starts) rows)
+  pub count : length starts ≤ length rows
+  pub places : HasPlaces starts bytes rows
+
+-- one row further
+pub walked_on : (starts : List ℕ) (at next : ℕ) (bytes piece behind : List ℕ) (rows : List (List (List ℕ))) → Walked starts at bytes rows → at ≤ length bytes → IsPieceThen (drop at bytes) piece behind → drop next bytes ≡ behind → Walked (starts ++ at ∷ []) next bytes rows
+walked_on starts at next bytes piece behind rows h within front onward =
+    let here = row_at_place (drop at bytes) rows (length starts) piece behind h.rest front in
+    record { rest = rw (onward, length_push starts at) here.others; count = omega (arith, here.within, length_push starts at); places = places_more starts bytes rows at h.places within h.rest }

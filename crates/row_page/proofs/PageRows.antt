@@ -61,6 +61,10 @@ begins_with_row bytes h some = first bytes h.0 h.1 some
 pub length_page : (bytes : List ℕ) (rows : List (List (List ℕ))) → IsPage bytes rows → length bytes ≡ page_length rows
 length_page bytes rows h = ap length (rows_spell bytes rows h) ∙ length-page_bytes rows
 
+-- the same by the rows that contracts see
+pub bytes_by_rows : (bytes : List ℕ) (rows : List (List (List ℕ))) → IsPage bytes (rows_of bytes) → rows_of bytes ≡ rows → length bytes ≡ page_length rows
+bytes_by_rows bytes rows h shown = length_page bytes rows (subst (IsPage bytes) shown h)
+
 -- a page's rows are at most a quarter of its bytes
 pub rows_bound : (rows : List (List (List ℕ))) → 4 * length rows ≤ page_length rows
 rows_bound [] = lit≤ tt

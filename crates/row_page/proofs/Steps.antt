@@ -36,3 +36,33 @@ piece_at_place bytes pieces i piece behind h front =
       item = first.1 ∙ get_or-drop i pieces 0 [] ∙ ap (λ (k : ℕ). get_or pieces k []) place;
       others = subst (λ (t : List (List ℕ)). ArePieces behind t) (drop-drop 1 i pieces) first.2;
     }
+
+-- the first of the pieces, and those behind it
+pub first_and_others : (bytes : List ℕ) (pieces : List (List ℕ)) (piece behind : List ℕ) → ArePieces bytes pieces → IsPieceThen bytes piece behind → (others : List (List ℕ)) × (pieces ≡ piece ∷ others) × ArePieces behind others
+first_and_others bytes [] piece behind h front = absurd (omega (arith, ap length h, front_length bytes piece behind front))
+first_and_others bytes (p ∷ pieces) piece behind h front =
+    let same = one_front bytes piece p behind h.0 front h.1 in
+    (pieces, ap (λ (t : List ℕ). t ∷ pieces) (sym same.0), subst (λ (t : List ℕ). ArePieces t pieces) (sym same.1) h.2)
+
+-- where nothing stands behind the first two pieces, they are all
+pub two_pieces : (bytes : List ℕ) (pieces : List (List ℕ)) (first middle second end : List ℕ) → ArePieces bytes pieces → IsPieceThen bytes first middle → IsPieceThen middle second end → length end ≡ 0 → pieces ≡ first ∷ second ∷ []
+two_pieces bytes pieces first middle second end h one two none =
+    let behind = first_and_others bytes pieces first middle h one in
+    let last = first_and_others middle behind.0 second end behind.2 two in
+    let nil : last.0 ≡ [] = no_list last.0 (no_pieces end last.0 last.2 none) in
+    behind.1 ∙ ap (λ (t : List (List ℕ)). first ∷ t) (last.1 ∙ ap (λ (t : List (List ℕ)). second ∷ t) nil)
+  where
+    no_list : (t : List (List ℕ)) → length t ≡ 0 → t ≡ []
+    no_list [] e = refl
+    no_list (x ∷ t) e = absurd (omega (arith, e))
+
+-- where something does, there are more
+pub third_piece : (bytes : List ℕ) (pieces : List (List ℕ)) (first middle second end : List ℕ) → ArePieces bytes pieces → IsPieceThen bytes first middle → IsPieceThen middle second end → 0 < length end → 2 < length pieces
+third_piece bytes pieces first middle second end h one two some =
+    let behind = first_and_others bytes pieces first middle h one in
+    let last = first_and_others middle behind.0 second end behind.2 two in
+    omega (arith, ap length behind.1, ap length last.1, more last.0 last.2)
+  where
+    more : (others : List (List ℕ)) → ArePieces end others → 0 < length others
+    more [] e = absurd (omega (arith, ap length e, some))
+    more (x ∷ others) e = omega arith

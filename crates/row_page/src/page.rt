@@ -5,11 +5,11 @@ ghost use Rattle.row_page.specs.declared.page.PageFault.TheVariants.{NoMemory};
 ghost use Rattle.row_page.specs.Grammar.{IsPage, HasRows};
 ghost use Rattle.row_page.specs.Pages.{HasPlaces};
 ghost use Rattle.row_page.specs.Reading.{rows_of};
-ghost use Rattle.row_page.specs.Spelling.{with_length, page_bytes, page_length, page_cost, row_length};
+ghost use Rattle.row_page.specs.Spelling.{with_length, page_bytes, page_length, page_cost, row_bytes, row_length};
 ghost use Rattle.row_page.specs.Views.{fields_in};
 
 use crate::RowView;
-use crate::piece::{LENGTH_BYTES, append_piece, are_pieces, first_piece, split_piece};
+use crate::piece::{LENGTH_BYTES, append_pair, append_piece, are_pieces, first_piece, split_piece};
 use std::alloc::{AllocError, Global};
 use std::marker::Model;
 use thiserror::Error;
@@ -74,10 +74,12 @@ impl Page {
         ensures none { IfOk result (λ read. IfNone read
             ((rows : List (List (List ℕ))) → IsPage bytes.items rows → room < length bytes.items)) }
     {
-        if bytes.len() as u64 > room || !are_rows(&bytes) {
+        if bytes.len() as u64 > room {
             return Ok(None);
         }
-        let starts = places_of(alloc, &bytes)?;
+        let Some(starts) = places_of(alloc, &bytes)? else {
+            return Ok(None);
+        };
         Ok(Some(Page {
             bytes,
             starts,
@@ -136,6 +138,25 @@ impl Page {
         Ok(())
     }
 
+    /// Puts the row of two fields behind the others, as `push` would: an entry's key and its value need no
+    /// row that is put together first.
+    pub fn push_pair(&mut self, first: &[u8], second: &[u8]) -> Result<(), PageFault>
+        requires short { row_length (first.now ∷ second.now ∷ []) < 2 ^ 32 }
+        ensures ok { OnOk result (self.new ≡ record self.old {
+          rows = self.old.rows ++ (first.now ∷ second.now ∷ []) ∷ [];
+        }) }
+        ensures err { OnErr result (self.new ≡ self.old) }
+        ensures full { (result ≡ Err PageFault.Full)
+            ↔ (self.old.room < page_length self.old.rows + (4 + row_length (first.now ∷ second.now ∷ []))) }
+    {
+        let row = 2 * LENGTH_BYTES + first.len() + second.len();
+        if self.room < (self.bytes.len() + LENGTH_BYTES + row) as u64 {
+            return Err(PageFault::Full);
+        }
+        add_pair(&mut self.starts, &mut self.bytes, first, second)?;
+        Ok(())
+    }
+
     /// Takes all rows away, and keeps the memory for the next rows.
     pub fn clear(&mut self)
         ensures { self.new ≡ record self.old { rows = [] } }
@@ -163,34 +184,50 @@ fn add_piece(starts: &mut Vec<usize>, bytes: &mut Vec<u8>, piece: &[u8]) -> Resu
     Ok(())
 }
 
-/// Whether the bytes are a page's.
-fn are_rows(bytes: &[u8]) -> bool
-    ensures { IsTrue result ↔ HasRows bytes.now }
+/// Puts the row of two fields behind the bytes, and its place behind the places.
+fn add_pair(
+    starts: &mut Vec<usize>,
+    bytes: &mut Vec<u8>,
+    first: &[u8],
+    second: &[u8],
+) -> Result<(), AllocError>
+    requires { row_length (first.now ∷ second.now ∷ []) < 2 ^ 32 }
+    ensures bytes { OnOk result (bytes.new.items
+        ≡ bytes.old.items ++ with_length (row_bytes (first.now ∷ second.now ∷ []))) }
+    ensures starts { OnOk result
+        (starts.new.items ≡ starts.old.items ++ length bytes.old.items ∷ []) }
+    ensures bytes_err { OnErr result (bytes.new.items ≡ bytes.old.items) }
+    ensures starts_err { OnErr result (starts.new.items ≡ starts.old.items) }
 {
-    let mut rest = bytes;
-    while !rest.is_empty() {
-        let Some((row, behind)) = split_piece(rest) else {
-            return false;
-        };
-        if !are_pieces(row) {
-            return false;
-        }
-        rest = behind;
+    let places = starts.len();
+    starts.push(bytes.len())?;
+    if let Err(refused) = append_pair(bytes, first, second) {
+        starts.truncate(places);
+        return Err(refused);
     }
-    true
+    Ok(())
 }
 
-/// Where each row of a page begins, with its length.
-fn places_of(alloc: Global, bytes: &[u8]) -> Result<Vec<usize>, AllocError>
-    requires { HasRows bytes.now }
-    ensures count { IfOk result (λ starts. length starts.items ≡ length (rows_of bytes.now)) }
-    ensures places { IfOk result (λ starts. HasPlaces starts.items bytes.now (rows_of bytes.now)) }
+/// Where each row of a page begins, with its length. `None` where the bytes are no page's.
+fn places_of(alloc: Global, bytes: &[u8]) -> Result<Option<Vec<usize>>, AllocError>
+    ensures page { IfOk result (λ read. IfSome read (λ starts. HasRows bytes.now)) }
+    ensures count { IfOk result (λ read. IfSome read
+        (λ starts. length starts.items ≡ length (rows_of bytes.now))) }
+    ensures places { IfOk result (λ read. IfSome read
+        (λ starts. HasPlaces starts.items bytes.now (rows_of bytes.now))) }
+    ensures none { IfOk result (λ read. IfNone read (HasRows bytes.now → ⊥)) }
 {
     let mut starts = Vec::new(alloc);
     let mut at = 0;
     while at < bytes.len() {
+        let Some((row, _)) = split_piece(&bytes[at..]) else {
+            return Ok(None);
+        };
+        if !are_pieces(row) {
+            return Ok(None);
+        }
         starts.push(at)?;
-        at += LENGTH_BYTES + first_piece(&bytes[at..]).0.len();
+        at += LENGTH_BYTES + row.len();
     }
-    Ok(starts)
+    Ok(Some(starts))
 }

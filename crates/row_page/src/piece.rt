@@ -1,10 +1,9 @@
 //! Pieces of bytes, each behind its length.
 
-ghost use Rattle.std.specs.Prelude.{◌≡◌, ◌+◌, ◌<◌, ◌^◌, ◌++◌, ◌↔◌, List, ℕ, length, IsTrue, IfSome, IfNone, OnOk, OnErr};
+ghost use Rattle.std.specs.Prelude.{◌≡◌, ◌+◌, ◌<◌, ◌≤◌, ◌^◌, ◌++◌, ◌∷◌, ◌↔◌, [], List, ℕ, length, IsTrue, IfSome, IfNone, OnOk, OnErr, vec_capacity};
 ghost use Rattle.row_page.specs.Grammar.{HasPieces, IsPieceThen};
-ghost use Rattle.row_page.specs.Spelling.{with_length};
+ghost use Rattle.row_page.specs.Spelling.{length_bytes, row_bytes, row_length, with_length};
 
-use byteorder::{BigEndian, ByteOrder};
 use std::alloc::AllocError;
 
 /// How many bytes a length has.
@@ -54,19 +53,53 @@ pub(crate) fn are_pieces(bytes: &[u8]) -> bool
 }
 
 /// Puts a piece with its length at the end. After an `Err` nothing changed.
-#[tactic(auto, unfolding(crate::specs::Spelling::length_bytes))]
 pub(crate) fn append_piece(out: &mut Vec<u8>, piece: &[u8]) -> Result<(), AllocError>
     requires { length piece.now < 2 ^ 32 }
     ensures ok { OnOk result (out.new.items ≡ out.old.items ++ with_length piece.now) }
     ensures err { OnErr result (out.new.items ≡ out.old.items) }
 {
     let before = out.len();
-    let mut front = [0; LENGTH_BYTES];
-    BigEndian::write_u32(&mut front, piece.len() as u32);
-    out.extend_from_slice(&front)?;
+    out.extend_from_slice(&spelled_length(piece.len()))?;
     if let Err(refused) = out.extend_from_slice(piece) {
         out.truncate(before);
         return Err(refused);
     }
     Ok(())
+}
+
+/// Puts the row of two fields with its length at the end. After an `Err` nothing changed.
+pub(crate) fn append_pair(out: &mut Vec<u8>, first: &[u8], second: &[u8]) -> Result<(), AllocError>
+    requires { row_length (first.now ∷ second.now ∷ []) < 2 ^ 32 }
+    ensures ok { OnOk result (out.new.items
+        ≡ out.old.items ++ with_length (row_bytes (first.now ∷ second.now ∷ []))) }
+    ensures err { OnErr result (out.new.items ≡ out.old.items) }
+{
+    let row = LENGTH_BYTES + first.len() + LENGTH_BYTES + second.len();
+    out.reserve(LENGTH_BYTES + row)?;
+    put(out, &spelled_length(row));
+    put(out, &spelled_length(first.len()));
+    put(out, first);
+    put(out, &spelled_length(second.len()));
+    put(out, second);
+    Ok(())
+}
+
+/// A length as its bytes.
+#[tactic(auto, unfolding(crate::specs::Spelling::length_bytes))]
+fn spelled_length(length: usize) -> [u8; LENGTH_BYTES]
+    requires { length < 2 ^ 32 }
+    ensures { result ≡ length_bytes length }
+{
+    (length as u32).to_be_bytes()
+}
+
+/// Puts bytes at the end, where room was made for them.
+fn put(out: &mut Vec<u8>, bytes: &[u8])
+    requires room { length out.old.items + length bytes.now ≤ vec_capacity out.old }
+    ensures items { out.new.items ≡ out.old.items ++ bytes.now }
+    ensures capacity { vec_capacity out.old ≤ vec_capacity out.new }
+{
+    let Ok(()) = out.extend_from_slice(bytes) else {
+        unreachable!()
+    };
 }

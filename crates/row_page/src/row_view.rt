@@ -1,6 +1,6 @@
 //! A row that is lent.
 
-ghost use Rattle.std.specs.Prelude.{◌≡◌, ◌<◌, [], List, ℕ, length, slice_index_or, IfSome, IfNone};
+ghost use Rattle.std.specs.Prelude.{◌≡◌, ◌≢◌, ◌<◌, ◌∷◌, [], List, ℕ, length, slice_index_or, IfSome, IfNone};
 ghost use Rattle.row_page.specs.Grammar.{IsRow};
 ghost use Rattle.row_page.specs.Reading.{fields_of};
 ghost use Rattle.row_page.specs.Spelling.{row_bytes, row_length};
@@ -63,6 +63,26 @@ impl<'a> RowView<'a> {
             rest = first_piece(rest).1;
         }
         first_piece(rest).0
+    }
+
+    /// Both fields of a row of two, as an entry is. It goes over the row once.
+    pub fn pair(&self) -> Option<(&'a [u8], &'a [u8])>
+        ensures found { IfSome result
+            (λ fields. fields_in self.now ≡ fields.0.now ∷ fields.1.now ∷ []) }
+        ensures none { IfNone result (length (fields_in self.now) ≢ 2) }
+    {
+        if self.bytes.is_empty() {
+            return None;
+        }
+        let (first, rest) = first_piece(self.bytes);
+        if rest.is_empty() {
+            return None;
+        }
+        let (second, rest) = first_piece(rest);
+        if !rest.is_empty() {
+            return None;
+        }
+        Some((first, second))
     }
 
     /// The row's encoding.

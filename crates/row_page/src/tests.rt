@@ -36,6 +36,26 @@ fn a_row_of_two_fields_has_ten_bytes_and_a_page_takes_it_whole(
 }
 
 #[test]
+fn a_pair_is_put_as_the_row_of_its_two_fields(rt: HostRuntime) -> Result<(), Fail> {
+    let mut page = Page::new(rt.alloc(), 14);
+    assert_eq!(rt; page.push_pair(b"abc", b""), Err(PageFault::Full));
+    assert_eq!(rt; page.push_pair(b"ab", b""), Ok(()));
+    assert_eq!(rt; page.bytes(), PAGE.as_slice());
+    Ok(())
+}
+
+#[test]
+fn a_row_of_two_fields_lends_both(rt: HostRuntime) -> Result<(), Fail> {
+    let row = RowView::of(&ROW).ok_or("these are a row's bytes")?;
+    let (first, second) = row.pair().ok_or("the row has two fields")?;
+    assert_eq!(rt; first, b"ab".as_slice());
+    assert_eq!(rt; second, b"".as_slice());
+    let short = RowView::of(&ROW[..6]).ok_or("the first field is a row too")?;
+    assert!(rt; short.pair().is_none(), "one field is no pair");
+    Ok(())
+}
+
+#[test]
 fn a_page_that_is_read_back_lends_its_rows(rt: HostRuntime) -> Result<(), Fail> {
     let read = Page::read(rt.alloc(), PAGE.to_vec(rt.alloc())?, 14)?;
     let page = read.ok_or("these are a page's bytes")?;

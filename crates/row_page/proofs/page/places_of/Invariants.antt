@@ -1,15 +1,13 @@
-use Rattle.std.proofs.Common.{◌-◌, ◌≤◌, length, drop}
-use Rattle.row_page.specs.Grammar.{IsPage}
-use Rattle.row_page.specs.Pages.{HasPlaces}
-use Rattle.row_page.specs.Reading.{rows_of}
+use Rattle.std.proofs.Common.{◌↔◌, ◌-◌, ◌≤◌, List, ℕ, length, drop}
+use Rattle.row_page.specs.Grammar.{HasRows, IsPage}
+use Rattle.row_page.proofs.PagePlaces.{Walked}
 use Rattle.row_page.proofs.page.places_of.Given as goal
 
 abbrev pub invariant-loop-at : goal.invariant-loop-at
 invariant-loop-at l = record {
-  rest : IsPage (drop l.at l.bytes) (drop (length l.starts.items) (rows_of l.bytes));
-  count : length l.starts.items ≤ length (rows_of l.bytes);
-  places : HasPlaces l.starts.items l.bytes (rows_of l.bytes);
+  rest : HasRows (drop l.at l.bytes) ↔ HasRows l.bytes;
   within : l.at ≤ length l.bytes;
+  places : (rows : List (List (List ℕ))) → IsPage l.bytes rows → Walked l.starts.items l.at l.bytes rows;
 }
 
 abbrev pub decreases-loop-at : goal.decreases-loop-at

@@ -1,28 +1,20 @@
-use Rattle.std.proofs.Common.{◌≡◌, List, ℕ, length, ap, arith, refl}
+use Rattle.std.proofs.Common.{ap, arith, refl}
 use Rattle.std.proofs.lemmas.Result.{err_from_is_err_and}
 use Rattle.row_page.specs.Pages.{PageView}
-use Rattle.row_page.specs.Reading.{rows_of}
-use Rattle.row_page.specs.Spelling.{page_length}
 use Rattle.row_page.specs.Views.{fields_in}
-use Rattle.row_page.proofs.PageRows.{length_page}
+use Rattle.row_page.proofs.PageRows.{bytes_by_rows}
 use Rattle.row_page.proofs.PagePlaces.{page_grown}
 use Rattle.row_page.proofs.page.Page.push.Goals as goal
 
--- the page's bytes by the rows that contracts see
-bytes_by_rows : (n : ℕ) (shown rows : List (List (List ℕ))) → n ≡ page_length shown → shown ≡ rows → n ≡ page_length rows
-bytes_by_rows n shown rows e same = rw (← same) e
-
 pub returns-then-self-len-clause-full : goal.returns-then-self-len-clause-full
 returns-then-self-len-clause-full c =
-    let bytes = c.self.inside.bytes.items in
-    let used = bytes_by_rows (length bytes) (rows_of bytes) c.args.self.now.rows (length_page bytes (rows_of bytes) c.self.invariant.grammar) (ap (λ (v : PageView). v.rows) c.self.view_is) in
+    let used = bytes_by_rows c.self.inside.bytes.items c.args.self.now.rows c.self.invariant.grammar (ap (λ (v : PageView). v.rows) c.self.view_is) in
     let room = ap (λ (v : PageView). v.room) c.self.view_is in
     (λ _. omega (arith, used, room, c.len.ensures, c.bytes-piece.ensures.length, c.if-self-len.true), λ _. refl)
 
 pub returns-in_err-add_piece-clause-full : goal.returns-in_err-add_piece-clause-full
 returns-in_err-add_piece-clause-full c =
-    let bytes = c.self.inside.bytes.items in
-    let used = bytes_by_rows (length bytes) (rows_of bytes) c.args.self.now.rows (length_page bytes (rows_of bytes) c.self.invariant.grammar) (ap (λ (v : PageView). v.rows) c.self.view_is) in
+    let used = bytes_by_rows c.self.inside.bytes.items c.args.self.now.rows c.self.invariant.grammar (ap (λ (v : PageView). v.rows) c.self.view_is) in
     let room = ap (λ (v : PageView). v.room) c.self.view_is in
     let p = err_from_is_err_and c.from_residual.result c.from_residual.ensures.1 in
     (λ full. let e = p.1 in let f = p.2 in absurd cc, λ past. absurd (omega (arith, used, room, c.len.ensures, c.bytes-piece.ensures.length, c.if-self-len.false, past)))
@@ -39,7 +31,6 @@ returns-clause-ok c =
 
 pub returns-clause-full : goal.returns-clause-full
 returns-clause-full c =
-    let bytes = c.self.inside.bytes.items in
-    let used = bytes_by_rows (length bytes) (rows_of bytes) c.args.self.now.rows (length_page bytes (rows_of bytes) c.self.invariant.grammar) (ap (λ (v : PageView). v.rows) c.self.view_is) in
+    let used = bytes_by_rows c.self.inside.bytes.items c.args.self.now.rows c.self.invariant.grammar (ap (λ (v : PageView). v.rows) c.self.view_is) in
     let room = ap (λ (v : PageView). v.room) c.self.view_is in
     (λ full. absurd cc, λ past. absurd (omega (arith, used, room, c.len.ensures, c.bytes-piece.ensures.length, c.if-self-len.false, past)))
