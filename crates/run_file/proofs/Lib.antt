@@ -1,4 +1,6 @@
 pub mod Numerals
 pub mod Writing
 pub mod Filing
+pub mod Keeping
+pub mod Reaching
 pub mod Stepping

@@ -1,101 +1,104 @@
--- A reader's step: what is behind the row that it took, and that rows that are ahead are given.
-use Rattle.std.proofs.Common.{◌≡◌, ℕ, ◌+◌, ◌-◌, ◌<◌, Bool, true, false, List, [], ◌∷◌, ◌++◌, length, take, drop, Option, Some, Result, Ok, Err, refl, sym, ap, subst, ◌∙◌, append_assoc, arith}
-use Rattle.std.proofs.lemmas.List.{take-append-drop, drop_at, length-append}
-use Rattle.std.specs.List.{AllByRecursion}
-use Rattle.row_page.specs.Grammar.{IsPieceThen, IsPage}
+-- A reader's step: rows that are ahead are given, one by one, and no damage is told of them.
+use Rattle.std.proofs.Common.{◌≡◌, ℕ, ◌+◌, ◌<◌, Bool, true, false, List, [], ◌∷◌, ◌++◌, length, take, drop, Option, Some, None, Result, Ok, Err, refl, sym, ap, subst, ◌∙◌, append_assoc, arith}
+use Rattle.std.specs.Prelude.{IfSome, OnOk, OnErr, IfErr}
+use Rattle.std.proofs.lemmas.List.{drop-drop, take_at, drop_at}
+use Rattle.row_page.proofs.Fronts.{one_front, front-append}
+use Rattle.row_page.specs.Grammar.{IsPieceThen, IsRow, IsPage}
 use Rattle.row_page.specs.Views.{fields_in}
 use Rattle.row_page.specs.declared.row_view.RowView.{RowView}
-use Rattle.spill_disk.specs.Files.{Files}
+use Rattle.spill_disk.specs.Files.{Files, bytes_of}
+use Rattle.run_file.specs.declared.run.Run.{Run}
 use Rattle.run_file.specs.declared.run.RunFault.{RunFault}
 use Rattle.run_file.specs.declared.run.RunFault.TheVariants.{DiskFault, Damaged, NoMemory}
-use Rattle.run_file.specs.declared.run_reader.RunReader.{RunReader}
-use Rattle.run_file.specs.declared.run.Run.{Run}
-use Rattle.run_file.specs.Causes.{HasCauseOn, NoDiskFault}
+use Rattle.run_file.specs.Causes.{damage_by}
 use Rattle.run_file.specs.Forms.{IsWellFormed}
-use Rattle.run_file.specs.Reading.{rest_of, IsAtRow, HasBytes, HasRead, GoesOn, StaysAhead, GivesFirst, GivesFormed, TellsDamage, TakesRow, Moves}
+use Rattle.run_file.specs.Filling.{ShowsFront, BeginsRow, Takes}
+use Rattle.run_file.specs.Readers.{ReaderView, Kept, ahead_of, known_ahead}
+use Rattle.run_file.specs.Reading.{IsAtRow, IsAhead, GoesOn, GivesFirst, GivesFormed, TellsDamage, TakesRow, Moves, BeginsDamaged, ExplainsDamage, ArePage}
+use Rattle.run_file.proofs.Reaching.{front_tells}
 
--- bytes are what stands before a piece's end, and what stands behind it
-parts : (bytes piece behind : List ℕ) → IsPieceThen bytes piece behind → (front : List ℕ) × (bytes ≡ front ++ behind)
-parts [] piece behind h = absurd h
-parts (a ∷ []) piece behind h = absurd h
-parts (a ∷ b ∷ []) piece behind h = absurd h
-parts (a ∷ b ∷ c ∷ []) piece behind h = absurd h
-parts (a ∷ b ∷ c ∷ d ∷ bytes) piece behind h = (a ∷ b ∷ c ∷ d ∷ piece, ap (λ (t : List ℕ). a ∷ b ∷ c ∷ d ∷ t) h.1)
+piece_parts : (bytes piece behind : List ℕ) → IsPieceThen bytes piece behind → drop 4 bytes ≡ piece ++ behind
+piece_parts [] piece behind h = absurd h
+piece_parts (a ∷ []) piece behind h = absurd h
+piece_parts (a ∷ b ∷ []) piece behind h = absurd h
+piece_parts (a ∷ b ∷ c ∷ []) piece behind h = absurd h
+piece_parts (a ∷ b ∷ c ∷ d ∷ bytes) piece behind h = h.1
 
--- what is behind a piece is the end of all the bytes
-pub end_is : (all piece behind : List ℕ) (at : ℕ) → IsPieceThen (drop at all) piece behind → drop (length all - length behind) all ≡ behind
-end_is all piece behind at h =
-    let split = parts (drop at all) piece behind h in
-    let front = take at all ++ split.0 in
-    let whole : all ≡ front ++ behind = sym (take-append-drop at all) ∙ ap (λ (t : List ℕ). take at all ++ t) split.1 ∙ sym (append_assoc (take at all) split.0 behind) in
-    let count : length front ≡ length all - length behind = omega (arith, ap length whole, length-append front behind) in
-    ap (drop (length all - length behind)) whole ∙ drop_at front behind (length all - length behind) count
+-- what it stands at then, and what is behind that
+row_is : (before after : ReaderView) (took : Takes before after) → after.kept.row ≡ took.begins.piece
+row_is before after took =
+    took.row ∙ ap (take took.size) (piece_parts before.kept.rest took.begins.piece took.begins.behind took.begins.front) ∙ take_at took.begins.piece took.begins.behind took.size took.begins.size_is
 
--- where no disk failed, nothing has to have happened outside
-pub cause_inside : {T : Type 0} (disk before now : ℕ) (r : Result T RunFault) → NoDiskFault r → HasCauseOn disk before now r
-cause_inside disk before now (Ok x) h = tt
-cause_inside disk before now (Err (DiskFault named)) h = absurd h
-cause_inside disk before now (Err (Damaged named file kept found)) h = tt
-cause_inside disk before now (Err NoMemory) h = tt
+rest_is : (before after : ReaderView) (took : Takes before after) → after.kept.rest ≡ took.begins.behind
+rest_is before after took =
+    took.rest ∙ sym (drop-drop took.size 4 before.kept.rest) ∙ ap (drop took.size) (piece_parts before.kept.rest took.begins.piece took.begins.behind took.begins.front) ∙ drop_at took.begins.piece took.begins.behind took.size took.begins.size_is
 
--- what a step keeps
-pub record Keeps (before middle after : RunReader) : Type 0 where
-  pub run : after.run ≡ before.run
-  pub form : after.form ≡ before.form
-  pub found : middle.found ≡ before.found
-  pub bytes : after.bytes ≡ middle.bytes
-  pub read : HasRead after
+-- what a read before the step leaves
+pub record Reaches (files : Option Files) (before middle : ReaderView) : Type 0 where
+  pub moved : middle ≡ record before { kept = middle.kept }
+  pub ahead : known_ahead files middle ≡ known_ahead files before
+  pub shows : IfSome (known_ahead files middle) (ShowsFront before.run middle.kept.rest)
 
-abbrev pub OnePiece : Type 0
-OnePiece = (bytes a b x y : List ℕ) → IsPieceThen bytes a x → IsPieceThen bytes b y → (a ≡ b) × (x ≡ y)
+damage_ahead : (files : Option Files) (before middle : ReaderView) → Reaches files before middle → BeginsDamaged before.form before.run.greatest middle.kept.rest → IfSome (known_ahead files before) (BeginsDamaged before.form before.run.greatest)
+damage_ahead None before middle reached damaged = tt
+damage_ahead (Some files) before middle reached damaged =
+    subst (λ (a : Option (List ℕ)). IfSome a (BeginsDamaged before.form before.run.greatest)) reached.ahead
+    (front_tells before.run before.form middle.kept.rest (middle.kept.rest ++ drop middle.kept.at (take middle.run.bytes (bytes_of files middle.run.file))) reached.shows damaged)
 
--- rows that are ahead are given, one by one, and no damage is told of them
-pub goes_on : (files : Option Files) (before middle after : RunReader) (rows : List (List (List ℕ))) (r : Result Bool RunFault) → OnePiece → Keeps before middle after → before.found < before.run.count → (r ≡ Ok false → ⊥) → Moves middle after r → TellsDamage middle after r
-    → IsPage (rest_of middle) rows → before.found + length rows ≡ before.run.count → AllByRecursion (IsWellFormed before.form before.run.greatest) rows → GoesOn files after rows r
-goes_on files before middle after [] r one kept left some moved told page count formed = absurd (omega arith)
-goes_on files before middle after (row ∷ rows) (Ok false) one kept left some moved told page count formed = some refl
-goes_on files before middle after (row ∷ rows) (Ok true) one kept left some moved told page count formed =
-    let here : drop after.from after.bytes.items ≡ rest_of middle = ap (λ (n : ℕ). drop n after.bytes.items) moved.0 ∙ ap (λ b. drop middle.at b.items) kept.bytes in
-    let same = one (rest_of middle) moved.2.0 page.0 moved.2.1 page.1 moved.2.2 page.2 in
-    let behind : rest_of after ≡ page.1 = moved.2.3 ∙ same.1 in
-    let run_count : after.run.count ≡ before.run.count = ap (λ (run : Run). run.count) kept.run in
-    let left_page : IsPage (rest_of after) rows = subst (λ (t : List ℕ). IsPage t rows) (sym behind) page.4 in (
-      (page.0, page.1, subst (λ (t : List ℕ). IsPieceThen t page.0 page.1) (sym here) page.2, page.3),
+-- what a damaged front says of the bytes that are ahead
+pub explains : (files : Option Files) (before middle after : ReaderView) (r : Result Bool RunFault) → Reaches files before middle → TellsDamage middle after r → OnErr r (after ≡ middle) → ExplainsDamage files before r
+explains files before middle after (Ok more) reached told stays = tt
+explains files before middle after (Err (DiskFault disk)) reached told stays = tt
+explains files before middle after (Err NoMemory) reached told stays = tt
+explains files before middle after (Err (Damaged damage)) reached told stays =
+    let form = ap (λ (v : ReaderView). v.form) reached.moved in
+    let run = ap (λ (v : ReaderView). v.run) reached.moved in
+    damage_ahead files before middle reached (rw (← form, ← run, ← stays) told.2)
+
+-- no row is ahead of a damaged front
+none_ahead : (files : Option Files) (before : ReaderView) (row : List (List ℕ)) (rows : List (List (List ℕ))) → IsAhead files before (row ∷ rows) → IfSome (known_ahead files before) (BeginsDamaged before.form before.run.greatest) → ⊥
+none_ahead None before row rows ahead damaged = ahead.bytes
+none_ahead (Some files) before row rows ahead damaged = damaged row ahead.bytes.0 ahead.bytes.1 ahead.bytes.2 ahead.bytes.3 ahead.formed.0
+
+-- rows that are ahead are given, one by one
+pub goes_on : (old new : Option Files) (before middle after : ReaderView) (rows : List (List (List ℕ))) (r : Result Bool RunFault) → new ≡ old → Reaches old before middle → before.found < before.run.count
+    → (r ≡ Ok false → ⊥) → OnOk r (Takes middle after) → TellsDamage middle after r → IfErr r (λ fault. fault ≡ damage_by middle.run middle.found) → OnErr r (after ≡ middle) → Moves middle after r → IsAhead old before rows → GoesOn new after rows r
+goes_on old new before middle after [] r same reached left some took told only stays moved ahead = absurd (omega (arith, ahead.count, left))
+goes_on old new before middle after (row ∷ rows) (Ok false) same reached left some took told only stays moved ahead = absurd (some refl)
+goes_on old new before middle after (row ∷ rows) (Err (DiskFault disk)) same reached left some took told only stays moved ahead = tt
+goes_on old new before middle after (row ∷ rows) (Err NoMemory) same reached left some took told only stays moved ahead = tt
+goes_on old new before middle after (row ∷ rows) (Err (Damaged damage)) same reached left some took told only stays moved ahead =
+    none_ahead old before row rows ahead (explains old before middle after (Err (Damaged damage)) reached told stays)
+goes_on None new before middle after (row ∷ rows) (Ok true) same reached left some took told only stays moved ahead = absurd ahead.bytes
+goes_on (Some files) new before middle after (row ∷ rows) (Ok true) same reached left some took told only stays moved ahead =
+    let run : after.run ≡ before.run = ap (λ (v : ReaderView). v.run) moved ∙ ap (λ (v : ReaderView). v.run) reached.moved in
+    let middle_run : middle.run ≡ before.run = ap (λ (v : ReaderView). v.run) reached.moved in
+    let form : after.form ≡ before.form = ap (λ (v : ReaderView). v.form) moved ∙ ap (λ (v : ReaderView). v.form) reached.moved in
+    let found : after.found ≡ before.found + 1 = ap (λ (v : ReaderView). v.found) moved ∙ ap (λ (v : ReaderView). v.found + 1) reached.moved in
+    let begins = took.begins in
+    let tail = drop middle.kept.at (take middle.run.bytes (bytes_of files middle.run.file)) in
+    let page = subst (λ (a : Option (List ℕ)). ArePage a (row ∷ rows)) (sym reached.ahead) ahead.bytes in
+    let one = one_front (middle.kept.rest ++ tail) page.0 begins.piece page.1 (begins.behind ++ tail) page.2 (front-append middle.kept.rest begins.piece begins.behind tail begins.front) in
+    let at_row : IsRow after.kept.row row = subst (λ (t : List ℕ). IsRow t row) (one.0 ∙ sym (row_is middle after took)) page.3 in
+    let kept : after.kept.rest ++ drop after.kept.at (take after.run.bytes (bytes_of files after.run.file)) ≡ begins.behind ++ tail =
+    ap (λ (r : List ℕ). r ++ drop after.kept.at (take after.run.bytes (bytes_of files after.run.file))) (rest_is middle after took)
+    ∙ ap (λ (n : ℕ). begins.behind ++ drop n (take after.run.bytes (bytes_of files after.run.file))) took.at
+    ∙ ap (λ (u : Run). begins.behind ++ drop middle.kept.at (take u.bytes (bytes_of files u.file))) (run ∙ sym middle_run) in
+    let left_page : IsPage (after.kept.rest ++ drop after.kept.at (take after.run.bytes (bytes_of files after.run.file))) rows = subst (λ (t : List ℕ). IsPage t rows) (one.1 ∙ sym kept) page.4 in
+    let run_count : after.run.count ≡ before.run.count = ap (λ (u : Run). u.count) run in (
+      at_row,
       record {
-        count = omega (arith, moved.1, kept.found, count, run_count);
-        formed = rw (kept.form, kept.run) formed.1;
-        bytes = rw kept.read left_page;
+        count = omega (arith, found, ahead.count, run_count);
+        formed = rw (form, run) ahead.formed.1;
+        bytes = subst (λ (f : Option Files). ArePage (known_ahead f after) rows) (sym same) left_page;
       },
     )
-goes_on files before middle after (row ∷ rows) (Err (DiskFault disk)) one kept left some moved told page count formed = tt
-goes_on files before middle after (row ∷ rows) (Err NoMemory) one kept left some moved told page count formed = tt
-goes_on files before middle after (row ∷ rows) (Err (Damaged disk file kept_count found)) one kept left some moved told page count formed =
-    let here : rest_of after ≡ rest_of middle = ap (λ (n : ℕ). drop n after.bytes.items) moved.0 ∙ ap (λ b. drop middle.at b.items) kept.bytes in
-    told.6 row page.0 page.1 (subst (λ (t : List ℕ). IsPieceThen t page.0 page.1) (sym here) page.2) page.3 (rw (kept.form, kept.run) formed.0)
-
--- rows that are ahead still are where a step took none
-pub stays_ahead : (old new : Option Files) (before middle after : RunReader) (r : Result Bool RunFault) → Keeps before middle after → Moves middle after r
-    → ((rows : List (List (List ℕ))) → HasBytes old before rows → IsPage (rest_of middle) rows) → StaysAhead old new before after r
-stays_ahead old new before middle after (Ok more) kept moved page = tt
-stays_ahead old new before middle after (Err fault) kept moved page = λ rows ahead.
-    let here : rest_of after ≡ rest_of middle = ap (λ (n : ℕ). drop n after.bytes.items) moved.0 ∙ ap (λ b. drop middle.at b.items) kept.bytes in
-    let run_count : after.run.count ≡ before.run.count = ap (λ (run : Run). run.count) kept.run in
-    let left_page : IsPage (rest_of after) rows = subst (λ (t : List ℕ). IsPage t rows) (sym here) (page rows ahead.bytes) in
-    record {
-      count = omega (arith, moved.1, kept.found, ahead.count, run_count);
-      formed = rw (kept.form, kept.run) ahead.formed;
-      bytes = rw kept.read left_page;
-    }
 
 -- the row that a reader went on to is the first of those that were ahead
-pub first_given : (files : Option Files) (after : RunReader) (rows : List (List (List ℕ))) (given : RowView) → ((row : List (List ℕ)) → IsAtRow after row → fields_in given ≡ row) → GoesOn files after rows (Ok true) → GivesFirst rows (Ok (Some given))
+pub first_given : (files : Option Files) (after : ReaderView) (rows : List (List (List ℕ))) (given : RowView) → ((row : List (List ℕ)) → IsAtRow after row → fields_in given ≡ row) → GoesOn files after rows (Ok true) → GivesFirst rows (Ok (Some given))
 first_given files after [] given at went = absurd went
 first_given files after (row ∷ rows) given at went = at row went.0
 
--- and it stands at that row
-pub at_lent : (after : RunReader) (given : RowView) → ((row : List (List ℕ)) → IsAtRow after row → fields_in given ≡ row) → TakesRow after (Ok true) → IsAtRow after (fields_in given)
-at_lent after given at (row, here, formed) = rw (at row here) here
-
 -- the row that it lends is well formed
-pub formed_given : (before after : RunReader) (given : RowView) → ((row : List (List ℕ)) → IsAtRow after row → fields_in given ≡ row) → after.run ≡ before.run → after.form ≡ before.form → TakesRow after (Ok true) → GivesFormed before (Ok (Some given))
+pub formed_given : (before after : ReaderView) (given : RowView) → ((row : List (List ℕ)) → IsAtRow after row → fields_in given ≡ row) → after.run ≡ before.run → after.form ≡ before.form → TakesRow after (Ok true) → GivesFormed before (Ok (Some given))
 formed_given before after given at run form (row, here, formed) = rw (at row here, ← run, ← form) formed

@@ -2,7 +2,8 @@ pub mod Numbers
 pub mod Runs
 pub mod Causes
 pub mod Forms
+pub mod Readers
+pub mod Filling
 pub mod Reading
-pub mod Damage
 pub mod Lending
 pub mod Shelved

@@ -2,6 +2,7 @@
 #![tactic(auto)]
 
 mod form;
+mod kept;
 mod laws;
 mod number;
 mod number_list;
@@ -13,6 +14,6 @@ pub use form::Form;
 pub use laws::written_runs_stand;
 pub use number::{is_decimal, parse_number};
 pub use number_list::NumberList;
-pub use run::{Run, RunFault};
+pub use run::{Damage, Run, RunFault};
 pub use run_reader::RunReader;
 pub use run_writer::RunWriter;

@@ -17,21 +17,24 @@ pub struct Run {
     pub greatest: u64,
 }
 
+/// A file that isn't what was written: of `kept` rows that were, the one after the first `found` isn't
+/// well formed. `disk` is a place of a shelf.
+#[derive(Clone, Copy, Debug, PartialEq, Eq, Error)]
+#[error("file {file} of disk {disk} is damaged: {found} of {kept} rows were found")]
+pub struct Damage {
+    pub disk: u32,
+    pub file: u64,
+    pub kept: u64,
+    pub found: u64,
+}
+
 /// Why a call on a run gave up.
 #[derive(Clone, Copy, Debug, PartialEq, Eq, Error)]
 pub enum RunFault {
     #[error("a call of disk {disk} failed")]
-    DiskFault {
-        disk: u32,
-    },
-    /// The row after the first `found` isn't well formed, of `kept` rows that were written.
-    #[error("file {file} of disk {disk} is damaged: {found} of {kept} rows were found")]
-    Damaged {
-        disk: u32,
-        file: u64,
-        kept: u64,
-        found: u64,
-    },
+    DiskFault { disk: u32 },
+    #[error(transparent)]
+    Damaged(Damage),
     #[error("out of memory")]
     NoMemory,
 }

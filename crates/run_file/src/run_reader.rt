@@ -1,99 +1,109 @@
 //! A run that is being read.
 
-ghost use Rattle.std.specs.Prelude.{◌≡◌, ◌<◌, ◌≤◌, ◌+◌, ◌↔◌, List, ℕ, true, false, take, drop, Option, None, Ok, OnOk, OnErr, is_some};
+ghost use Rattle.std.specs.Prelude.{◌≡◌, ◌<◌, ◌≤◌, ◌+◌, ◌^◌, ◌↔◌, List, ℕ, true, false, length, take, drop, Option, None, Ok, IfErr, IfOk, IfSome, OnOk, OnErr, is_some};
 ghost use Rattle.std.specs.Borrow.{sem};
 ghost use Rattle.std.specs.Io.BufRead.{Rests};
-ghost use Rattle.row_page.specs.Grammar.{IsPage};
 ghost use Rattle.row_page.specs.Views.{fields_in};
 ghost use Rattle.spill_disk.specs.Files.{Files};
+ghost use Rattle.run_file.specs.declared.run.RunFault.{RunFault};
 ghost use Rattle.run_file.specs.Shelved.{files_on, faults_on, LeavesFiles};
-ghost use Rattle.run_file.specs.Causes.{HasCauseOn, NotDamaged, NoDiskFault};
-ghost use Rattle.run_file.specs.Reading.{run_of, form_of, found_of, IsAtRow, HasRead, IsAhead, Begins, GoesOn, StaysAhead, GivesFirst, TellsDamage, TellsPlace, TakesRow, CountsRow, GivesFormed, Moves, HasBytes, ReadsRun, rest_of};
-ghost use Rattle.run_file.specs.Damage.{known_bytes, known_ahead, ExplainsDamage, ReadsAhead};
+ghost use Rattle.run_file.specs.Causes.{HasCauseOn, NotDamaged, damage_by};
+ghost use Rattle.run_file.specs.Filling.{BeginsRow, ShowsFront, Takes};
+ghost use Rattle.run_file.specs.Readers.{known_ahead, most_kept};
+ghost use Rattle.run_file.specs.Reading.{BeginsDamaged, ExplainsDamage, IsAtRow, IsAhead, Begins, GoesOn, StaysAhead, GivesFirst, TellsDamage, TellsPlace, TakesRow, GivesFormed, Moves};
 ghost use Rattle.run_file.specs.Lending.{StandsAfter};
 ghost use Rattle.run_file.specs.contracts.run_reader.RunReader.{the_row};
 
-use crate::run::fault_of;
-use crate::{Form, Run, RunFault};
+use crate::kept::KeptBytes;
+use crate::{Damage, Form, Run, RunFault};
 use row_page::{RowView, no_encoding_begins_another, split_piece};
 use spill_disk::{Disk, Shelf};
 use std::alloc::Global;
+use std::marker::Model;
 
-/// A run that is read row by row. It reads its file whole before the first row.
+/// A run that is read row by row. Of its file it keeps at most the bytes of the greatest row, behind
+/// their length.
 #[derive(Debug, Drop)]
 pub struct RunReader {
     run: Run,
     form: Form,
-    bytes: Vec<u8>,
-    is_read: bool,
-    at: usize,
-    from: usize,
+    kept: KeptBytes,
     found: u64,
+}
+
+impl Model for RunReader {
+    ghost use Rattle.run_file.specs.Readers.{ReaderView, IsBounded};
+
+    ghost Value = { ReaderView };
+
+    ghost view = { λ r. record { run = r.run; form = r.form; found = r.found; kept = r.kept } };
+
+    ghost invariant = { λ r. IsBounded r.run r.kept };
 }
 
 impl RunReader {
     /// A reader of this run, for rows of this form. It reads nothing yet.
     pub fn new(alloc: Global, run: &Run, form: Form) -> RunReader
-        ensures run { run_of result ≡ run.now }
-        ensures form { form_of result ≡ form }
-        ensures found { found_of result ≡ 0 }
-        ensures unread { HasRead result → ⊥ }
+        ensures run { result.run ≡ run.now }
+        ensures form { result.form ≡ form }
+        ensures found { result.found ≡ 0 }
         ensures begins { Begins result }
-        ensures bytes { (files : Option Files) →
-            known_ahead files result ≡ known_bytes files run.now }
+        ensures kept { result.kept.count ≡ 0 }
     {
         RunReader {
             run: *run,
             form,
-            bytes: Vec::new(alloc),
-            is_read: false,
-            at: 0,
-            from: 0,
+            kept: KeptBytes::new(alloc),
             found: 0,
         }
+    }
+
+    /// How many bytes it keeps of its file: less than its run's greatest cost of a row, once it has read.
+    pub fn buffered(&self) -> usize
+        ensures count { result ≡ self.now.kept.count }
+        ensures bound { result ≤ self.now.run.greatest }
+        ensures most { result ≤ most_kept self.now.run }
+        ensures small { result ≤ 2 ^ 33 }
+    {
+        self.kept.count()
     }
 
     /// The row that the reader stands at, lent from its buffer.
     pub fn row(&self) -> RowView<'_>
         requires { (row : List (List ℕ)) × IsAtRow self.now row }
-        ensures { (row : List (List ℕ)) → IsAtRow self.now row → fields_in result ≡ row }
+        ensures at { IsAtRow self.now (fields_in result) }
+        ensures only { (row : List (List ℕ)) → IsAtRow self.now row → fields_in result ≡ row }
     {
-        no_encoding_begins_another();
-        let Some((piece, _)) = split_piece(rest_at(&self.bytes, self.from)) else {
-            unreachable!()
-        };
-        RowView::of_known(piece)
+        RowView::of_known(self.kept.row())
     }
 
     /// Goes on to the next row, at which the reader then stands; `false` comes exactly after the run's
-    /// count of rows. All files of the shelf stay. A row that isn't well formed is damage. After an
-    /// `Err` the same rows are ahead.
+    /// count of rows. All files of the shelf stay. A row that isn't well formed is damage, and so is a
+    /// length that no row of the run has: nothing grows for it. After an `Err` the same rows are ahead.
     pub fn advance<D: Disk, H: Shelf<D>>(&mut self, shelf: &mut H) -> Result<bool, RunFault>
-        requires there { (run_of self.old).disk < H.count_of shelf.old }
+        requires there { self.old.run.disk < H.count_of shelf.old }
         ensures gives { (rows : List (List (List ℕ))) →
-            IsAhead (files_on H.disk_of D.files shelf.old (run_of self.old).disk) self.old rows →
-            GoesOn (files_on H.disk_of D.files shelf.new (run_of self.old).disk) self.new rows result }
+            IsAhead (files_on H.disk_of D.files shelf.old self.old.run.disk) self.old rows →
+            GoesOn (files_on H.disk_of D.files shelf.new self.old.run.disk) self.new rows result }
         ensures stays { StaysAhead
-            (files_on H.disk_of D.files shelf.old (run_of self.old).disk)
-            (files_on H.disk_of D.files shelf.new (run_of self.old).disk) self.old self.new result }
-        ensures end { (result ≡ Ok false) ↔ ((run_of self.old).count ≤ found_of self.old) }
+            (files_on H.disk_of D.files shelf.old self.old.run.disk)
+            (files_on H.disk_of D.files shelf.new self.old.run.disk) self.old self.new result }
+        ensures end { (result ≡ Ok false) ↔ (self.old.run.count ≤ self.old.found) }
         ensures damaged { TellsDamage self.old self.new result }
         ensures why { ExplainsDamage
-            (files_on H.disk_of D.files shelf.old (run_of self.old).disk) self.old result }
+            (files_on H.disk_of D.files shelf.old self.old.run.disk) self.old result }
         ensures taken { TakesRow self.new result }
-        ensures found { CountsRow self.old self.new result }
-        ensures run { run_of self.new ≡ run_of self.old }
-        ensures form { form_of self.new ≡ form_of self.old }
-        ensures cause { HasCauseOn (run_of self.old).disk
-            (faults_on H.disk_of D.faults shelf.old (run_of self.old).disk)
-            (faults_on H.disk_of D.faults shelf.new (run_of self.old).disk) result }
+        ensures moved { Moves self.old self.new result }
+        ensures fits { self.new.found < 2 ^ 64 }
+        ensures cause { HasCauseOn self.old.run.disk
+            (faults_on H.disk_of D.faults shelf.old self.old.run.disk)
+            (faults_on H.disk_of D.faults shelf.new self.old.run.disk) result }
         ensures shelf { LeavesFiles H.count_of H.named H.disk_of D.files D.faults shelf.old shelf.new }
     {
-        no_encoding_begins_another();
         if self.found >= self.run.count {
             return Ok(false);
         }
-        self.read_file(shelf)?;
+        self.reach(shelf)?;
         self.step()
     }
 
@@ -103,21 +113,21 @@ impl RunReader {
         &mut self,
         shelf: &mut H,
     ) -> Result<Option<RowView<'_>>, RunFault>
-        requires there { (run_of self.old).disk < H.count_of shelf.old }
+        requires there { self.old.run.disk < H.count_of shelf.old }
         ensures gives { (rows : List (List (List ℕ))) →
-            IsAhead (files_on H.disk_of D.files shelf.old (run_of self.old).disk) self.old rows →
+            IsAhead (files_on H.disk_of D.files shelf.old self.old.run.disk) self.old rows →
             GivesFirst rows result }
-        ensures end { (result ≡ Ok None) ↔ ((run_of self.old).count ≤ found_of self.old) }
+        ensures end { (result ≡ Ok None) ↔ (self.old.run.count ≤ self.old.found) }
         ensures damaged { TellsPlace self.old result }
         ensures why { ExplainsDamage
-            (files_on H.disk_of D.files shelf.old (run_of self.old).disk) self.old result }
+            (files_on H.disk_of D.files shelf.old self.old.run.disk) self.old result }
         ensures taken { GivesFormed self.old result }
         ensures* stands { sem 𝓛 (Rests the_row self.entry (StandsAfter
-            (files_on H.disk_of D.files shelf.old (run_of self.old).disk)
-            (files_on H.disk_of D.files shelf.new (run_of self.old).disk) self.old result)) }
-        ensures cause { HasCauseOn (run_of self.old).disk
-            (faults_on H.disk_of D.faults shelf.old (run_of self.old).disk)
-            (faults_on H.disk_of D.faults shelf.new (run_of self.old).disk) result }
+            (files_on H.disk_of D.files shelf.old self.old.run.disk)
+            (files_on H.disk_of D.files shelf.new self.old.run.disk) self.old result)) }
+        ensures cause { HasCauseOn self.old.run.disk
+            (faults_on H.disk_of D.faults shelf.old self.old.run.disk)
+            (faults_on H.disk_of D.faults shelf.new self.old.run.disk) result }
         ensures shelf { LeavesFiles H.count_of H.named H.disk_of D.files D.faults shelf.old shelf.new }
     {
         if self.advance(shelf)? {
@@ -126,104 +136,73 @@ impl RunReader {
         Ok(None)
     }
 
-    /// Reads the file, if that wasn't done yet.
-    fn read_file<D: Disk, H: Shelf<D>>(&mut self, shelf: &mut H) -> Result<(), RunFault>
+    /// Reads on, unless a whole piece stands in front of what is kept.
+    fn reach<D: Disk, H: Shelf<D>>(&mut self, shelf: &mut H) -> Result<(), RunFault>
         requires there { self.old.run.disk < H.count_of shelf.old }
-        ensures read { OnOk result (HasRead self.new) }
-        ensures bytes { OnOk result ((rows : List (List (List ℕ))) →
-            HasBytes (files_on H.disk_of D.files shelf.old self.old.run.disk) self.old rows →
-            IsPage (rest_of self.new) rows) }
-        ensures ahead { OnOk result (ReadsAhead
-            (files_on H.disk_of D.files shelf.old self.old.run.disk) self.old self.new) }
-        ensures unread { OnErr result (self.new ≡ self.old) }
-        ensures run { self.new.run ≡ self.old.run }
-        ensures form { self.new.form ≡ self.old.form }
-        ensures found { self.new.found ≡ self.old.found }
+        ensures ahead { known_ahead (files_on H.disk_of D.files shelf.old self.old.run.disk) self.new
+            ≡ known_ahead (files_on H.disk_of D.files shelf.old self.old.run.disk) self.old }
+        ensures shows { OnOk result (IfSome
+            (known_ahead (files_on H.disk_of D.files shelf.old self.old.run.disk) self.new)
+            (ShowsFront self.old.run self.new.kept.rest)) }
+        ensures moved { self.new ≡ record self.old { kept = self.new.kept } }
+        ensures fits { self.new.found < 2 ^ 64 }
         ensures cause { HasCauseOn self.old.run.disk
             (faults_on H.disk_of D.faults shelf.old self.old.run.disk)
             (faults_on H.disk_of D.faults shelf.new self.old.run.disk) result }
         ensures sound { NotDamaged result }
         ensures shelf { LeavesFiles H.count_of H.named H.disk_of D.files D.faults shelf.old shelf.new }
     {
-        if self.is_read {
-            return Ok(());
-        }
         let disk = shelf.disk(self.run.disk);
-        load(disk, &self.run, &mut self.bytes)?;
-        self.is_read = true;
-        Ok(())
+        self.kept.reach(disk, &self.run)
     }
 
-    /// Goes on to the next row of what was read.
+    /// Goes on to the row at the front of what is kept.
     fn step(&mut self) -> Result<bool, RunFault>
         requires left { self.old.found < self.old.run.count }
-        requires read { HasRead self.old }
-        ensures never_ends { result ≡ Ok false → ⊥ }
-        ensures inside { NoDiskFault result }
-        ensures moves { Moves self.old self.new result }
+        ensures some { result ≡ Ok false → ⊥ }
+        ensures takes { OnOk result (Takes self.old self.new) }
         ensures damaged { TellsDamage self.old self.new result }
-        ensures taken { TakesRow self.new result }
-        ensures run { self.new.run ≡ self.old.run }
-        ensures form { self.new.form ≡ self.old.form }
-        ensures read { HasRead self.new }
-        ensures bytes { self.new.bytes ≡ self.old.bytes }
+        ensures only { IfErr result (λ fault. fault ≡ damage_by self.old.run self.old.found) }
+        ensures stays { OnErr result (self.new ≡ self.old) }
+        ensures moved { Moves self.old self.new result }
+        ensures fits { self.new.found < 2 ^ 64 }
     {
-        no_encoding_begins_another();
-        let rest = rest_at(&self.bytes, self.at);
-        let Some((piece, behind)) = split_piece(rest) else {
-            return Err(damage_of(&self.run, self.found));
-        };
-        let Some(row) = RowView::of(piece) else {
-            return Err(damage_of(&self.run, self.found));
-        };
-        if !self.form.accepts(row, self.run.greatest) {
-            return Err(damage_of(&self.run, self.found));
-        }
-        let left = behind.len();
-        self.from = self.at;
-        self.at = self.bytes.len() - left;
+        let size = front_of(&self.form, &self.run, self.found, self.kept.rest())?;
+        self.kept.take(size);
         self.found += 1;
         Ok(true)
     }
 }
 
-/// Reads the first bytes of a run's file, as many as it has.
-fn load<D: Disk>(disk: &mut D, run: &Run, bytes: &mut Vec<u8>) -> Result<(), RunFault>
-    ensures ok { OnOk result (ReadsRun (D.files disk.old) run.now bytes.new.items) }
-    ensures unread { OnErr result (bytes.new ≡ bytes.old) }
-    ensures same { D.files disk.new ≡ D.files disk.old }
-    ensures later { D.faults disk.old ≤ D.faults disk.new }
-    ensures cause { HasCauseOn run.now.disk (D.faults disk.old) (D.faults disk.new) result }
-    ensures sound { NotDamaged result }
+/// How many bytes the well-formed row has that stands at the front, behind its length. Where none does,
+/// the run is damaged.
+fn front_of(form: &Form, run: &Run, found: u64, bytes: &[u8]) -> Result<usize, RunFault>
+    ensures ok { IfOk result (BeginsRow form.now run.now.greatest bytes.now) }
+    ensures inside { IfOk result (λ size. 4 + size ≤ length bytes.now) }
+    ensures damaged { OnErr result (BeginsDamaged form.now run.now.greatest bytes.now) }
+    ensures only { IfErr result (λ fault. fault ≡ damage_by run.now found) }
 {
-    let Ok(mut buf) = vec![in *bytes.allocator(); 0u8; run.bytes as usize] else {
-        return Err(RunFault::NoMemory);
+    no_encoding_begins_another();
+    let Some((piece, _)) = split_piece(bytes) else {
+        return Err(damage_of(run, found));
     };
-    match disk.read_at(run.file, 0, &mut buf) {
-        Ok(count) => {
-            buf.truncate(count);
-            *bytes = buf;
-            Ok(())
-        }
-        Err(error) => Err(fault_of(run.disk, error)),
+    let Some(row) = RowView::of(piece) else {
+        return Err(damage_of(run, found));
+    };
+    if !form.accepts(row, run.greatest) {
+        return Err(damage_of(run, found));
     }
-}
-
-/// The bytes from a place on; none past the end.
-fn rest_at(bytes: &[u8], at: usize) -> &[u8]
-    ensures { result.now ≡ drop at bytes.now }
-{
-    &bytes[at.min(bytes.len())..]
+    Ok(piece.len())
 }
 
 /// The damage of a run of which so many rows were found.
 fn damage_of(run: &Run, found: u64) -> RunFault
-    ensures { result ≡ RunFault.Damaged run.now.disk run.now.file run.now.count found }
+    ensures { result ≡ damage_by run.now found }
 {
-    RunFault::Damaged {
+    RunFault::Damaged(Damage {
         disk: run.disk,
         file: run.file,
         kept: run.count,
         found,
-    }
+    })
 }
