@@ -4,3 +4,7 @@ pub mod Filing
 pub mod Keeping
 pub mod Reaching
 pub mod Stepping
+pub mod Changing
+pub mod Shelves
+pub mod Among
+pub mod Standing

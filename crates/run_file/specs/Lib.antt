@@ -7,3 +7,6 @@ pub mod Filling
 pub mod Reading
 pub mod Lending
 pub mod Shelved
+pub mod Writing
+pub mod Several
+pub mod AtEntries

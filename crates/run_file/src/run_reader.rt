@@ -3,9 +3,11 @@
 ghost use Rattle.std.specs.Prelude.{◌≡◌, ◌<◌, ◌≤◌, ◌+◌, ◌^◌, ◌↔◌, List, ℕ, true, false, length, take, drop, Option, None, Ok, IfErr, IfOk, IfSome, OnOk, OnErr, is_some};
 ghost use Rattle.std.specs.Borrow.{sem};
 ghost use Rattle.std.specs.Io.BufRead.{Rests};
+ghost use Rattle.aggregate.specs.declared.kind.Kind.{Kind};
 ghost use Rattle.row_page.specs.Views.{fields_in};
 ghost use Rattle.spill_disk.specs.Files.{Files};
 ghost use Rattle.run_file.specs.declared.run.RunFault.{RunFault};
+ghost use Rattle.run_file.specs.AtEntries.{IsAtEntry, entry_at};
 ghost use Rattle.run_file.specs.Shelved.{files_on, faults_on, LeavesFiles};
 ghost use Rattle.run_file.specs.Causes.{HasCauseOn, NotDamaged, damage_by};
 ghost use Rattle.run_file.specs.Filling.{BeginsRow, ShowsFront, Takes};
@@ -75,6 +77,22 @@ impl RunReader {
         ensures only { (row : List (List ℕ)) → IsAtRow self.now row → fields_in result ≡ row }
     {
         RowView::of_known(self.kept.row())
+    }
+
+    /// The key of the entry that the reader stands at.
+    pub fn key(&self) -> &[u8]
+        requires { (kind : Kind) × ∥ IsAtEntry kind self.now ∥₁ }
+        ensures { result.now ≡ (entry_at self.now).key }
+    {
+        self.row().field(0)
+    }
+
+    /// The value of the entry that the reader stands at.
+    pub fn value(&self) -> &[u8]
+        requires { (kind : Kind) × ∥ IsAtEntry kind self.now ∥₁ }
+        ensures { result.now ≡ (entry_at self.now).value }
+    {
+        self.row().field(1)
     }
 
     /// Goes on to the next row, at which the reader then stands; `false` comes exactly after the run's

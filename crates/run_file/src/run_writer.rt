@@ -97,6 +97,13 @@ impl RunWriter {
         }
     }
 
+    /// The number of its disk.
+    pub fn disk(&self) -> u32
+        ensures { result ≡ self.now.disk }
+    {
+        self.run.disk
+    }
+
     /// The run that was written.
     pub fn finish(self) -> Run
         ensures { result ≡ self }
