@@ -8,3 +8,4 @@ pub mod Changing
 pub mod Shelves
 pub mod Among
 pub mod Standing
+pub mod Wholes

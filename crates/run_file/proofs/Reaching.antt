@@ -80,7 +80,7 @@ front_shown (Some files) run before after w inside bound w_is counted counted' p
     ])
 
 -- a piece at the front of bytes is at that of each long enough part of them
-front_cut : (n : ℕ) (bytes piece behind : List ℕ) → IsPieceThen bytes piece behind → 4 + length piece ≤ n → (rest : List ℕ) × IsPieceThen (take n bytes) piece rest
+pub front_cut : (n : ℕ) (bytes piece behind : List ℕ) → IsPieceThen bytes piece behind → 4 + length piece ≤ n → (rest : List ℕ) × IsPieceThen (take n bytes) piece rest
 front_cut n [] piece behind h le = absurd h
 front_cut n (a ∷ []) piece behind h le = absurd h
 front_cut n (a ∷ b ∷ []) piece behind h le = absurd h

@@ -10,3 +10,4 @@ pub mod Shelved
 pub mod Writing
 pub mod Several
 pub mod AtEntries
+pub mod Whole

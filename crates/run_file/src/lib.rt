@@ -10,6 +10,7 @@ mod row_writer;
 mod run;
 mod run_reader;
 mod run_writer;
+mod whole;
 
 pub use form::Form;
 pub use laws::written_runs_stand;
@@ -19,3 +20,4 @@ pub use row_writer::{RowWriter, remove_run};
 pub use run::{Damage, Run, RunFault};
 pub use run_reader::RunReader;
 pub use run_writer::RunWriter;
+pub use whole::read_page;

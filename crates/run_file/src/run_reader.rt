@@ -194,7 +194,7 @@ impl RunReader {
 
 /// How many bytes the well-formed row has that stands at the front, behind its length. Where none does,
 /// the run is damaged.
-fn front_of(form: &Form, run: &Run, found: u64, bytes: &[u8]) -> Result<usize, RunFault>
+pub(crate) fn front_of(form: &Form, run: &Run, found: u64, bytes: &[u8]) -> Result<usize, RunFault>
     ensures ok { IfOk result (BeginsRow form.now run.now.greatest bytes.now) }
     ensures inside { IfOk result (λ size. 4 + size ≤ length bytes.now) }
     ensures damaged { OnErr result (BeginsDamaged form.now run.now.greatest bytes.now) }

@@ -1,0 +1,9 @@
+use Rattle.run_file.proofs.Wholes.{rows_stand, cause_inside}
+use Rattle.run_file.proofs.whole.read_page.Goals as goal
+
+pub returns-clause-rows : goal.returns-clause-rows
+returns-clause-rows g c rows stands formed =
+    c.page_of.ensures.rows rows (rows_stand (g.D.Disk.files c.args.disk.now) c.args.run.now c.args.form.now _ rows c.in_ok-bytes.ensures.read stands formed)
+
+pub returns-clause-cause : goal.returns-clause-cause
+returns-clause-cause g c = cause_inside _ _ _ c.page_of.result c.page_of.ensures.inside

@@ -1,0 +1,98 @@
+//! A run that is read whole, into a page.
+
+ghost use Rattle.std.specs.Prelude.{◌≡◌, ◌+◌, ◌≤◌, List, ℕ, IfOk, OnErr, OnOk, length, take};
+ghost use Rattle.std.specs.List.{AllByRecursion};
+ghost use Rattle.run_file.specs.Causes.{HasCauseOn, NoDiskFault, NotDamaged};
+ghost use Rattle.run_file.specs.Forms.{HasForm, IsWellFormed};
+ghost use Rattle.run_file.specs.Runs.{Stands};
+ghost use Rattle.run_file.specs.Whole.{AreRowsOf, BeginsRows, GivesPage, ReadsRun, TellsDamageOf, UsesAll};
+
+use crate::run::fault_of;
+use crate::run_reader::front_of;
+use crate::{Form, Run, RunFault};
+use row_page::Page;
+use spill_disk::Disk;
+use std::alloc::Global;
+
+/// The greatest room of a page, in bytes.
+const MOST_BYTES: usize = 1 << 40;
+
+/// Reads a run whole from its disk, by one call of the disk, into a page that has no more room than its
+/// rows take. A row that isn't well formed is damage. A run of more than 2^40 bytes is want of memory.
+pub fn read_page<D: Disk>(
+    alloc: Global,
+    disk: &mut D,
+    run: &Run,
+    form: &Form,
+) -> Result<Page, RunFault>
+    ensures rows { (rows : List (List (List ℕ))) → Stands (D.files disk.old) run.now rows
+        → AllByRecursion (HasForm form.now) rows → GivesPage rows result }
+    ensures formed { IfOk result (λ page. AllByRecursion (IsWellFormed form.now run.now.greatest) page.rows) }
+    ensures count { IfOk result (λ page. length page.rows ≡ run.now.count) }
+    ensures room { IfOk result (λ page. page.room ≤ run.now.bytes) }
+    ensures damaged { TellsDamageOf run.now result }
+    ensures same { D.files disk.new ≡ D.files disk.old }
+    ensures later { D.faults disk.old ≤ D.faults disk.new }
+    ensures cause { HasCauseOn run.now.disk (D.faults disk.old) (D.faults disk.new) result }
+{
+    let bytes = load(alloc, disk, run)?;
+    page_of(alloc, run, form, bytes)
+}
+
+/// Reads the first bytes of a run's file, as many as the run has.
+fn load<D: Disk>(alloc: Global, disk: &mut D, run: &Run) -> Result<Vec<u8>, RunFault>
+    ensures read { IfOk result (λ bytes. ReadsRun (D.files disk.old) run.now bytes.items) }
+    ensures bound { IfOk result (λ bytes. length bytes.items ≤ run.now.bytes) }
+    ensures same { D.files disk.new ≡ D.files disk.old }
+    ensures later { D.faults disk.old ≤ D.faults disk.new }
+    ensures cause { HasCauseOn run.now.disk (D.faults disk.old) (D.faults disk.new) result }
+    ensures sound { NotDamaged result }
+{
+    let Ok(mut bytes) = vec![in alloc; 0u8; run.bytes as usize] else {
+        return Err(RunFault::NoMemory);
+    };
+    match disk.read_at(run.file, 0, &mut bytes) {
+        Ok(count) => {
+            bytes.truncate(count);
+            Ok(bytes)
+        }
+        Err(error) => Err(fault_of(run.disk, error)),
+    }
+}
+
+/// The page that the bytes of a run are.
+fn page_of(alloc: Global, run: &Run, form: &Form, bytes: Vec<u8>) -> Result<Page, RunFault>
+    ensures rows { (rows : List (List (List ℕ))) → AreRowsOf form.now run.now bytes.items rows → GivesPage rows result }
+    ensures formed { IfOk result (λ page. AllByRecursion (IsWellFormed form.now run.now.greatest) page.rows) }
+    ensures count { IfOk result (λ page. length page.rows ≡ run.now.count) }
+    ensures room { IfOk result (λ page. page.room ≤ length bytes.items) }
+    ensures damaged { TellsDamageOf run.now result }
+    ensures inside { NoDiskFault result }
+{
+    let used = check_rows(form, run, &bytes)?;
+    if used > MOST_BYTES {
+        return Err(RunFault::NoMemory);
+    }
+    let mut bytes = bytes;
+    bytes.truncate(used);
+    match Page::read(alloc, bytes, used as u64) {
+        Ok(Some(page)) => Ok(page),
+        Ok(None) => unreachable!(),
+        Err(_) => Err(RunFault::NoMemory),
+    }
+}
+
+/// How many bytes the rows of a run take, each of which is checked.
+fn check_rows(form: &Form, run: &Run, bytes: &[u8]) -> Result<usize, RunFault>
+    ensures begins { IfOk result (λ used. BeginsRows form.now run.now.greatest bytes.now used run.now.count) }
+    ensures inside { IfOk result (λ used. used ≤ length bytes.now) }
+    ensures all { (rows : List (List (List ℕ))) → AreRowsOf form.now run.now bytes.now rows → UsesAll bytes.now result }
+    ensures damaged { TellsDamageOf run.now result }
+    ensures disk { NoDiskFault result }
+{
+    let mut at = 0;
+    for found in 0..run.count {
+        at += 4 + front_of(form, run, found, &bytes[at..])?;
+    }
+    Ok(at)
+}
