@@ -7,8 +7,7 @@ use Rattle.spill_disk.specs.Files.{Files}
 use Rattle.run_file.specs.declared.run.Run.{Run}
 use Rattle.run_file.specs.declared.run.RunFault.{RunFault}
 use Rattle.run_file.specs.declared.run.RunFault.TheVariants.{DiskFault, Damaged, NoMemory}
-use Rattle.run_file.specs.declared.run_reader.RunReader.{RunReader}
-use Rattle.run_file.specs.Reading.{run_of}
+use Rattle.run_file.specs.Readers.{ReaderView, run_of}
 use Rattle.run_merge.specs.Causes.{IsDamageAmong, IsDamageIn, is_run, is_run_in}
 use Rattle.run_merge.specs.Merged.{IsFileAmong, IsGone}
 use Rattle.run_merge.specs.Merging.{TellsDamageIn}
@@ -82,7 +81,7 @@ in_or_not runs disk file rows = by (is_run_in runs disk file rows)
     by false = inr refl
 
 -- the run of a reader is one of theirs
-pub reader_in : (readers : List RunReader) (place : ℕ) (reader : RunReader) → slice_get readers place ≡ Some reader → is_run_in (map run_of readers) (run_of reader).disk (run_of reader).file (run_of reader).count ≡ true
+pub reader_in : (readers : List ReaderView) (place : ℕ) (reader : ReaderView) → slice_get readers place ≡ Some reader → is_run_in (map run_of readers) (run_of reader).disk (run_of reader).file (run_of reader).count ≡ true
 reader_in [] place reader is = absurd cc
 reader_in (first ∷ readers) zero reader is =
     let same : first ≡ reader = cc is in
@@ -93,23 +92,23 @@ reader_in (first ∷ readers) (suc place) reader is =
 -- ---- damage that is told
 
 -- damage of a reader is damage of its run
-pub damage_in : (T U : Type 0) (readers : List RunReader) (fault : RunFault) → TellsDamageIn {T = T} readers (Err fault) → IsDamageIn {T = U} (map run_of readers) (Err fault)
-damage_in T U readers (DiskFault disk) told = tt
-damage_in T U readers (Damaged disk file kept found) told = (rw (told.run.0, told.run.1, told.run.2) (reader_in readers told.place told.reader told.there), told.count.1)
-damage_in T U readers NoMemory told = tt
+pub damage_of_runs : (T U : Type 0) (readers : List ReaderView) (fault : RunFault) → TellsDamageIn {T = T} readers (Err fault) → IsDamageIn {T = U} (map run_of readers) (Err fault)
+damage_of_runs T U readers (DiskFault disk) told = tt
+damage_of_runs T U readers (Damaged damage) told = rw told.told (reader_in readers told.place told.reader told.there, told.fewer)
+damage_of_runs T U readers NoMemory told = tt
 
 -- the same of more runs, and of other answers
 pub damage_more : (T U : Type 0) (runs all : List Run) (fault : RunFault) → ((disk file rows : ℕ) → is_run_in runs disk file rows ≡ true → is_run_in all disk file rows ≡ true) → IsDamageIn {T = T} runs (Err fault) → IsDamageIn {T = U} all (Err fault)
 damage_more T U runs all (DiskFault disk) more told = tt
-damage_more T U runs all (Damaged disk file kept found) more told = (more disk file kept told.0, told.1)
+damage_more T U runs all (Damaged damage) more told = (more damage.disk damage.file damage.kept told.0, told.1)
 damage_more T U runs all NoMemory more told = tt
 
 -- damage of the runs themselves
 pub damage_first : (T U : Type 0) (named : ℕ → ℕ) (before : ℕ → Option Files) (runs : List Run) (to : ℕ) (fault : RunFault) → IsDamageIn {T = T} runs (Err fault) → IsDamageAmong {T = U} named before runs to (Err fault)
 damage_first T U named before runs to (DiskFault disk) told = tt
-damage_first T U named before runs to (Damaged disk file kept found) told = (
+damage_first T U named before runs to (Damaged damage) told = (
   λ none. absurd (false≢true (sym none ∙ told.0)),
-  λ apart. absurd (apart (in_among named runs disk file kept told.0)),
+  λ apart. absurd (apart (in_among named runs damage.disk damage.file damage.kept told.0)),
   told.1,
 )
 damage_first T U named before runs to NoMemory told = tt
@@ -118,9 +117,9 @@ damage_first T U named before runs to NoMemory told = tt
 pub damage_made : (T U : Type 0) (named : ℕ → ℕ) (before : ℕ → Option Files) (runs made : List Run) (to : ℕ) (fault : RunFault) → ((disk file rows : ℕ) → is_run_in made disk file rows ≡ true → is_run_in runs disk file rows ≡ false → disk ≡ to)
     → ((disk file : ℕ) → IsFileAmong named made disk file → (IsFileAmong named runs disk file → ⊥) → IsGone (before disk) file) → IsDamageIn {T = T} made (Err fault) → IsDamageAmong {T = U} named before runs to (Err fault)
 damage_made T U named before runs made to (DiskFault disk) placed fresh told = tt
-damage_made T U named before runs made to (Damaged disk file kept found) placed fresh told = (
-  λ none. placed disk file kept told.0 none,
-  λ apart. fresh disk file (in_among named made disk file kept told.0) apart,
+damage_made T U named before runs made to (Damaged damage) placed fresh told = (
+  λ none. placed damage.disk damage.file damage.kept told.0 none,
+  λ apart. fresh damage.disk damage.file (in_among named made damage.disk damage.file damage.kept told.0) apart,
   told.1,
 )
 damage_made T U named before runs made to NoMemory placed fresh told = tt

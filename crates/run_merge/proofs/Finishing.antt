@@ -9,9 +9,8 @@ use Rattle.aggregate.specs.Rows.{entries_of}
 use Rattle.aggregate.specs.Totals.{Entry, total}
 use Rattle.spill_disk.specs.Files.{Files}
 use Rattle.run_file.specs.declared.form.Form.TheVariants.{Entries}
-use Rattle.run_file.specs.declared.run_reader.RunReader.{RunReader}
+use Rattle.run_file.specs.Readers.{ReaderView, found_of, run_of}
 use Rattle.run_file.specs.Forms.{IsWellFormed}
-use Rattle.run_file.specs.Reading.{run_of, found_of}
 use Rattle.run_merge.specs.declared.merge.Merge.{Merge}
 use Rattle.run_merge.specs.Giving.{AreComing, Gives}
 use Rattle.run_merge.specs.Heads.{EachReader, has_head, one_if, AreAhead}
@@ -26,7 +25,7 @@ none_in_all : (lists : List (List Row)) → ((k : ℕ) → get_or lists k [] ≡
 none_in_all [] none = refl
 none_in_all (list ∷ lists) none = rw (none 0) (none_in_all lists (λ k. none (suc k)))
 
-pub none_coming : (files : ℕ → Option Files) (kind : Kind) (readers : List RunReader) (heads : List Bool) (entries : List Entry) → ((k : ℕ) → k < length readers → has_head heads k ≡ false) → AreComing files true kind readers heads entries → entries ≡ []
+pub none_coming : (files : ℕ → Option Files) (kind : Kind) (readers : List ReaderView) (heads : List Bool) (entries : List Entry) → ((k : ℕ) → k < length readers → has_head heads k ≡ false) → AreComing files true kind readers heads entries → entries ≡ []
 unfolding total
 none_coming files kind readers heads entries none coming =
     let each : (k : ℕ) → get_or coming.lists k [] ≡ [] = λ k.
@@ -42,12 +41,12 @@ no_heads [] none = refl
 no_heads (head ∷ heads) none =
     omega (arith, sum_by-cons one_if head heads, no_heads heads (λ k lt. none (suc k) (omega arith)), ap one_if (none 0 (omega arith)))
 
-none_ahead : (readers : List RunReader) → EachReader readers (λ k reader. (run_of reader).count - found_of reader ≡ 0) → sum_by (λ reader. (run_of reader).count - found_of reader) readers ≡ 0
+none_ahead : (readers : List ReaderView) → EachReader readers (λ k reader. (run_of reader).count - found_of reader ≡ 0) → sum_by (λ reader. (run_of reader).count - found_of reader) readers ≡ 0
 none_ahead [] none = refl
 none_ahead (reader ∷ readers) none =
-    omega (arith, sum_by-cons (λ (r : RunReader). (run_of r).count - found_of r) reader readers, none 0 reader (omega arith) refl, none_ahead readers (λ k r lt is. none (suc k) r (omega arith) is))
+    omega (arith, sum_by-cons (λ (r : ReaderView). (run_of r).count - found_of r) reader readers, none 0 reader (omega arith) refl, none_ahead readers (λ k r lt is. none (suc k) r (omega arith) is))
 
-pub nothing_left : (readers : List RunReader) (heads : List Bool) (aheads : List ℕ) → length heads ≡ length readers → AreAhead readers aheads → ((k : ℕ) → k < length readers → has_head heads k ≡ false) → ((k : ℕ) → has_head heads k ≡ false → slice_index aheads k ≡ 0) → left_by readers heads ≡ 0
+pub nothing_left : (readers : List ReaderView) (heads : List Bool) (aheads : List ℕ) → length heads ≡ length readers → AreAhead readers aheads → ((k : ℕ) → k < length readers → has_head heads k ≡ false) → ((k : ℕ) → has_head heads k ≡ false → slice_index aheads k ≡ 0) → left_by readers heads ≡ 0
 nothing_left readers heads aheads count ahead none end =
     omega (arith, no_heads heads (λ k lt. none k (omega (arith, count))), none_ahead readers (λ k reader lt is. omega (arith, ahead k reader lt is, end k (none k lt))))
 
@@ -59,18 +58,18 @@ goes_on files kind after (entry ∷ entries) is gives =
     (gives.0, record { lists = coming.lists; left = coming.left; formed = coming.formed; ascend = coming.ascend; are = coming.are })
 
 -- there is a reader at each place
-pub reader_at : (readers : List RunReader) (i : ℕ) → i < length readers → (reader : RunReader) × (reader ≡ get_or readers i reader)
+pub reader_at : (readers : List ReaderView) (i : ℕ) → i < length readers → (reader : ReaderView) × (reader ≡ get_or readers i reader)
 reader_at [] i lt = absurd (omega arith)
 reader_at (reader ∷ readers) zero lt = (reader, refl)
 reader_at (reader ∷ readers) (suc i) lt = reader_at readers i (omega arith)
 
 -- its run's greatest cost is within that of all
-greatest_within : (readers : List RunReader) (i : ℕ) (reader : RunReader) → i < length readers → reader ≡ get_or readers i reader → (run_of reader).greatest ≤ greatest_of (map run_of readers)
+greatest_within : (readers : List ReaderView) (i : ℕ) (reader : ReaderView) → i < length readers → reader ≡ get_or readers i reader → (run_of reader).greatest ≤ greatest_of (map run_of readers)
 greatest_within [] i reader lt is = absurd (omega arith)
-greatest_within (r ∷ readers) zero reader lt is = omega (arith, ap (λ (x : RunReader). (run_of x).greatest) is)
+greatest_within (r ∷ readers) zero reader lt is = omega (arith, ap (λ (x : ReaderView). (run_of x).greatest) is)
 greatest_within (r ∷ readers) (suc i) reader lt is = omega (arith, greatest_within readers i reader (omega arith) is)
 
-pub formed_among : (kind : Kind) (readers : List RunReader) (i : ℕ) (row : Row) → i < length readers → ((reader : RunReader) → reader ≡ get_or readers i reader → IsWellFormed (Entries kind) (run_of reader).greatest row) → IsWellFormed (Entries kind) (greatest_of (map run_of readers)) row
+pub formed_among : (kind : Kind) (readers : List ReaderView) (i : ℕ) (row : Row) → i < length readers → ((reader : ReaderView) → reader ≡ get_or readers i reader → IsWellFormed (Entries kind) (run_of reader).greatest row) → IsWellFormed (Entries kind) (greatest_of (map run_of readers)) row
 formed_among kind readers i row lt formed =
     let r = reader_at readers i lt in
     let h = formed r.0 r.1 in

@@ -9,19 +9,19 @@ use Rattle.aggregate.specs.declared.kind.Kind.TheVariants.{Group, Order}
 use Rattle.aggregate.specs.Rows.{entry_of}
 use Rattle.row_page.specs.Spelling.{row_length}
 use Rattle.run_file.specs.declared.form.Form.TheVariants.{Entries}
-use Rattle.run_file.specs.declared.run_reader.RunReader.{RunReader}
+use Rattle.run_file.specs.Readers.{ReaderView, run_of}
 use Rattle.run_file.specs.Forms.{IsValueOf, IsWellFormed}
-use Rattle.run_file.specs.Reading.{run_of}
-use Rattle.run_merge.specs.Heads.{entry_at, row_at, IsAtEntry}
+use Rattle.run_file.specs.Reading.{row_at}
+use Rattle.run_merge.specs.Heads.{entry_at, IsAtEntry}
 use Rattle.run_merge.proofs.Standing.{two_fields, value_is}
 
 -- the value of a group's entry has its bytes
-pub value_size : (aggs : List Agg) (reader : RunReader) → ∥ IsAtEntry (Group aggs) reader ∥₁ → length (entry_at reader).value ≡ 16 * length aggs
+pub value_size : (aggs : List Agg) (reader : ReaderView) → ∥ IsAtEntry (Group aggs) reader ∥₁ → length (entry_at reader).value ≡ 16 * length aggs
 value_size aggs reader t =
     ∥∥₁_elim t (Coded-set coded_ℕ _ _) (λ h. ap length (sym (value_is (row_at reader) h.formed.has_form.0)) ∙ h.formed.has_form.1)
 
 -- a value that is as long is one of the kind too
-value_alike : (kind : Kind) (reader : RunReader) (value : List ℕ) → ∥ IsAtEntry kind reader ∥₁ → length value ≡ length (entry_at reader).value → IsValueOf kind value
+value_alike : (kind : Kind) (reader : ReaderView) (value : List ℕ) → ∥ IsAtEntry kind reader ∥₁ → length value ≡ length (entry_at reader).value → IsValueOf kind value
 value_alike (Group aggs) reader value t same = same ∙ value_size aggs reader t
 value_alike Order reader value t same = tt
 
@@ -35,7 +35,7 @@ length_of_row (key ∷ []) e = absurd (omega (arith, e))
 length_of_row (key ∷ value ∷ []) e = length_of_two key value
 length_of_row (key ∷ value ∷ field ∷ rest) e = absurd (omega (arith, e))
 
-pub formed_alike : (kind : Kind) (reader : RunReader) (row : List (List ℕ)) (value : List ℕ) → ∥ IsAtEntry kind reader ∥₁ → length value ≡ length (entry_at reader).value → row ≡ (entry_at reader).key ∷ (value ∷ []) → IsWellFormed (Entries kind) (run_of reader).greatest row
+pub formed_alike : (kind : Kind) (reader : ReaderView) (row : List (List ℕ)) (value : List ℕ) → ∥ IsAtEntry kind reader ∥₁ → length value ≡ length (entry_at reader).value → row ≡ (entry_at reader).key ∷ (value ∷ []) → IsWellFormed (Entries kind) (run_of reader).greatest row
 formed_alike kind reader row value t same row-is =
     let cost : 24 + row_length (row_at reader) ≤ (run_of reader).greatest = ∥∥₁_elim t le_prop (λ h. h.formed.cost) in
     let whole : IsWellFormed (Entries kind) (run_of reader).greatest ((entry_at reader).key ∷ (value ∷ [])) =

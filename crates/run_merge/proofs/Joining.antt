@@ -14,10 +14,11 @@ use Rattle.aggregate.specs.Rows.{Ascends, StandsBefore, entries_of, entry_of}
 use Rattle.aggregate.specs.Totals.{Entry, insert_entry, insert_group, key_cmp, total}
 use Rattle.spill_disk.specs.Files.{Files}
 use Rattle.run_file.specs.declared.form.Form.TheVariants.{Entries}
-use Rattle.run_file.specs.declared.run_reader.RunReader.{RunReader}
+use Rattle.run_file.specs.Readers.{ReaderView}
 use Rattle.run_file.specs.Forms.{HasForm}
 use Rattle.run_merge.specs.Giving.{AreComing, AllAbove, Gives, IsTaken, NoneBelow}
-use Rattle.run_merge.specs.Heads.{entry_at, has_head, row_at, IsFirst}
+use Rattle.run_file.specs.Reading.{row_at}
+use Rattle.run_merge.specs.Heads.{entry_at, has_head, IsFirst}
 use Rattle.run_merge.specs.Merging.{AreLeft}
 use Rattle.run_merge.specs.Runs.{concatenated}
 use Rattle.run_merge.proofs.Inserting.{insert_first, insert_joined, joint, total-keys}
@@ -59,7 +60,7 @@ list_above kind lists i key row rows is ascend first =
     subst (AllAbove key) (sym is) (rows_above kind key row rows first rises)
 
 -- the first of the readers was taken
-record IsPulled (files : ℕ → Option Files) (kind : Kind) (readers : List RunReader) (heads : List Bool) (place : ℕ) (row : Row) (entries : List Entry) : Type 0 where
+record IsPulled (files : ℕ → Option Files) (kind : Kind) (readers : List ReaderView) (heads : List Bool) (place : ℕ) (row : Row) (entries : List Entry) : Type 0 where
   lists : List (List Row)
   rows : List Row
   left : AreLeft files false readers (set heads place false) (set lists place rows)
@@ -70,7 +71,7 @@ record IsPulled (files : ℕ → Option Files) (kind : Kind) (readers : List Run
   here : get_or (set lists place rows) place [] ≡ rows
   are : entries ≡ insert_entry kind (entry_of row) (total kind (entries_of (concatenated (set lists place rows))))
 
-pulled_first : (files : ℕ → Option Files) (kind : Kind) (readers : List RunReader) (heads : List Bool) (place : ℕ) (first : RunReader) (entries : List Entry) → first ≡ get_or readers place first → IsFirst readers heads (length readers) place
+pulled_first : (files : ℕ → Option Files) (kind : Kind) (readers : List ReaderView) (heads : List Bool) (place : ℕ) (first : ReaderView) (entries : List Entry) → first ≡ get_or readers place first → IsFirst readers heads (length readers) place
     → AreComing files true kind readers heads entries → IsPulled files kind readers heads place (row_at first) entries
 pulled_first files kind readers heads place first entries first-is least coming =
     let stands = standing_at files true readers heads coming.lists place first least.within first-is least.stands coming.left in
@@ -79,7 +80,7 @@ pulled_first files kind readers heads place first entries first-is least coming 
     let before : (k : ℕ) → k < place → AllAbove key (get_or coming.lists k []) = λ k lt.
     elim (cases_Bool (has_head heads k)) [
       | inl head ↦
-          let reader : RunReader = get_or readers k first in
+          let reader : ReaderView = get_or readers k first in
           let within : k < length readers = omega (arith, lt, least.within) in
           let is : reader ≡ get_or readers k reader = get_or_default readers k first reader within in
           let other = standing_at files true readers heads coming.lists k reader within is head coming.left in
@@ -91,7 +92,7 @@ pulled_first files kind readers heads place first entries first-is least coming 
       | inl within ↦
           elim (cases_Bool (has_head heads k)) [
             | inl head ↦
-                let reader : RunReader = get_or readers k first in
+                let reader : ReaderView = get_or readers k first in
                 let is : reader ≡ get_or readers k reader = get_or_default readers k first reader within in
                 let other = standing_at files true readers heads coming.lists k reader within is head coming.left in
                 list_not_below kind coming.lists k key (row_at reader) other.rows other.are coming.ascend (least.behind first first-is k reader within is (omega arith) within head)
@@ -115,7 +116,7 @@ pulled_first files kind readers heads place first entries first-is least coming 
     }
 
 -- an entry that stands before all that is left is given
-given_first : (files : ℕ → Option Files) (kind : Kind) (readers : List RunReader) (heads : List Bool) (lists : List (List Row)) (row : Row) (entry : Entry) (entries : List Entry) → row ≡ entry.key ∷ (entry.value ∷ [])
+given_first : (files : ℕ → Option Files) (kind : Kind) (readers : List ReaderView) (heads : List Bool) (lists : List (List Row)) (row : Row) (entry : Entry) (entries : List Entry) → row ≡ entry.key ∷ (entry.value ∷ [])
     → AreLeft files false readers heads lists → AllByRecursion (λ rs. AllByRecursion (HasForm (Entries kind)) rs) lists → AllByRecursion (λ rs. Ascends (Some kind) (entries_of rs)) lists
     → AllByRecursion (λ e. StandsBefore (Some kind) entry e) (total kind (entries_of (concatenated lists))) → entries ≡ insert_entry kind entry (total kind (entries_of (concatenated lists)))
     → Gives files kind readers heads row entries
@@ -124,7 +125,7 @@ given_first files kind readers heads lists row entry entries row-is left formed 
     subst (Gives files kind readers heads row) (sym whole) (row-is, record { lists = lists; left = left; formed = formed; ascend = ascend; are = refl })
 
 -- where entries of one key stay side by side, the first is given as it is
-pub order_given : (files : ℕ → Option Files) (readers : List RunReader) (heads : List Bool) (place : ℕ) (first : RunReader) (row : Row) (entries : List Entry) → row ≡ (entry_at first).key ∷ ((entry_at first).value ∷ [])
+pub order_given : (files : ℕ → Option Files) (readers : List ReaderView) (heads : List Bool) (place : ℕ) (first : ReaderView) (row : Row) (entries : List Entry) → row ≡ (entry_at first).key ∷ ((entry_at first).value ∷ [])
     → first ≡ get_or readers place first → IsFirst readers heads (length readers) place → AreComing files true Order readers heads entries → Gives files Order readers (set heads place false) row entries
 order_given files readers heads place first row entries row-is first-is least coming =
     let p = pulled_first files Order readers heads place first entries first-is least coming in
@@ -144,7 +145,7 @@ order_given files readers heads place first row entries row-is first-is least co
     given_first files Order readers (set heads place false) (set p.lists place p.rows) row (entry_at first) entries row-is p.left p.rest.formed p.rest.ascend before p.are
 
 -- in a group the first is taken, and its run has no other of its key
-pub group_taken : (files : ℕ → Option Files) (aggs : List Agg) (readers : List RunReader) (heads : List Bool) (place : ℕ) (first : RunReader) (entries : List Entry) → first ≡ get_or readers place first → IsFirst readers heads (length readers) place
+pub group_taken : (files : ℕ → Option Files) (aggs : List Agg) (readers : List ReaderView) (heads : List Bool) (place : ℕ) (first : ReaderView) (entries : List Entry) → first ≡ get_or readers place first → IsFirst readers heads (length readers) place
     → AreComing files true (Group aggs) readers heads entries → IsTaken files (Group aggs) readers (set heads place false) (place + 1) (entry_at first) entries
 group_taken files aggs readers heads place first entries first-is least coming =
     let p = pulled_first files (Group aggs) readers heads place first entries first-is least coming in
@@ -166,7 +167,7 @@ group_taken files aggs readers heads place first entries first-is least coming =
     }
 
 -- one that stands at another key has none either
-pub joined_apart : (files : ℕ → Option Files) (aggs : List Agg) (readers : List RunReader) (heads : List Bool) (n : ℕ) (reader : RunReader) (entry : Entry) (entries : List Entry) → n < length readers → reader ≡ get_or readers n reader → has_head heads n ≡ true → ((entry_at reader).key ≡ entry.key → ⊥)
+pub joined_apart : (files : ℕ → Option Files) (aggs : List Agg) (readers : List ReaderView) (heads : List Bool) (n : ℕ) (reader : ReaderView) (entry : Entry) (entries : List Entry) → n < length readers → reader ≡ get_or readers n reader → has_head heads n ≡ true → ((entry_at reader).key ≡ entry.key → ⊥)
     → IsTaken files (Group aggs) readers heads n entry entries → IsTaken files (Group aggs) readers heads (n + 1) entry entries
 joined_apart files aggs readers heads n reader entry entries lt is head differ h =
     let stands = standing_at files false readers heads h.lists n reader lt is head h.left in
@@ -189,7 +190,7 @@ joined_apart files aggs readers heads n reader entry entries lt is head differ h
     }
 
 -- one that stands at the key is joined
-pub joined_one : (files : ℕ → Option Files) (aggs : List Agg) → IsAssociative → (readers : List RunReader) (heads : List Bool) (n : ℕ) (reader : RunReader) (entry : Entry) (entries : List Entry) → n < length readers → reader ≡ get_or readers n reader → has_head heads n ≡ true → (entry_at reader).key ≡ entry.key
+pub joined_one : (files : ℕ → Option Files) (aggs : List Agg) → IsAssociative → (readers : List ReaderView) (heads : List Bool) (n : ℕ) (reader : ReaderView) (entry : Entry) (entries : List Entry) → n < length readers → reader ≡ get_or readers n reader → has_head heads n ≡ true → (entry_at reader).key ≡ entry.key
     → IsTaken files (Group aggs) readers heads n entry entries → IsTaken files (Group aggs) readers (set heads n false) (n + 1) (joint aggs entry (entry_at reader)) entries
 joined_one files aggs assoc readers heads n reader entry entries lt is head same_key h =
     let stands = standing_at files false readers heads h.lists n reader lt is head h.left in
@@ -220,7 +221,7 @@ joined_one files aggs assoc readers heads n reader entry entries lt is head same
     }
 
 -- once all were looked at, the entry is given
-pub group_given : (files : ℕ → Option Files) (aggs : List Agg) (readers : List RunReader) (heads : List Bool) (row : Row) (entry : Entry) (entries : List Entry) → row ≡ entry.key ∷ (entry.value ∷ []) → IsTaken files (Group aggs) readers heads (length readers) entry entries → Gives files (Group aggs) readers heads row entries
+pub group_given : (files : ℕ → Option Files) (aggs : List Agg) (readers : List ReaderView) (heads : List Bool) (row : Row) (entry : Entry) (entries : List Entry) → row ≡ entry.key ∷ (entry.value ∷ []) → IsTaken files (Group aggs) readers heads (length readers) entry entries → Gives files (Group aggs) readers heads row entries
 group_given files aggs readers heads row entry entries row-is h =
     let count = lists_left files false readers heads h.lists h.left in
     let each : (k : ℕ) → AllAbove entry.key (get_or h.lists k []) = λ k.

@@ -1,6 +1,6 @@
 -- What runs and readers have still to give, where their files are kept.
-use Rattle.std.proofs.Common.{◌≡◌, ℕ, zero, suc, ◌<◌, Bool, true, false, List, [], ◌∷◌, ◌++◌, Option, Some, None, length, map, take, refl, sym, ap, subst, ◌∙◌, arith}
-use Rattle.std.specs.Prelude.{IsSome, is_some, unwrap_or, MatchBool}
+use Rattle.std.proofs.Common.{◌≡◌, ℕ, zero, suc, ◌<◌, Bool, true, false, List, [], ◌∷◌, ◌++◌, Option, Some, None, length, map, take, drop, refl, sym, ap, subst, ◌∙◌, arith}
+use Rattle.std.specs.Prelude.{IsSome, is_some, unwrap_or}
 use Rattle.std.specs.FinMap as map
 use Rattle.std.specs.List.{AllByRecursion}
 use Rattle.std.proofs.lemmas.Bool.{false≢true}
@@ -9,8 +9,8 @@ use Rattle.aggregate.specs.Totals.{Entry}
 use Rattle.row_page.specs.Grammar.{IsPage}
 use Rattle.spill_disk.specs.Files.{Files}
 use Rattle.run_file.specs.declared.run.Run.{Run}
-use Rattle.run_file.specs.declared.run_reader.RunReader.{RunReader}
-use Rattle.run_file.specs.Reading.{run_of, rest_of, IsAhead}
+use Rattle.run_file.specs.Readers.{ReaderView, known_ahead, run_of}
+use Rattle.run_file.specs.Reading.{ArePage, IsAhead}
 use Rattle.run_file.specs.Runs.{Counts, Stands}
 use Rattle.run_merge.specs.declared.merge.Merge.{Merge}
 use Rattle.run_merge.specs.Merged.{IsFileAmong, IsGone}
@@ -89,24 +89,28 @@ have_join files kind (x ∷ xs) ys (entries ∷ front) behind left right = (left
 
 -- ---- what a merge has still to give
 
-other_case : (b : Bool) (P Q R : Type 0) → (Q → R) → MatchBool b P Q → MatchBool b P R
-other_case true P Q R more h = h
-other_case false P Q R more h = more h
+-- the bytes that are ahead stay where the file's do
+ahead_same : (before after : Option Files) (reader : ReaderView) → file_in after reader.run.file ≡ file_in before reader.run.file → known_ahead after reader ≡ known_ahead before reader
+ahead_same None None reader same = refl
+ahead_same None (Some a) reader same = cc same
+ahead_same (Some b) None reader same = cc same
+ahead_same (Some b) (Some a) reader same =
+    let found : map.get a reader.run.file ≡ map.get b reader.run.file = cc same in
+    ap (λ (o : Option (List ℕ)). Some (reader.kept.rest ++ drop reader.kept.at (take reader.run.bytes (unwrap_or o [])))) found
 
-ahead_kept : (before after : Option Files) (reader : RunReader) (rows : List (List (List ℕ))) → file_in after (run_of reader).file ≡ file_in before (run_of reader).file → IsAhead before reader rows → IsAhead after reader rows
+ahead_kept : (before after : Option Files) (reader : ReaderView) (rows : List (List (List ℕ))) → file_in after (run_of reader).file ≡ file_in before (run_of reader).file → IsAhead before reader rows → IsAhead after reader rows
 ahead_kept before after reader rows same ahead = record {
   count = ahead.count;
   formed = ahead.formed;
-  bytes = other_case reader.is_read (IsPage (rest_of reader) rows) ((reader.at ≡ 0) × Stands before reader.run rows) ((reader.at ≡ 0) × Stands after reader.run rows)
-      (λ unread. (unread.0, stands_kept before after reader.run rows same unread.1)) ahead.bytes;
+  bytes = subst (λ (bytes : Option (List ℕ)). ArePage bytes rows) (sym (ahead_same before after reader same)) ahead.bytes;
 }
 
-left_kept : (before after : ℕ → Option Files) (reader : RunReader) (head : Bool) (rows : List (List (List ℕ))) → IsSame before after (run_of reader) → IsLeft before reader head rows → IsLeft after reader head rows
+left_kept : (before after : ℕ → Option Files) (reader : ReaderView) (head : Bool) (rows : List (List (List ℕ))) → IsSame before after (run_of reader) → IsLeft before reader head rows → IsLeft after reader head rows
 left_kept before after reader true [] same left = left
 left_kept before after reader true (row ∷ rows) same left = (left.0, ahead_kept _ _ reader rows same left.1)
 left_kept before after reader false rows same left = ahead_kept _ _ reader rows same left
 
-are_left_kept : (before after : ℕ → Option Files) (begun : Bool) (readers : List RunReader) (heads : List Bool) (lists : List (List (List (List ℕ)))) → AllByRecursion (IsSame before after) (map run_of readers) → AreLeft before begun readers heads lists → AreLeft after begun readers heads lists
+are_left_kept : (before after : ℕ → Option Files) (begun : Bool) (readers : List ReaderView) (heads : List Bool) (lists : List (List (List (List ℕ)))) → AllByRecursion (IsSame before after) (map run_of readers) → AreLeft before begun readers heads lists → AreLeft after begun readers heads lists
 are_left_kept before after begun [] [] [] same left = tt
 are_left_kept before after begun [] [] (rows ∷ lists) same left = absurd left
 are_left_kept before after begun [] (head ∷ heads) lists same left = absurd left

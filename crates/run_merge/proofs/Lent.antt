@@ -12,7 +12,7 @@ use Rattle.run_merge.specs.Causes.{HasCauseAmong, IsDamageIn}
 use Rattle.run_merge.specs.Lending.{LendsFirst, LendsFormed}
 use Rattle.run_merge.specs.Merging.{runs_of, kind_of, row_of, GivesFormed, GoesOn, TellsDamage}
 use Rattle.run_merge.specs.Runs.{greatest_of}
-use Rattle.run_merge.proofs.Damage.{damage_in}
+use Rattle.run_merge.proofs.Damage.{damage_of_runs}
 
 pub lent_first : (files : ℕ → Option Files) (after : Merge) (entries : List Entry) (given : RowView) → fields_in given ≡ row_of after → GoesOn files after entries (Ok true) → LendsFirst entries (Ok (Some given))
 lent_first files after [] given at went = absurd went
@@ -31,12 +31,12 @@ lent_formed before after given at runs kind formed = rw (at, ← runs, ← kind)
 
 pub lent_damage : (before after : Merge) (fault : RunFault) → runs_of after ≡ runs_of before → TellsDamage after (Err fault) → IsDamageIn {T = Option RowView} (runs_of before) (Err fault)
 lent_damage before after fault runs told =
-    let own : IsDamageIn {T = Option RowView} (runs_of after) (Err fault) = damage_in Bool (Option RowView) after.readers.items fault told in
+    let own : IsDamageIn {T = Option RowView} (runs_of after) (Err fault) = damage_of_runs Bool (Option RowView) after.readers.items fault told in
     subst (λ (all : List Run). IsDamageIn {T = Option RowView} all (Err fault)) runs own
 
 pub same_cause : (before now : ℕ → ℕ) (fault : RunFault) → HasCauseAmong {T = Bool} before now (Err fault) → HasCauseAmong {T = Option RowView} before now (Err fault)
 same_cause before now (DiskFault disk) h = h
-same_cause before now (Damaged disk file kept found) h = tt
+same_cause before now (Damaged damage) h = tt
 same_cause before now NoMemory h = tt
 
 abbrev Advanced : Type 0

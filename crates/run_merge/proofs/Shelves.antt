@@ -36,7 +36,7 @@ rose_later before middle now later rose = omega arith
 pub cause_later : {T : Type 0} (before middle now : ℕ → ℕ) (r : Result T RunFault) → ((j : ℕ) → before j ≤ middle j) → HasCauseAmong middle now r → HasCauseAmong before now r
 cause_later before middle now (Ok x) later cause = tt
 cause_later before middle now (Err (DiskFault disk)) later cause = rose_later (before disk) (middle disk) (now disk) (later disk) cause
-cause_later before middle now (Err (Damaged disk file kept found)) later cause = tt
+cause_later before middle now (Err (Damaged damage)) later cause = tt
 cause_later before middle now (Err NoMemory) later cause = tt
 
 -- a call that leaves all files, and one that may change one file

@@ -6,20 +6,21 @@ use Rattle.spill_disk.specs.Files.{Files}
 use Rattle.run_file.specs.declared.run.Run.{Run}
 use Rattle.run_file.specs.declared.run.RunFault.{RunFault}
 use Rattle.run_file.specs.declared.run.RunFault.TheVariants.{DiskFault, Damaged, NoMemory}
+use Rattle.run_file.specs.Causes.{damage_in}
 use Rattle.run_merge.specs.Merged.{IsFileAmong, IsGone}
 
 -- a fault of a disk is told only where its count rose
 abbrev pub HasCauseAmong : {T : Type 0} → (ℕ → ℕ) → (ℕ → ℕ) → Result T RunFault → Type 0
 HasCauseAmong before now (Ok x) = ⊤
 HasCauseAmong before now (Err (DiskFault disk)) = Rose (before disk) (now disk)
-HasCauseAmong before now (Err (Damaged disk file kept found)) = ⊤
+HasCauseAmong before now (Err (Damaged damage)) = ⊤
 HasCauseAmong before now (Err NoMemory) = ⊤
 
 -- damage is told of this run, of which fewer rows were found than it has
 abbrev pub IsDamageOf : {T : Type 0} → Run → Result T RunFault → Type 0
 IsDamageOf run (Ok x) = ⊤
 IsDamageOf run (Err (DiskFault disk)) = ⊤
-IsDamageOf run (Err (Damaged disk file kept found)) = (disk ≡ run.disk) × (file ≡ run.file) × (kept ≡ run.count) × (found < kept)
+IsDamageOf run (Err (Damaged damage)) = (damage ≡ damage_in run damage.found) × (damage.found < run.count)
 IsDamageOf run (Err NoMemory) = ⊤
 
 -- whether a run is this file of this disk, with so many rows; and whether one of several is
@@ -34,7 +35,7 @@ is_run_in (run ∷ runs) disk file count = is_run run disk file count || is_run_
 abbrev pub IsDamageIn : {T : Type 0} → List Run → Result T RunFault → Type 0
 IsDamageIn runs (Ok x) = ⊤
 IsDamageIn runs (Err (DiskFault disk)) = ⊤
-IsDamageIn runs (Err (Damaged disk file kept found)) = (is_run_in runs disk file kept ≡ true) × (found < kept)
+IsDamageIn runs (Err (Damaged damage)) = (is_run_in runs damage.disk damage.file damage.kept ≡ true) × (damage.found < damage.kept)
 IsDamageIn runs (Err NoMemory) = ⊤
 
 -- damage is told of one of these runs, or of one that was made of them on the disk `to`, whose file is one of theirs or wasn't
@@ -42,6 +43,7 @@ IsDamageIn runs (Err NoMemory) = ⊤
 abbrev pub IsDamageAmong : {T : Type 0} → (ℕ → ℕ) → (ℕ → Option Files) → List Run → ℕ → Result T RunFault → Type 0
 IsDamageAmong named before runs to (Ok x) = ⊤
 IsDamageAmong named before runs to (Err (DiskFault disk)) = ⊤
-IsDamageAmong named before runs to (Err (Damaged disk file kept found)) =
-    (is_run_in runs disk file kept ≡ false → disk ≡ to) × ((IsFileAmong named runs disk file → ⊥) → IsGone (before disk) file) × (found < kept)
+IsDamageAmong named before runs to (Err (Damaged damage)) =
+    (is_run_in runs damage.disk damage.file damage.kept ≡ false → damage.disk ≡ to)
+    × ((IsFileAmong named runs damage.disk damage.file → ⊥) → IsGone (before damage.disk) damage.file) × (damage.found < damage.kept)
 IsDamageAmong named before runs to (Err NoMemory) = ⊤

@@ -10,7 +10,7 @@ use Rattle.aggregate.specs.Rows.{Ascends, entries_of, entry_of}
 use Rattle.spill_disk.specs.Files.{Files}
 use Rattle.run_file.specs.declared.form.Form.TheVariants.{Entries}
 use Rattle.run_file.specs.declared.run.RunFault.{RunFault}
-use Rattle.run_file.specs.declared.run_reader.RunReader.{RunReader}
+use Rattle.run_file.specs.Readers.{ReaderView}
 use Rattle.run_file.specs.Causes.{NotDamaged}
 use Rattle.run_file.specs.Forms.{HasForm}
 use Rattle.run_merge.specs.Heads.{has_head}
@@ -18,7 +18,7 @@ use Rattle.run_merge.specs.Merging.{AreLeft, IsLeft}
 use Rattle.run_merge.specs.Runs.{concatenated}
 
 -- these entries are still to come: the total of what is left of the runs, the runs in order
-pub record AreComing (files : ℕ → Option Files) (begun : Bool) (kind : Kind) (readers : List RunReader) (heads : List Bool) (entries : List Entry) : Type 0 where
+pub record AreComing (files : ℕ → Option Files) (begun : Bool) (kind : Kind) (readers : List ReaderView) (heads : List Bool) (entries : List Entry) : Type 0 where
   pub lists : List (List (List (List ℕ)))
   pub left : AreLeft files begun readers heads lists
   pub formed : AllByRecursion (λ rows. AllByRecursion (HasForm (Entries kind)) rows) lists
@@ -34,7 +34,7 @@ abbrev pub NoneBelow : List ℕ → List (List (List ℕ)) → Type 0
 NoneBelow key rows = AllByRecursion (λ row. is_gt (key_cmp key (entry_of row).key) ≡ false) rows
 
 -- the entry was taken out, with those of its key of the first n readers; no key that is left is below its own
-pub record IsTaken (files : ℕ → Option Files) (kind : Kind) (readers : List RunReader) (heads : List Bool) (n : ℕ) (entry : Entry) (entries : List Entry) : Type 0 where
+pub record IsTaken (files : ℕ → Option Files) (kind : Kind) (readers : List ReaderView) (heads : List Bool) (n : ℕ) (entry : Entry) (entries : List Entry) : Type 0 where
   pub lists : List (List (List (List ℕ)))
   pub left : AreLeft files false readers heads lists
   pub formed : AllByRecursion (λ rows. AllByRecursion (HasForm (Entries kind)) rows) lists
@@ -45,18 +45,18 @@ pub record IsTaken (files : ℕ → Option Files) (kind : Kind) (readers : List 
   pub are : entries ≡ insert_entry kind entry (total kind (entries_of (concatenated lists)))
 
 -- the row is the first of these entries, and the others are still to come
-abbrev pub Gives : (ℕ → Option Files) → Kind → List RunReader → List Bool → List (List ℕ) → List Entry → Type 0
+abbrev pub Gives : (ℕ → Option Files) → Kind → List ReaderView → List Bool → List (List ℕ) → List Entry → Type 0
 Gives files kind readers heads row [] = ⊥
 Gives files kind readers heads row (entry ∷ entries) =
     (row ≡ entry.key ∷ (entry.value ∷ [])) × AreComing files false kind readers heads entries
 
 -- a reader that was let on has what it had still to give, and stands at the first row of it; no damage is found
-abbrev pub LetsOn : (ℕ → Option Files) → RunReader → List (List (List ℕ)) → Result Bool RunFault → Type 0
+abbrev pub LetsOn : (ℕ → Option Files) → ReaderView → List (List (List ℕ)) → Result Bool RunFault → Type 0
 LetsOn files after rows (Ok head) = IsLeft files after head rows × (head ≡ false → rows ≡ [])
 LetsOn files after rows (Err fault) = NotDamaged {T = Bool} (Err fault)
 
 -- the same of all readers
-abbrev pub LetAllOn : (ℕ → Option Files) → List RunReader → List Bool → List (List (List (List ℕ))) → Result (Unit {0}) RunFault → Type 0
+abbrev pub LetAllOn : (ℕ → Option Files) → List ReaderView → List Bool → List (List (List (List ℕ))) → Result (Unit {0}) RunFault → Type 0
 LetAllOn files readers heads lists (Ok done) = AreLeft files true readers heads lists
 LetAllOn files readers heads lists (Err fault) = NotDamaged {T = Unit {0}} (Err fault)
 

@@ -1,62 +1,56 @@
 -- The rows that readers stand at, and what is true of readers that are read side by side.
 -- This project's own.
-use Rattle.std.specs.Prelude.{◌≡◌, ℕ, ◌+◌, ◌<◌, ◌≤◌, Bool, true, false, List, [], Option, Some, None, length, drop, slice_index_or, slice_index, sum_by}
-use Rattle.std.specs.Option.{option_map_or}
+use Rattle.std.specs.Prelude.{◌≡◌, ℕ, ◌+◌, ◌<◌, ◌≤◌, Bool, true, false, List, Option, Some, None, length, slice_index_or, slice_index, sum_by}
 use Rattle.std.specs.Ordering.{is_gt}
 use Rattle.std.specs.declared.cmp.Ordering.TheVariants.{Less}
-use Rattle.row_page.specs.Reading.{fields_of, piece_at}
 use Rattle.aggregate.specs.declared.kind.Kind.{Kind}
 use Rattle.aggregate.specs.Totals.{Entry, key_cmp}
 use Rattle.aggregate.specs.Rows.{entry_of}
 use Rattle.run_file.specs.declared.form.Form.TheVariants.{Entries}
-use Rattle.run_file.specs.declared.run_reader.RunReader.{RunReader}
+use Rattle.run_file.specs.Readers.{ReaderView, form_of, found_of, run_of}
 use Rattle.run_file.specs.Forms.{IsWellFormed}
-use Rattle.run_file.specs.Reading.{run_of, form_of, found_of, IsAtRow}
-
--- the row that it stands at, where it stands at one
-unfoldable pub row_at : RunReader → List (List ℕ)
-row_at reader = option_map_or (λ found. fields_of found.0) (piece_at (drop reader.from reader.bytes.items)) []
+use Rattle.run_file.specs.Reading.{IsAtRow, row_at}
 
 -- that row as an entry
-abbrev pub entry_at : RunReader → Entry
+abbrev pub entry_at : ReaderView → Entry
 entry_at reader = entry_of (row_at reader)
 
 -- a fact of each of these readers and its place
-abbrev pub EachReader : List RunReader → (ℕ → RunReader → Type 0) → Type 0
-EachReader readers P = (k : ℕ) (reader : RunReader) → k < length readers → reader ≡ slice_index_or readers k reader → P k reader
+abbrev pub EachReader : List ReaderView → (ℕ → ReaderView → Type 0) → Type 0
+EachReader readers P = (k : ℕ) (reader : ReaderView) → k < length readers → reader ≡ slice_index_or readers k reader → P k reader
 
 -- the reader with this number stands at a row
 abbrev pub has_head : List Bool → ℕ → Bool
 has_head heads k = slice_index_or heads k false
 
 -- it stands at a row that is an entry of this kind
-pub record IsAtEntry (kind : Kind) (reader : RunReader) : Type 0 where
+pub record IsAtEntry (kind : Kind) (reader : ReaderView) : Type 0 where
   pub there : IsAtRow reader (row_at reader)
   pub formed : IsWellFormed (Entries kind) (run_of reader).greatest (row_at reader)
 
 -- each reader with a head stands at an entry
-abbrev pub AreAtEntries : Kind → List RunReader → List Bool → Type 0
+abbrev pub AreAtEntries : Kind → List ReaderView → List Bool → Type 0
 AreAtEntries kind readers heads = EachReader readers (λ k reader. has_head heads k ≡ true → ∥ IsAtEntry kind reader ∥₁)
 
 -- each is read for this kind
-abbrev pub AreOfKind : Kind → List RunReader → Type 0
+abbrev pub AreOfKind : Kind → List ReaderView → Type 0
 AreOfKind kind readers = EachReader readers (λ k reader. ∥ form_of reader ≡ Entries kind ∥₁)
 
 -- how many rows are ahead of each
-abbrev pub AreAhead : List RunReader → List ℕ → Type 0
+abbrev pub AreAhead : List ReaderView → List ℕ → Type 0
 AreAhead readers aheads = EachReader readers (λ k reader. found_of reader + slice_index aheads k ≡ (run_of reader).count)
 
 -- of the first n readers that stand at a row this one has the least key, and is the first of those with this key
-pub record IsFirst (readers : List RunReader) (heads : List Bool) (n place : ℕ) : Type 0 where
+pub record IsFirst (readers : List ReaderView) (heads : List Bool) (n place : ℕ) : Type 0 where
   pub within : place < n
   pub stands : has_head heads place ≡ true
-  pub before : (first : RunReader) → first ≡ slice_index_or readers place first →
+  pub before : (first : ReaderView) → first ≡ slice_index_or readers place first →
       EachReader readers (λ k reader. k < place → has_head heads k ≡ true → key_cmp (entry_at first).key (entry_at reader).key ≡ Less)
-  pub behind : (first : RunReader) → first ≡ slice_index_or readers place first →
+  pub behind : (first : ReaderView) → first ≡ slice_index_or readers place first →
       EachReader readers (λ k reader. place ≤ k → k < n → has_head heads k ≡ true → is_gt (key_cmp (entry_at first).key (entry_at reader).key) ≡ false)
 
 -- the same where there is one
-abbrev pub IsFirstOf : List RunReader → List Bool → ℕ → Option ℕ → Type 0
+abbrev pub IsFirstOf : List ReaderView → List Bool → ℕ → Option ℕ → Type 0
 IsFirstOf readers heads n None = (k : ℕ) → k < n → has_head heads k ≡ false
 IsFirstOf readers heads n (Some place) = IsFirst readers heads n place
 

@@ -8,13 +8,14 @@ use Rattle.aggregate.specs.Totals.{Entry, total}
 use Rattle.aggregate.specs.Rows.{Ascends, entries_of}
 use Rattle.spill_disk.specs.Files.{Files}
 use Rattle.run_file.specs.declared.form.Form.TheVariants.{Entries}
+use Rattle.run_file.specs.declared.run.Damage.{Damage}
 use Rattle.run_file.specs.declared.run.Run.{Run}
 use Rattle.run_file.specs.declared.run.RunFault.{RunFault}
 use Rattle.run_file.specs.declared.run.RunFault.TheVariants.{DiskFault, Damaged, NoMemory}
-use Rattle.run_file.specs.declared.run_reader.RunReader.{RunReader}
-use Rattle.run_file.specs.Causes.{NotDamaged}
+use Rattle.run_file.specs.Readers.{ReaderView, found_of, run_of}
+use Rattle.run_file.specs.Causes.{NotDamaged, damage_in}
 use Rattle.run_file.specs.Forms.{HasForm, IsWellFormed}
-use Rattle.run_file.specs.Reading.{run_of, found_of, IsAtRow, IsAhead, IsDamagedAhead}
+use Rattle.run_file.specs.Reading.{IsAtRow, IsAhead, IsDamagedAhead}
 use Rattle.run_merge.specs.declared.merge.Merge.{Merge}
 use Rattle.run_merge.specs.Heads.{one_if}
 use Rattle.run_merge.specs.Runs.{HaveEntries, concatenated}
@@ -31,8 +32,16 @@ kind_of merge = merge.kind
 abbrev pub row_of : Merge → List (List ℕ)
 row_of merge = merge.row
 
+-- how many bytes readers keep of their runs' files
+abbrev pub kept_by : List ReaderView → ℕ
+kept_by readers = sum_by (λ reader. reader.kept.count) readers
+
+-- how many bytes it keeps of its runs' files
+abbrev pub kept_of : Merge → ℕ
+kept_of merge = kept_by merge.readers.items
+
 -- how many rows are ahead of readers, and how many they stand at
-abbrev pub left_by : List RunReader → List Bool → ℕ
+abbrev pub left_by : List ReaderView → List Bool → ℕ
 left_by readers heads = sum_by (λ reader. (run_of reader).count - found_of reader) readers + sum_by one_if heads
 
 -- how many rows of the runs it has still to give
@@ -40,13 +49,13 @@ abbrev pub left_of : Merge → ℕ
 left_of merge = left_by merge.readers.items merge.heads.items
 
 -- the rows that a reader has still to give: the one that it stands at, and those ahead
-abbrev pub IsLeft : (ℕ → Option Files) → RunReader → Bool → List (List (List ℕ)) → Type 0
+abbrev pub IsLeft : (ℕ → Option Files) → ReaderView → Bool → List (List (List ℕ)) → Type 0
 IsLeft files reader true [] = ⊥
 IsLeft files reader true (row ∷ rows) = IsAtRow reader row × IsAhead (files (run_of reader).disk) reader rows
 IsLeft files reader false rows = IsAhead (files (run_of reader).disk) reader rows
 
 -- the same of all readers; where each was let on (`begun`), one that stands at no row has none
-abbrev pub AreLeft : (ℕ → Option Files) → Bool → List RunReader → List Bool → List (List (List (List ℕ))) → Type 0
+abbrev pub AreLeft : (ℕ → Option Files) → Bool → List ReaderView → List Bool → List (List (List (List ℕ))) → Type 0
 AreLeft files begun [] [] [] = ⊤
 AreLeft files begun (reader ∷ readers) (head ∷ heads) (rows ∷ lists) =
     IsLeft files reader head rows × (begun ≡ true → head ≡ false → rows ≡ []) × AreLeft files begun readers heads lists
@@ -87,19 +96,19 @@ Falls before after (Ok false) = left_of after ≡ 0
 Falls before after (Err fault) = ⊤
 
 -- damage is told of a run of these readers: the row behind those that were found isn't well formed
-pub record IsDamage (readers : List RunReader) (disk file kept found : ℕ) : Type 0 where
+pub record IsDamage (readers : List ReaderView) (damage : Damage) : Type 0 where
   pub place : ℕ
   pub within : place < length readers
-  pub reader : RunReader
+  pub reader : ReaderView
   pub there : slice_get readers place ≡ Some reader
-  pub run : (disk ≡ (run_of reader).disk) × (file ≡ (run_of reader).file) × (kept ≡ (run_of reader).count)
-  pub count : (found ≡ found_of reader) × (found < kept)
+  pub told : damage ≡ damage_in (run_of reader) (found_of reader)
+  pub fewer : found_of reader < (run_of reader).count
   pub damaged : IsDamagedAhead reader
 
-abbrev pub TellsDamageIn : {T : Type 0} → List RunReader → Result T RunFault → Type 0
+abbrev pub TellsDamageIn : {T : Type 0} → List ReaderView → Result T RunFault → Type 0
 TellsDamageIn readers (Ok more) = ⊤
 TellsDamageIn readers (Err (DiskFault disk)) = ⊤
-TellsDamageIn readers (Err (Damaged disk file kept found)) = IsDamage readers disk file kept found
+TellsDamageIn readers (Err (Damaged damage)) = IsDamage readers damage
 TellsDamageIn readers (Err NoMemory) = ⊤
 
 abbrev pub TellsDamage : Merge → Result Bool RunFault → Type 0

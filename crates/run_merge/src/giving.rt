@@ -5,9 +5,8 @@ ghost use Rattle.aggregate.specs.declared.kind.Kind.TheVariants.{Group, Order};
 ghost use Rattle.aggregate.specs.Totals.{Entry};
 ghost use Rattle.spill_disk.specs.Files.{Files};
 ghost use Rattle.run_file.specs.declared.form.Form.TheVariants.{Entries};
-ghost use Rattle.run_file.specs.declared.run_reader.RunReader.{RunReader};
+ghost use Rattle.run_file.specs.Readers.{ReaderView, run_of};
 ghost use Rattle.run_file.specs.Forms.{IsWellFormed};
-ghost use Rattle.run_file.specs.Reading.{run_of};
 ghost use Rattle.run_merge.specs.Giving.{AreComing, IsTaken, Gives};
 ghost use Rattle.run_merge.specs.Heads.{AreAtEntries, IsFirst, OnlyFalls, one_if};
 
@@ -45,7 +44,7 @@ pub(crate) fn give_alone(
     ensures gives { OnOk result ((files : ℕ → Option Files) (entries : List Entry) →
         AreComing files true Order readers.now heads.old.items entries →
         Gives files Order readers.now heads.new.items row.new entries) }
-    ensures formed { OnOk result ((reader : RunReader) →
+    ensures formed { OnOk result ((reader : ReaderView) →
         reader ≡ slice_index_or readers.now first reader →
         IsWellFormed (Entries Order) (run_of reader).greatest row.new) }
     ensures heads { OnlyFalls heads.old.items heads.new.items }
@@ -72,7 +71,7 @@ pub(crate) fn give_joined(
     ensures gives { OnOk result ((files : ℕ → Option Files) (entries : List Entry) →
         AreComing files true (Group aggs.now) readers.now heads.old.items entries →
         Gives files (Group aggs.now) readers.now heads.new.items row.new entries) }
-    ensures formed { OnOk result ((reader : RunReader) →
+    ensures formed { OnOk result ((reader : ReaderView) →
         reader ≡ slice_index_or readers.now first reader →
         IsWellFormed (Entries (Group aggs.now)) (run_of reader).greatest row.new) }
     ensures heads { OnlyFalls heads.old.items heads.new.items }

@@ -4,7 +4,7 @@ ghost use Rattle.std.specs.Prelude.{◌≡◌, length};
 ghost use Rattle.run_merge.specs.Heads.{AreAhead, AreAtEntries, AreOfKind};
 
 use crate::giving::{give_alone, give_joined};
-use crate::heads::{least_of, let_all_on};
+use crate::heads::{buffered_by, least_of, let_all_on};
 use aggregate::Kind;
 use row_page::{RowBuf, RowView};
 use run_file::{Form, Run, RunFault, RunReader};
@@ -34,7 +34,7 @@ pub struct Merge {
 }
 
 impl Merge {
-    ghost use Rattle.std.specs.Prelude.{◌<◌, ◌↔◌, List, ℕ, Option, None, Ok, true, false, sum_by, IfOk, OnOk};
+    ghost use Rattle.std.specs.Prelude.{◌<◌, ◌≤◌, ◌^◌, ◌↔◌, List, ℕ, Option, None, Ok, true, false, sum_by, IfOk, OnOk};
     ghost use Rattle.std.specs.Borrow.{sem};
     ghost use Rattle.std.specs.Io.BufRead.{Rests};
     ghost use Rattle.aggregate.specs.Totals.{Entry};
@@ -45,7 +45,7 @@ impl Merge {
     ghost use Rattle.run_merge.specs.Giving.{AreComing};
     ghost use Rattle.run_merge.specs.Heads.{IsFirst};
     ghost use Rattle.run_merge.specs.Lending.{LendsFirst, LendsFormed, StandsAfter};
-    ghost use Rattle.run_merge.specs.Merging.{runs_of, kind_of, row_of, left_of, Begins, IsToCome, GoesOn, GivesFormed, Falls, TellsDamage};
+    ghost use Rattle.run_merge.specs.Merging.{runs_of, kind_of, kept_of, row_of, left_of, Begins, IsToCome, GoesOn, GivesFormed, Falls, TellsDamage};
     ghost use Rattle.run_merge.specs.Runs.{AreOn, greatest_of};
     ghost use Rattle.run_merge.specs.contracts.merge.Merge.{the_row};
 
@@ -72,6 +72,16 @@ impl Merge {
             value: Vec::new(alloc),
             row: RowBuf::new(alloc),
         })
+    }
+
+    /// How many bytes it keeps of its runs' files: for each run less than the greatest cost of a row, once
+    /// that was read.
+    pub fn buffered(&self) -> usize
+        requires few { length (runs_of self.now) ≤ 2 ^ 16 }
+        ensures count { result ≡ kept_of self.now }
+        ensures bound { result ≤ sum_by (λ run. run.greatest) (runs_of self.now) }
+    {
+        buffered_by(&self.readers)
     }
 
     /// The row that it stands at, a key and a value, lent from its buffer.

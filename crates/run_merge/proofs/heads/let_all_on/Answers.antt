@@ -1,7 +1,7 @@
 use Rattle.std.proofs.Common.{◌≡◌, ◌+◌, ◌<◌, ℕ, List, [], Ok, false, length, set, map, get_or, sym, subst, ◌∙◌, arith, rules}
 use Rattle.std.specs.Prelude.{slice_index}
 use Rattle.std.proofs.lemmas.List.{get_or_default, get_or-set_same, length-set, set-get_or}
-use Rattle.run_file.specs.Reading.{run_of, found_of}
+use Rattle.run_file.specs.Readers.{found_of, run_of}
 use Rattle.run_file.specs.Shelved.{files_on}
 use Rattle.run_merge.specs.Heads.{has_head, AreAtEntries}
 use Rattle.run_merge.specs.Merging.{IsLeft}

@@ -1,7 +1,7 @@
 use Rattle.std.proofs.Common.{◌≡◌, ◌<◌, ℕ, List, [], map, false, length, get_or}
 use Rattle.std.specs.Prelude.{slice_index}
 use Rattle.aggregate.specs.declared.kind.Kind.{Kind}
-use Rattle.run_file.specs.Reading.{run_of}
+use Rattle.run_file.specs.Readers.{run_of}
 use Rattle.run_file.specs.Shelved.{files_on, LeavesFiles}
 use Rattle.run_merge.specs.Heads.{has_head, AreAtEntries, AreOfKind, AreAhead}
 use Rattle.run_merge.specs.Merging.{AreLeft, left_by}

@@ -9,7 +9,7 @@ use Rattle.run_merge.specs.Merging.{runs_of}
 use Rattle.run_merge.specs.Runs.{AreOn}
 use Rattle.run_merge.specs.Touching.{SameBut}
 use Rattle.run_merge.proofs.Among.{among_renamed}
-use Rattle.run_merge.proofs.Damage.{damage_in}
+use Rattle.run_merge.proofs.Damage.{damage_of_runs}
 use Rattle.run_merge.proofs.Gathering.{goes_undamaged, underway_none, underway_more, underway_all}
 use Rattle.run_merge.proofs.Shelves.{both_ok, keeps_left, keeps_self, keeps_trans, same_left, same_more}
 use Rattle.run_merge.proofs.one_group.write_merged.Goals as goal
@@ -39,7 +39,7 @@ returns-in_err-advance-clause-undamaged g c entries come apart =
 pub returns-in_err-advance-clause-damaged : goal.returns-in_err-advance-clause-damaged
 returns-in_err-advance-clause-damaged g c =
     let p = err_from_is_err_and c.from_residual.result c.from_residual.ensures.1 in
-    let told : IsDamageIn {T = Unit {0}} (runs_of c.advance.new.self) (Err c.in_err-advance.field-0.0) = damage_in Bool (Unit {0}) c.advance.new.self.readers.items c.in_err-advance.field-0.0 c.in_err-advance.ensures.damaged in
+    let told : IsDamageIn {T = Unit {0}} (runs_of c.advance.new.self) (Err c.in_err-advance.field-0.0) = damage_of_runs Bool (Unit {0}) c.advance.new.self.readers.items c.in_err-advance.field-0.0 c.in_err-advance.ensures.damaged in
     let runs : runs_of c.advance.new.self ≡ runs_of c.args.merge.now = c.advance.ensures.runs ∙ c.entries.invariant.runs in
     rw (p.1, p.2) (subst (λ (all : List Run). IsDamageIn {T = Unit {0}} all (Err c.in_err-advance.field-0.0)) runs told)
 
