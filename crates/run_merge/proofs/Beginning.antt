@@ -16,10 +16,10 @@ use Rattle.run_file.specs.Readers.{ReaderView, form_of, found_of, run_of}
 use Rattle.run_file.specs.Forms.{HasForm, IsWellFormed}
 use Rattle.run_file.specs.Reading.{IsAhead, Begins}
 use Rattle.run_file.specs.Runs.{Stands, greatest_cost}
+use Rattle.run_file.specs.Several.{HasEntries, HaveEntries, concatenated, no_run, run_at}
 use Rattle.run_merge.specs.Giving.{AreComing}
 use Rattle.run_merge.specs.Heads.{EachReader, has_head, one_if, AreAhead}
 use Rattle.run_merge.specs.Merging.{AreLeft, IsLeft, left_by}
-use Rattle.run_merge.specs.Runs.{HasEntries, HaveEntries, concatenated, no_run, run_at}
 
 abbrev Row : Type 0
 Row = List (List ℕ)

@@ -5,11 +5,10 @@ use Rattle.std.proofs.lemmas.Bool.Decides.{eqb_tells}
 use Rattle.std.proofs.lemmas.List.{take_all, take_more}
 use Rattle.spill_disk.specs.Files.{Files}
 use Rattle.run_file.specs.declared.run.Run.{Run}
-use Rattle.run_merge.specs.Becoming.{AreGone, SameOthers}
-use Rattle.run_merge.specs.Merged.{IsFileAmong, IsGone, KeepsOthers}
-use Rattle.run_merge.specs.Runs.{no_run, run_at}
-use Rattle.run_merge.specs.Touching.{file_in, IsGoneOn, SameBut}
-use Rattle.run_merge.proofs.Among.{among_cases, among_left, among_one, among_right, is_among_one}
+use Rattle.run_file.specs.Several.{SameOthers, IsFileAmong, KeepsOthers, no_run, run_at}
+use Rattle.run_file.specs.Shelved.{IsGone, file_in, IsGoneOn, SameBut}
+use Rattle.run_file.proofs.Among.{among_cases, among_left, among_one, among_right, is_among_one}
+use Rattle.run_merge.specs.Becoming.{AreGone}
 use Rattle.run_merge.proofs.Becoming.{keep_gone, keep_same, same_functions, same_gone}
 
 -- two numbers of disks and files are of one file, or they aren't

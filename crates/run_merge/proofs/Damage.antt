@@ -8,10 +8,11 @@ use Rattle.run_file.specs.declared.run.Run.{Run}
 use Rattle.run_file.specs.declared.run.RunFault.{RunFault}
 use Rattle.run_file.specs.declared.run.RunFault.TheVariants.{DiskFault, Damaged, NoMemory}
 use Rattle.run_file.specs.Readers.{ReaderView, run_of}
+use Rattle.run_file.specs.Several.{IsFileAmong}
+use Rattle.run_file.specs.Shelved.{IsGone}
+use Rattle.run_file.proofs.Among.{among_left, among_right, is_among_one}
 use Rattle.run_merge.specs.Causes.{IsDamageAmong, IsDamageIn, is_run, is_run_in}
-use Rattle.run_merge.specs.Merged.{IsFileAmong, IsGone}
 use Rattle.run_merge.specs.Merging.{TellsDamageIn}
-use Rattle.run_merge.proofs.Among.{among_left, among_right, is_among_one}
 
 both_true : (a b : Bool) → (a && b) ≡ true → (a ≡ true) × (b ≡ true)
 both_true true b h = (refl, h)

@@ -11,11 +11,11 @@ use Rattle.spill_disk.specs.Files.{Files}
 use Rattle.run_file.specs.declared.form.Form.TheVariants.{Entries}
 use Rattle.run_file.specs.Readers.{ReaderView, found_of, run_of}
 use Rattle.run_file.specs.Forms.{IsWellFormed}
+use Rattle.run_file.specs.Several.{concatenated, greatest_of}
 use Rattle.run_merge.specs.declared.merge.Merge.{Merge}
 use Rattle.run_merge.specs.Giving.{AreComing, Gives}
 use Rattle.run_merge.specs.Heads.{EachReader, has_head, one_if, AreAhead}
 use Rattle.run_merge.specs.Merging.{GoesOn, left_by}
-use Rattle.run_merge.specs.Runs.{concatenated, greatest_of}
 use Rattle.run_merge.proofs.Taking.{none_left, lists_left}
 
 abbrev Row : Type 0

@@ -6,7 +6,8 @@ use Rattle.std.proofs.lemmas.Bool.{cases_lt}
 use Rattle.std.proofs.lemmas.List.{get_or_default}
 use Rattle.aggregate.specs.Totals.{key_cmp}
 use Rattle.run_file.specs.Readers.{ReaderView}
-use Rattle.run_merge.specs.Heads.{has_head, entry_at, IsFirst}
+use Rattle.run_file.specs.AtEntries.{entry_at}
+use Rattle.run_merge.specs.Heads.{has_head, IsFirst}
 use Rattle.run_merge.proofs.KeyOrders.{less_upto, less_not_gt, upto_itself}
 
 -- what is read twice at one place is one reader

@@ -12,8 +12,8 @@ use Rattle.run_file.specs.declared.form.Form.TheVariants.{Entries}
 use Rattle.run_file.specs.Readers.{ReaderView, run_of}
 use Rattle.run_file.specs.Forms.{IsValueOf, IsWellFormed}
 use Rattle.run_file.specs.Reading.{row_at}
-use Rattle.run_merge.specs.Heads.{entry_at, IsAtEntry}
-use Rattle.run_merge.proofs.Standing.{two_fields, value_is}
+use Rattle.run_file.specs.AtEntries.{entry_at, IsAtEntry}
+use Rattle.run_file.proofs.Standing.{two_fields, value_is}
 
 -- the value of a group's entry has its bytes
 pub value_size : (aggs : List Agg) (reader : ReaderView) → ∥ IsAtEntry (Group aggs) reader ∥₁ → length (entry_at reader).value ≡ 16 * length aggs

@@ -5,21 +5,19 @@ use Rattle.std.proofs.lemmas.List.{append-nil, length-append, map-append}
 use Rattle.aggregate.specs.Rows.{entries_of, entry_of}
 use Rattle.aggregate.specs.declared.kind.Kind.TheVariants.{Order}
 use Rattle.aggregate.specs.Totals.{Entry}
-use Rattle.row_page.specs.Pages.{PageView}
 use Rattle.spill_disk.specs.Files.{Files}
 use Rattle.run_file.specs.declared.form.Form.TheVariants.{Entries}
 use Rattle.run_file.specs.declared.run.Run.{Run}
 use Rattle.run_file.specs.declared.run.RunFault.{RunFault}
 use Rattle.run_file.specs.Causes.{NotDamaged}
 use Rattle.run_file.specs.Forms.{IsWellFormed}
-use Rattle.run_file.specs.Runs.{Counts, IsFileOf}
+use Rattle.run_file.specs.Several.{IsFileAmong, greatest_of}
+use Rattle.run_file.specs.Writing.{IsSoFar, IsWritten, WriterView}
+use Rattle.run_file.specs.Shelved.{SameBut}
+use Rattle.run_file.proofs.Among.{all_join}
 use Rattle.run_merge.specs.declared.merge.Merge.{Merge}
 use Rattle.run_merge.specs.Becoming.{WritesAll}
-use Rattle.run_merge.specs.Merged.{IsFileAmong}
 use Rattle.run_merge.specs.Merging.{Falls, GoesOn, IsToCome, kind_of, left_of, row_of, runs_of}
-use Rattle.run_merge.specs.Runs.{greatest_of}
-use Rattle.run_merge.specs.Touching.{IsSoFar, SameBut}
-use Rattle.run_merge.proofs.Among.{all_join}
 use Rattle.run_merge.proofs.Kept.{IsSame, kept_beside, to_come_kept}
 
 -- some entries are still to come, and these rows were those before them
@@ -30,17 +28,17 @@ pub record IsLeftOf (now : ℕ → Option Files) (merge : Merge) (rows : List (L
 
 -- rows that a merge gave since it was `first` and the files as at the start; where the run's file is none of the merge's, they
 -- are those before the entries that are still to come
-pub record IsUnderway (start now : ℕ → Option Files) (to : ℕ) (first merge : Merge) (run : Run) (page : PageView) (apart : Type 0) : Type 0 where
+pub record IsUnderway (start now : ℕ → Option Files) (to : ℕ) (first merge : Merge) (writer : WriterView) (apart : Type 0) : Type 0 where
   pub rows : List (List (List ℕ))
-  pub so_far : IsSoFar (now to) run page rows
+  pub so_far : IsSoFar (now to) writer rows
   pub formed : AllByRecursion (IsWellFormed (Entries (kind_of first)) (greatest_of (runs_of first))) rows
   pub gives : apart → (entries : List Entry) → IsToCome start first entries → IsLeftOf now merge rows entries
   pub counted : kind_of first ≡ Order → length rows + left_of merge ≡ left_of first
 
-pub underway_none : (start : ℕ → Option Files) (to room : ℕ) (first : Merge) (run : Run) (apart : Type 0) → Counts run [] → IsFileOf (start to) run.file [] → IsUnderway start start to first first run (record { rows = []; room = room }) apart
-underway_none start to room first run apart counts file = record {
+pub underway_none : (start : ℕ → Option Files) (to : ℕ) (first : Merge) (writer : WriterView) (apart : Type 0) → IsSoFar (start to) writer [] → IsUnderway start start to first first writer apart
+underway_none start to first writer apart begun = record {
   rows = [];
-  so_far = record { written = []; counts = counts; file = file; are = refl };
+  so_far = begun;
   formed = tt;
   gives = λ _ entries come. record { rest = entries; come = come; whole = refl };
   counted = λ order. omega arith;
@@ -62,25 +60,25 @@ more_left mid after merge rows entries (entry ∷ rest) same whole goes =
     }
 
 -- what is known of the calls of one step
-pub record Steps (now mid after : ℕ → Option Files) (named : ℕ → ℕ) (to file : ℕ) (first merge merge' : Merge) (run run' : Run) (page page' : PageView) (row : List (List ℕ)) : Type 0 where
+pub record Steps (now mid after : ℕ → Option Files) (named : ℕ → ℕ) (to file : ℕ) (first merge merge' : Merge) (writer writer' : WriterView) (row : List (List ℕ)) : Type 0 where
   pub left : (j : ℕ) → mid j ≡ now j
   pub goes : (entries : List Entry) → IsToCome now merge entries → GoesOn mid merge' entries (Ok true)
   pub formed : IsWellFormed (Entries (kind_of merge')) (greatest_of (runs_of merge')) (row_of merge')
   pub runs : runs_of merge' ≡ runs_of first
   pub kind : kind_of merge' ≡ kind_of first
   pub row_is : row ≡ row_of merge'
-  pub put : (rows : List (List (List ℕ))) → IsSoFar (mid to) run page rows → IsSoFar (after to) run' page' (rows ++ row ∷ [])
+  pub put : (rows : List (List (List ℕ))) → IsSoFar (mid to) writer rows → IsSoFar (after to) writer' (rows ++ row ∷ [])
   pub same : SameBut named mid after to file
   pub falls : Falls merge merge' (Ok true)
   pub kind_was : kind_of merge ≡ kind_of first
 
-pub underway_more : (start now mid after : ℕ → Option Files) (named : ℕ → ℕ) (to file : ℕ) (first merge merge' : Merge) (run run' : Run) (page page' : PageView) (row : List (List ℕ)) (apart : Type 0) → (apart → IsFileAmong named (runs_of first) to file → ⊥)
-    → Steps now mid after named to file first merge merge' run run' page page' row → IsUnderway start now to first merge run page apart → IsUnderway start after to first merge' run' page' apart
-underway_more start now mid after named to file first merge merge' run run' page page' row apart is_apart step before = record {
+pub underway_more : (start now mid after : ℕ → Option Files) (named : ℕ → ℕ) (to file : ℕ) (first merge merge' : Merge) (writer writer' : WriterView) (row : List (List ℕ)) (apart : Type 0) → (apart → IsFileAmong named (runs_of first) to file → ⊥)
+    → Steps now mid after named to file first merge merge' writer writer' row → IsUnderway start now to first merge writer apart → IsUnderway start after to first merge' writer' apart
+underway_more start now mid after named to file first merge merge' writer writer' row apart is_apart step before = record {
   rows = before.rows ++ row_of merge' ∷ [];
   so_far =
-      subst (λ (r : List (List ℕ)). IsSoFar (after to) run' page' (before.rows ++ r ∷ [])) step.row_is
-      (step.put before.rows (subst (λ (files : Option Files). IsSoFar files run page before.rows) (sym (step.left to)) before.so_far));
+      subst (λ (r : List (List ℕ)). IsSoFar (after to) writer' (before.rows ++ r ∷ [])) step.row_is
+      (step.put before.rows (subst (λ (files : Option Files). IsSoFar files writer before.rows) (sym (step.left to)) before.so_far));
   formed =
       let given : IsWellFormed (Entries (kind_of first)) (greatest_of (runs_of first)) (row_of merge') = rw (← step.kind, ← step.runs) step.formed in
       all_join (IsWellFormed (Entries (kind_of first)) (greatest_of (runs_of first))) before.rows (row_of merge' ∷ []) before.formed (given, tt);
@@ -104,18 +102,18 @@ pub goes_undamaged : (now : ℕ → Option Files) (merge : Merge) (rest : List E
 goes_undamaged now merge [] fault goes = goes
 goes_undamaged now merge (entry ∷ rest) fault goes = goes
 
--- the last page was written, and nothing is left
-pub underway_all : (start now mid after : ℕ → Option Files) (to : ℕ) (first merge merge' : Merge) (run run' : Run) (page : PageView) (apart : Type 0) → IsUnderway start now to first merge run page apart → ((j : ℕ) → mid j ≡ now j) → ((entries : List Entry) → IsToCome now merge entries → GoesOn mid merge' entries (Ok false)) → left_of merge ≡ 0
-    → ((rows : List (List (List ℕ))) → IsFileOf (mid to) run.file rows → IsFileOf (after to) run'.file (rows ++ page.rows)) → ((rows : List (List (List ℕ))) → Counts run rows → Counts run' (rows ++ page.rows)) → WritesAll start first (after to) run' apart
-underway_all start now mid after to first merge merge' run run' page apart before left goes none written counts = record {
-  rows = before.rows;
-  counts = subst (λ (rows : List (List (List ℕ))). Counts run' rows) (sym before.so_far.are) (counts before.so_far.written before.so_far.counts);
-  file =
-      subst (λ (rows : List (List (List ℕ))). IsFileOf (after to) run'.file rows) (sym before.so_far.are)
-      (written before.so_far.written (subst (λ (files : Option Files). IsFileOf files run.file before.so_far.written) (sym (left to)) before.so_far.file));
-  formed = before.formed;
-  are = λ known entries come.
-      let last = before.gives known entries come in
-      none_left mid merge' before.rows entries last.rest last.whole (goes last.rest last.come);
-  counted = λ order. omega (arith, before.counted order, none);
-}
+-- the run was finished, and nothing is left
+pub underway_all : (start now mid after : ℕ → Option Files) (to : ℕ) (first merge merge' : Merge) (writer : WriterView) (run : Run) (apart : Type 0) → IsUnderway start now to first merge writer apart → ((j : ℕ) → mid j ≡ now j) → ((entries : List Entry) → IsToCome now merge entries → GoesOn mid merge' entries (Ok false)) → left_of merge ≡ 0
+    → ((rows : List (List (List ℕ))) → IsSoFar (mid to) writer rows → IsWritten (after to) run rows) → WritesAll start first (after to) run apart
+underway_all start now mid after to first merge merge' writer run apart before left goes none written =
+    let done = written before.rows (subst (λ (files : Option Files). IsSoFar files writer before.rows) (sym (left to)) before.so_far) in
+    record {
+      rows = before.rows;
+      counts = done.counts;
+      file = done.file;
+      formed = before.formed;
+      are = λ known entries come.
+          let last = before.gives known entries come in
+          none_left mid merge' before.rows entries last.rest last.whole (goes last.rest last.come);
+      counted = λ order. omega (arith, before.counted order, none);
+    }

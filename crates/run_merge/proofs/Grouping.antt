@@ -14,13 +14,12 @@ use Rattle.run_file.specs.declared.form.Form.TheVariants.{Entries}
 use Rattle.run_file.specs.declared.run.Run.{Run}
 use Rattle.run_file.specs.Forms.{HasForm, IsWellFormed}
 use Rattle.run_file.specs.Runs.{Counts, IsFileOf, Stands, greatest_cost}
+use Rattle.run_file.specs.Several.{SameOthers, IsFileAmong, HasEntries, HaveEntries, concatenated, greatest_of, run_at}
+use Rattle.run_file.specs.Shelved.{IsGone, IsGoneOn, SameBut}
+use Rattle.run_file.proofs.Among.{among_one, apart_one, is_among_one}
 use Rattle.run_merge.specs.declared.merge.Merge.{Merge}
-use Rattle.run_merge.specs.Becoming.{AreGone, Becomes, SameOthers, WritesAll}
-use Rattle.run_merge.specs.Merged.{IsFileAmong, IsGone}
+use Rattle.run_merge.specs.Becoming.{AreGone, Becomes, WritesAll}
 use Rattle.run_merge.specs.Merging.{Begins, IsToCome, kind_of, left_of, runs_of}
-use Rattle.run_merge.specs.Runs.{HasEntries, HaveEntries, concatenated, greatest_of, run_at}
-use Rattle.run_merge.specs.Touching.{IsGoneOn, SameBut}
-use Rattle.run_merge.proofs.Among.{among_one, apart_one, is_among_one}
 use Rattle.run_merge.proofs.Ascending.{own_total, total_ascends}
 use Rattle.run_merge.proofs.Damage.{one_is}
 use Rattle.run_merge.proofs.Kept.{has_kept, have_kept, have_there, kept_beside}

@@ -18,9 +18,10 @@ use Rattle.run_file.specs.Readers.{ReaderView}
 use Rattle.run_file.specs.Forms.{HasForm}
 use Rattle.run_merge.specs.Giving.{AreComing, AllAbove, Gives, IsTaken, NoneBelow}
 use Rattle.run_file.specs.Reading.{row_at}
-use Rattle.run_merge.specs.Heads.{entry_at, has_head, IsFirst}
+use Rattle.run_file.specs.AtEntries.{entry_at}
+use Rattle.run_file.specs.Several.{concatenated}
+use Rattle.run_merge.specs.Heads.{has_head, IsFirst}
 use Rattle.run_merge.specs.Merging.{AreLeft}
-use Rattle.run_merge.specs.Runs.{concatenated}
 use Rattle.run_merge.proofs.Inserting.{insert_first, insert_joined, joint, total-keys}
 use Rattle.run_merge.proofs.KeyOrders.{apart_less, less_not_gt}
 use Rattle.run_merge.proofs.Rising.{all_at, all_concatenated, all_entries, all_set, all_weaker, others_ascend, others_behind, pulled, rows_above, rows_not_below}

@@ -12,12 +12,11 @@ use Rattle.run_file.specs.declared.run.Run.{Run}
 use Rattle.run_file.specs.Readers.{ReaderView, known_ahead, run_of}
 use Rattle.run_file.specs.Reading.{ArePage, IsAhead}
 use Rattle.run_file.specs.Runs.{Counts, Stands}
+use Rattle.run_file.specs.Several.{IsFileAmong, HasEntries, HaveEntries, run_at}
+use Rattle.run_file.specs.Shelved.{IsGone, file_in, SameBut}
+use Rattle.run_file.proofs.Among.{among_left, among_right, is_among_one}
 use Rattle.run_merge.specs.declared.merge.Merge.{Merge}
-use Rattle.run_merge.specs.Merged.{IsFileAmong, IsGone}
 use Rattle.run_merge.specs.Merging.{AreLeft, IsLeft, IsToCome, runs_of}
-use Rattle.run_merge.specs.Runs.{HasEntries, HaveEntries, run_at}
-use Rattle.run_merge.specs.Touching.{file_in, SameBut}
-use Rattle.run_merge.proofs.Among.{among_left, among_right, is_among_one}
 
 -- a run's file is as before
 abbrev pub IsSame : (ℕ → Option Files) → (ℕ → Option Files) → Run → Type 0

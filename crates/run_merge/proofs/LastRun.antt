@@ -6,9 +6,9 @@ use Rattle.aggregate.specs.declared.kind.Kind.{Kind}
 use Rattle.aggregate.specs.Totals.{Entry, total}
 use Rattle.spill_disk.specs.Files.{Files}
 use Rattle.run_file.specs.declared.run.Run.{Run}
+use Rattle.run_file.specs.Several.{HasEntries, HaveEntries, concatenated}
 use Rattle.run_merge.specs.Becoming.{ComesTo}
 use Rattle.run_merge.specs.Merged.{IsFresh, Merges, answered}
-use Rattle.run_merge.specs.Runs.{HasEntries, HaveEntries, concatenated}
 use Rattle.run_merge.proofs.Ascending.{own_total}
 
 -- one run alone has the total of its entries, which ascend

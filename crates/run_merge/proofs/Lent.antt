@@ -7,11 +7,11 @@ use Rattle.spill_disk.specs.Files.{Files}
 use Rattle.run_file.specs.declared.run.Run.{Run}
 use Rattle.run_file.specs.declared.run.RunFault.{RunFault}
 use Rattle.run_file.specs.declared.run.RunFault.TheVariants.{DiskFault, Damaged, NoMemory}
+use Rattle.run_file.specs.Several.{greatest_of}
 use Rattle.run_merge.specs.declared.merge.Merge.{Merge}
 use Rattle.run_merge.specs.Causes.{HasCauseAmong, IsDamageIn}
 use Rattle.run_merge.specs.Lending.{LendsFirst, LendsFormed}
 use Rattle.run_merge.specs.Merging.{runs_of, kind_of, row_of, GivesFormed, GoesOn, TellsDamage}
-use Rattle.run_merge.specs.Runs.{greatest_of}
 use Rattle.run_merge.proofs.Damage.{damage_of_runs}
 
 pub lent_first : (files : ℕ → Option Files) (after : Merge) (entries : List Entry) (given : RowView) → fields_in given ≡ row_of after → GoesOn files after entries (Ok true) → LendsFirst entries (Ok (Some given))

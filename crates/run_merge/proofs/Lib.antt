@@ -1,4 +1,3 @@
-pub mod Standing
 pub mod KeyOrders
 pub mod Places
 pub mod Firsts
@@ -9,16 +8,13 @@ pub mod Joining
 pub mod Formed
 pub mod Beginning
 pub mod Finishing
-pub mod Among
 pub mod Damage
 pub mod Lent
 pub mod Ascending
 pub mod Becoming
-pub mod Changing
 pub mod Clearing
 pub mod LastRun
 pub mod Gathering
 pub mod Grouping
 pub mod Kept
 pub mod Rounding
-pub mod Shelves

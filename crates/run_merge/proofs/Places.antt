@@ -17,10 +17,11 @@ use Rattle.run_file.specs.Causes.{NotDamaged, damage_in}
 use Rattle.run_file.specs.declared.form.Form.{Form}
 use Rattle.run_file.specs.declared.form.Form.TheVariants.{Entries}
 use Rattle.run_file.specs.Reading.{IsAhead, TellsDamage}
+use Rattle.run_file.specs.AtEntries.{IsAtEntry}
+use Rattle.run_file.specs.Several.{AreOn}
 use Rattle.run_merge.specs.Giving.{LetsOn}
-use Rattle.run_merge.specs.Heads.{EachReader, has_head, IsAtEntry, AreAtEntries, AreOfKind, AreAhead, one_if}
+use Rattle.run_merge.specs.Heads.{EachReader, has_head, AreAtEntries, AreOfKind, AreAhead, one_if}
 use Rattle.run_merge.specs.Merging.{IsLeft, AreLeft, TellsDamageIn, left_by}
-use Rattle.run_merge.specs.Runs.{AreOn}
 
 -- a fact of each reader, after one of them became another
 pub each_set : (readers : List ReaderView) (i : ℕ) (new : ReaderView) (P Q : ℕ → ReaderView → Type 0) → i < length readers → EachReader readers P

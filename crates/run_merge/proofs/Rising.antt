@@ -12,7 +12,7 @@ use Rattle.aggregate.specs.declared.kind.Kind.TheVariants.{Group, Order}
 use Rattle.aggregate.specs.Rows.{Ascends, StandsBefore, entries_of, entry_of}
 use Rattle.aggregate.specs.Totals.{Entry, insert_entry, key_cmp, total}
 use Rattle.run_merge.specs.Giving.{AllAbove, NoneBelow}
-use Rattle.run_merge.specs.Runs.{concatenated}
+use Rattle.run_file.specs.Several.{concatenated}
 use Rattle.run_merge.proofs.KeyOrders.{less_not_gt, less_upto}
 use Rattle.run_merge.proofs.Inserting.{total_behind}
 

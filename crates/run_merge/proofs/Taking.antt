@@ -4,10 +4,10 @@ use Rattle.std.specs.Prelude.{Option}
 use Rattle.spill_disk.specs.Files.{Files}
 use Rattle.run_file.specs.Readers.{ReaderView}
 use Rattle.run_file.specs.Reading.{row_at}
+use Rattle.run_file.proofs.Standing.{row_at-is}
 use Rattle.run_merge.specs.Heads.{has_head}
 use Rattle.run_merge.specs.Merging.{AreLeft, IsLeft}
 use Rattle.run_merge.proofs.Places.{left_at}
-use Rattle.run_merge.proofs.Standing.{row_at-is}
 
 abbrev Row : Type 0
 Row = List (List ℕ)

@@ -7,7 +7,8 @@ use Rattle.run_file.specs.declared.run.Run.{Run}
 use Rattle.run_file.specs.declared.run.RunFault.{RunFault}
 use Rattle.run_file.specs.declared.run.RunFault.TheVariants.{DiskFault, Damaged, NoMemory}
 use Rattle.run_file.specs.Causes.{damage_in}
-use Rattle.run_merge.specs.Merged.{IsFileAmong, IsGone}
+use Rattle.run_file.specs.Several.{IsFileAmong}
+use Rattle.run_file.specs.Shelved.{IsGone}
 
 -- a fault of a disk is told only where its count rose
 abbrev pub HasCauseAmong : {T : Type 0} → (ℕ → ℕ) → (ℕ → ℕ) → Result T RunFault → Type 0

@@ -13,9 +13,9 @@ use Rattle.run_file.specs.declared.run.RunFault.{RunFault}
 use Rattle.run_file.specs.Readers.{ReaderView}
 use Rattle.run_file.specs.Causes.{NotDamaged}
 use Rattle.run_file.specs.Forms.{HasForm}
+use Rattle.run_file.specs.Several.{concatenated}
 use Rattle.run_merge.specs.Heads.{has_head}
 use Rattle.run_merge.specs.Merging.{AreLeft, IsLeft}
-use Rattle.run_merge.specs.Runs.{concatenated}
 
 -- these entries are still to come: the total of what is left of the runs, the runs in order
 pub record AreComing (files : ℕ → Option Files) (begun : Bool) (kind : Kind) (readers : List ReaderView) (heads : List Bool) (entries : List Entry) : Type 0 where

@@ -4,16 +4,10 @@ use Rattle.std.specs.Prelude.{◌≡◌, ℕ, ◌+◌, ◌<◌, ◌≤◌, Bool,
 use Rattle.std.specs.Ordering.{is_gt}
 use Rattle.std.specs.declared.cmp.Ordering.TheVariants.{Less}
 use Rattle.aggregate.specs.declared.kind.Kind.{Kind}
-use Rattle.aggregate.specs.Totals.{Entry, key_cmp}
-use Rattle.aggregate.specs.Rows.{entry_of}
+use Rattle.aggregate.specs.Totals.{key_cmp}
 use Rattle.run_file.specs.declared.form.Form.TheVariants.{Entries}
 use Rattle.run_file.specs.Readers.{ReaderView, form_of, found_of, run_of}
-use Rattle.run_file.specs.Forms.{IsWellFormed}
-use Rattle.run_file.specs.Reading.{IsAtRow, row_at}
-
--- that row as an entry
-abbrev pub entry_at : ReaderView → Entry
-entry_at reader = entry_of (row_at reader)
+use Rattle.run_file.specs.AtEntries.{IsAtEntry, entry_at}
 
 -- a fact of each of these readers and its place
 abbrev pub EachReader : List ReaderView → (ℕ → ReaderView → Type 0) → Type 0
@@ -22,11 +16,6 @@ EachReader readers P = (k : ℕ) (reader : ReaderView) → k < length readers �
 -- the reader with this number stands at a row
 abbrev pub has_head : List Bool → ℕ → Bool
 has_head heads k = slice_index_or heads k false
-
--- it stands at a row that is an entry of this kind
-pub record IsAtEntry (kind : Kind) (reader : ReaderView) : Type 0 where
-  pub there : IsAtRow reader (row_at reader)
-  pub formed : IsWellFormed (Entries kind) (run_of reader).greatest (row_at reader)
 
 -- each reader with a head stands at an entry
 abbrev pub AreAtEntries : Kind → List ReaderView → List Bool → Type 0

@@ -1,9 +1,7 @@
-pub mod Runs
 pub mod Heads
 pub mod Merging
 pub mod Giving
 pub mod Lending
 pub mod Merged
 pub mod Causes
-pub mod Touching
 pub mod Becoming

@@ -16,9 +16,9 @@ use Rattle.run_file.specs.Readers.{ReaderView, found_of, run_of}
 use Rattle.run_file.specs.Causes.{NotDamaged, damage_in}
 use Rattle.run_file.specs.Forms.{HasForm, IsWellFormed}
 use Rattle.run_file.specs.Reading.{IsAtRow, IsAhead, IsDamagedAhead}
+use Rattle.run_file.specs.Several.{HaveEntries, concatenated}
 use Rattle.run_merge.specs.declared.merge.Merge.{Merge}
 use Rattle.run_merge.specs.Heads.{one_if}
-use Rattle.run_merge.specs.Runs.{HaveEntries, concatenated}
 
 -- the runs that it merges, in their order
 abbrev pub runs_of : Merge → List Run

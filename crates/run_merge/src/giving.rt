@@ -10,7 +10,6 @@ ghost use Rattle.run_file.specs.Forms.{IsWellFormed};
 ghost use Rattle.run_merge.specs.Giving.{AreComing, IsTaken, Gives};
 ghost use Rattle.run_merge.specs.Heads.{AreAtEntries, IsFirst, OnlyFalls, one_if};
 
-use crate::heads::{key_of, value_of};
 use aggregate::{AggList, combine, combine_is_associative};
 use row_page::RowBuf;
 use run_file::RunReader;
@@ -51,7 +50,7 @@ pub(crate) fn give_alone(
     ensures one { OnOk result (sum_by one_if heads.new.items + 1 ≡ sum_by one_if heads.old.items) }
 {
     let reader = &readers[first];
-    put_row(row, key_of(reader), value_of(reader))?;
+    put_row(row, reader.key(), reader.value())?;
     heads[first] = false;
     Ok(())
 }
@@ -79,10 +78,10 @@ pub(crate) fn give_joined(
 {
     let reader = &readers[first];
     value.clear();
-    value.extend_from_slice(value_of(reader))?;
+    value.extend_from_slice(reader.value())?;
     heads[first] = false;
-    join_others(aggs, readers, heads, first, key_of(reader), value);
-    put_row(row, key_of(reader), value)
+    join_others(aggs, readers, heads, first, reader.key(), value);
+    put_row(row, reader.key(), value)
 }
 
 /// Joins the values of later readers that stand at the same key, and takes their rows as given.
@@ -135,9 +134,9 @@ fn join_one(
         return;
     }
     let reader = &readers[i];
-    if key_of(reader) != key {
+    if reader.key() != key {
         return;
     }
-    combine(aggs, value, value_of(reader));
+    combine(aggs, value, reader.value());
     heads[i] = false;
 }

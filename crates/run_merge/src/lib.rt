@@ -7,8 +7,6 @@ mod merge;
 mod one_group;
 mod one_run;
 mod rounds;
-mod run_pages;
-mod shelf_calls;
 
 pub use merge::Merge;
 pub use one_run::merge_all;

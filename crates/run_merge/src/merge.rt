@@ -41,12 +41,12 @@ impl Merge {
     ghost use Rattle.row_page.specs.Views.{fields_in};
     ghost use Rattle.spill_disk.specs.Files.{Files};
     ghost use Rattle.run_file.specs.Shelved.{files_on, faults_on, LeavesFiles};
+    ghost use Rattle.run_file.specs.Several.{AreOn, greatest_of};
     ghost use Rattle.run_merge.specs.Causes.{HasCauseAmong, IsDamageIn};
     ghost use Rattle.run_merge.specs.Giving.{AreComing};
     ghost use Rattle.run_merge.specs.Heads.{IsFirst};
     ghost use Rattle.run_merge.specs.Lending.{LendsFirst, LendsFormed, StandsAfter};
     ghost use Rattle.run_merge.specs.Merging.{runs_of, kind_of, kept_of, row_of, left_of, Begins, IsToCome, GoesOn, GivesFormed, Falls, TellsDamage};
-    ghost use Rattle.run_merge.specs.Runs.{AreOn, greatest_of};
     ghost use Rattle.run_merge.specs.contracts.merge.Merge.{the_row};
 
     /// A merge of these runs, whose entries are of this kind. It reads nothing yet.

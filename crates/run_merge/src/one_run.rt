@@ -4,10 +4,10 @@ ghost use Rattle.std.specs.Prelude.{◌≡◌, ◌<◌, ◌≤◌, ◌∷◌, []
 ghost use Rattle.aggregate.specs.Totals.{Entry};
 ghost use Rattle.aggregate.specs.declared.kind.Kind.TheVariants.{Order};
 ghost use Rattle.run_file.specs.declared.run.Run.{Run};
-ghost use Rattle.run_file.specs.Shelved.{files_on, faults_on, LeavesFiles};
+ghost use Rattle.run_file.specs.Shelved.{files_on, faults_on, LeavesFiles, KeepsShelf};
+ghost use Rattle.run_file.specs.Several.{KeepsOthers, AreApart, AreOn, HaveEntries, greatest_of};
 ghost use Rattle.run_merge.specs.Causes.{HasCauseAmong, IsDamageAmong};
-ghost use Rattle.run_merge.specs.Merged.{Merges, KeepsOthers, LeavesOnly, IsFresh, KeepsShelf, answered};
-ghost use Rattle.run_merge.specs.Runs.{AreApart, AreOn, HaveEntries, greatest_of};
+ghost use Rattle.run_merge.specs.Merged.{Merges, LeavesOnly, IsFresh, answered};
 
 use crate::rounds::merge_rounds;
 use aggregate::Kind;

@@ -3,7 +3,7 @@ use Rattle.std.proofs.lemmas.List.{take_at}
 use Rattle.std.proofs.lemmas.Result.{on_ok_weaker}
 use Rattle.aggregate.specs.declared.kind.Kind.TheVariants.{Group}
 use Rattle.run_merge.specs.Giving.{IsTaken}
-use Rattle.run_merge.specs.Heads.{entry_at}
+use Rattle.run_file.specs.AtEntries.{entry_at}
 use Rattle.run_merge.proofs.Firsts.{read_again}
 use Rattle.run_merge.proofs.Formed.{formed_alike, value_size}
 use Rattle.run_merge.proofs.Joining.{group_given, group_taken}
@@ -13,29 +13,29 @@ pub join_others-requires-clause-value : goal.join_others-requires-clause-value
 join_others-requires-clause-value c =
     let first = c.index-readers-first.result in
     let at = c.requires.stand c.args.first first c.requires.first.within c.index-readers-first.is c.requires.first.stands in
-    let put : c.deref_mut.result.now ≡ (entry_at first).value = rw (c.deref_mut.ensures.value, c.in_ok-extend_from_slice.ensures.items, c.clear.ensures.items) c.value_of.ensures in
+    let put : c.deref_mut.result.now ≡ (entry_at first).value = rw (c.deref_mut.ensures.value, c.in_ok-extend_from_slice.ensures.items, c.clear.ensures.items) c.value.ensures in
     ap length put ∙ value_size c.args.aggs.now first at
 
 pub returns-clause-gives : goal.returns-clause-gives
 returns-clause-gives c =
     let first = c.index-readers-first.result in
-    let put : c.deref_mut.result.now ≡ (entry_at first).value = rw (c.deref_mut.ensures.value, c.in_ok-extend_from_slice.ensures.items, c.clear.ensures.items) c.value_of.ensures in
+    let put : c.deref_mut.result.now ≡ (entry_at first).value = rw (c.deref_mut.ensures.value, c.in_ok-extend_from_slice.ensures.items, c.clear.ensures.items) c.value.ensures in
     let whole : c.deref.result.now ≡ c.join_others.new.value = c.deref.ensures.value ∙ take_at c.join_others.new.value _ c.extend_from_slice.new.self.len (c.join_others.auto.value ∙ c.deref_mut.ensures.len) in
     on_ok_weaker c.put_row.result (λ row files entries coming.
     let taken = group_taken files c.args.aggs.now c.args.readers.now c.args.heads.now.items c.args.first first entries c.index-readers-first.is c.requires.first coming in
-    let read : IsTaken files (Group c.args.aggs.now) c.args.readers.now (set c.args.heads.now.items c.args.first false) (c.args.first + 1) (record { key = c.key_of.result.now; value = c.deref_mut.result.now }) entries =
-    rw (c.key_of.ensures, put) taken in
+    let read : IsTaken files (Group c.args.aggs.now) c.args.readers.now (set c.args.heads.now.items c.args.first false) (c.args.first + 1) (record { key = c.key.result.now; value = c.deref_mut.result.now }) entries =
+    rw (c.key.ensures, put) taken in
     let joined = c.join_others.ensures.joins files entries read in
-    let row_is : c.put_row.new.row ≡ c.key_of.result.now ∷ (c.join_others.new.value ∷ []) = row ∙ rw (whole, c.key_of-2.ensures, c.key_of.ensures) refl in
-    group_given files c.args.aggs.now c.args.readers.now c.join_others.new.heads.items c.put_row.new.row (record { key = c.key_of.result.now; value = c.join_others.new.value }) entries row_is joined) c.put_row.ensures
+    let row_is : c.put_row.new.row ≡ c.key.result.now ∷ (c.join_others.new.value ∷ []) = row ∙ rw (whole, c.key-2.ensures, c.key.ensures) refl in
+    group_given files c.args.aggs.now c.args.readers.now c.join_others.new.heads.items c.put_row.new.row (record { key = c.key.result.now; value = c.join_others.new.value }) entries row_is joined) c.put_row.ensures
 
 pub returns-clause-formed : goal.returns-clause-formed
 returns-clause-formed c =
     let first = c.index-readers-first.result in
     let at = c.requires.stand c.args.first first c.requires.first.within c.index-readers-first.is c.requires.first.stands in
-    let put : c.deref_mut.result.now ≡ (entry_at first).value = rw (c.deref_mut.ensures.value, c.in_ok-extend_from_slice.ensures.items, c.clear.ensures.items) c.value_of.ensures in
+    let put : c.deref_mut.result.now ≡ (entry_at first).value = rw (c.deref_mut.ensures.value, c.in_ok-extend_from_slice.ensures.items, c.clear.ensures.items) c.value.ensures in
     let whole : c.deref.result.now ≡ c.join_others.new.value = c.deref.ensures.value ∙ take_at c.join_others.new.value _ c.extend_from_slice.new.self.len (c.join_others.auto.value ∙ c.deref_mut.ensures.len) in
     on_ok_weaker c.put_row.result (λ row reader is.
     let same : reader ≡ first = read_again c.args.readers.now c.args.first c.args.first first reader c.requires.first.within refl c.index-readers-first.is is in
-    let row_is : c.put_row.new.row ≡ (entry_at first).key ∷ (c.join_others.new.value ∷ []) = row ∙ rw (whole, c.key_of-2.ensures) refl in
+    let row_is : c.put_row.new.row ≡ (entry_at first).key ∷ (c.join_others.new.value ∷ []) = row ∙ rw (whole, c.key-2.ensures) refl in
     rw same (formed_alike (Group c.args.aggs.now) first c.put_row.new.row c.join_others.new.value at (c.join_others.auto.value ∙ ap length put) row_is)) c.put_row.ensures

@@ -1,5 +1,6 @@
 use Rattle.std.proofs.Common.{◌≡◌, ◌∙◌, ap, true, length, sym, arith}
-use Rattle.run_merge.specs.Heads.{entry_at, has_head}
+use Rattle.run_file.specs.AtEntries.{entry_at}
+use Rattle.run_merge.specs.Heads.{has_head}
 use Rattle.run_merge.proofs.Places.{head_read}
 use Rattle.run_merge.proofs.KeyOrders.{other_bytes, same_bytes}
 use Rattle.run_merge.proofs.Formed.{value_size}
@@ -10,19 +11,19 @@ pub returns-then-ne-clause-joins : goal.returns-then-ne-clause-joins
 returns-then-ne-clause-joins c files entries taken =
     let reader = c.index-readers-i.result in
     let head : has_head c.args.heads.now.items c.args.i ≡ true = head_read c.args.heads.now.items c.args.i c.index.result.now (omega (arith, c.requires.heads, c.requires.within)) c.index.ensures ∙ c.if-not-index.false in
-    let differ : (entry_at reader).key ≡ c.args.key.now → ⊥ = other_bytes (entry_at reader).key c.args.key.now (rw c.key_of.ensures at (sym c.ne.ensures ∙ c.if-ne.true)) in
+    let differ : (entry_at reader).key ≡ c.args.key.now → ⊥ = other_bytes (entry_at reader).key c.args.key.now (rw c.key.ensures at (sym c.ne.ensures ∙ c.if-ne.true)) in
     joined_apart files c.args.aggs.now c.args.readers.now c.args.heads.now.items c.args.i reader (record { key = c.args.key.now; value = c.args.value.now }) entries c.requires.within c.index-readers-i.is head differ taken
 
 pub combine-requires-clause-from : goal.combine-requires-clause-from
 combine-requires-clause-from c =
     let reader = c.index-readers-i.result in
     let head : has_head c.args.heads.now.items c.args.i ≡ true = head_read c.args.heads.now.items c.args.i c.index.result.now (omega (arith, c.requires.heads, c.requires.within)) c.index.ensures ∙ c.if-not-index.false in
-    ap length c.value_of.ensures ∙ value_size c.args.aggs.now reader (c.requires.stand c.args.i reader c.requires.within c.index-readers-i.is head)
+    ap length c.value.ensures ∙ value_size c.args.aggs.now reader (c.requires.stand c.args.i reader c.requires.within c.index-readers-i.is head)
 
 pub returns-clause-joins : goal.returns-clause-joins
 returns-clause-joins c files entries taken =
     let reader = c.index-readers-i.result in
     let head : has_head c.args.heads.now.items c.args.i ≡ true = head_read c.args.heads.now.items c.args.i c.index.result.now (omega (arith, c.requires.heads, c.requires.within)) c.index.ensures ∙ c.if-not-index.false in
-    let same : (entry_at reader).key ≡ c.args.key.now = same_bytes (entry_at reader).key c.args.key.now (rw c.key_of.ensures at (sym c.ne.ensures ∙ c.if-ne.false)) in
+    let same : (entry_at reader).key ≡ c.args.key.now = same_bytes (entry_at reader).key c.args.key.now (rw c.key.ensures at (sym c.ne.ensures ∙ c.if-ne.false)) in
     let joined = joined_one files c.args.aggs.now c.combine_is_associative.ensures c.args.readers.now c.args.heads.now.items c.args.i reader (record { key = c.args.key.now; value = c.args.value.now }) entries c.requires.within c.index-readers-i.is head same taken in
-    rw (c.combine.ensures, c.value_of.ensures) joined
+    rw (c.combine.ensures, c.value.ensures) joined

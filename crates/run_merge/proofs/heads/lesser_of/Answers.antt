@@ -1,7 +1,8 @@
 use Rattle.std.proofs.Common.{◌≡◌, ◌<◌, length, true, false, rules, arith}
 use Rattle.std.specs.Ordering.{is_lt}
 use Rattle.aggregate.specs.Totals.{key_cmp}
-use Rattle.run_merge.specs.Heads.{has_head, entry_at}
+use Rattle.run_file.specs.AtEntries.{entry_at}
+use Rattle.run_merge.specs.Heads.{has_head}
 use Rattle.run_merge.proofs.KeyOrders.{lt_less, not_lt_back}
 use Rattle.run_merge.proofs.Firsts.{first_alone, first_lower, first_stays}
 use Rattle.run_merge.proofs.heads.lesser_of.Goals as goal

@@ -3,9 +3,9 @@ use Rattle.std.specs.Prelude.{slice_index}
 use Rattle.aggregate.specs.declared.kind.Kind.{Kind}
 use Rattle.run_file.specs.Readers.{run_of}
 use Rattle.run_file.specs.Shelved.{files_on, LeavesFiles}
+use Rattle.run_file.specs.Several.{AreOn}
 use Rattle.run_merge.specs.Heads.{has_head, AreAtEntries, AreOfKind, AreAhead}
 use Rattle.run_merge.specs.Merging.{AreLeft, left_by}
-use Rattle.run_merge.specs.Runs.{AreOn}
 use Rattle.run_merge.proofs.heads.let_all_on.Given as goal
 
 abbrev pub invariant-loop-i : goal.invariant-loop-i

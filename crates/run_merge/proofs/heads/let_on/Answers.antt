@@ -1,7 +1,7 @@
 use Rattle.std.proofs.Common.{true, Ok, ap, ◌∙◌}
 use Rattle.run_file.specs.Readers.{form_of}
 use Rattle.run_file.specs.Reading.{Moves, TakesRow}
-use Rattle.run_merge.proofs.Standing.{entry_taken}
+use Rattle.run_file.proofs.Standing.{entry_taken}
 use Rattle.run_merge.proofs.heads.let_on.Goals as goal
 
 pub returns-then-branch-clause-stands : goal.returns-then-branch-clause-stands

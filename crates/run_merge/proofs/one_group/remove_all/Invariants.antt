@@ -1,7 +1,7 @@
 use Rattle.std.proofs.Common.{take}
-use Rattle.run_file.specs.Shelved.{files_on}
-use Rattle.run_merge.specs.Becoming.{AreGone, SameOthers}
-use Rattle.run_merge.specs.Merged.{KeepsShelf}
+use Rattle.run_file.specs.Shelved.{files_on, KeepsShelf}
+use Rattle.run_file.specs.Several.{SameOthers}
+use Rattle.run_merge.specs.Becoming.{AreGone}
 use Rattle.run_merge.proofs.one_group.remove_all.Given as goal
 
 abbrev pub invariant-loop-run : goal.invariant-loop-run

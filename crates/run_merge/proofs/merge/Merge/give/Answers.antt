@@ -5,7 +5,7 @@ use Rattle.aggregate.specs.declared.kind.Kind.TheVariants.{Group, Order}
 use Rattle.run_file.specs.declared.form.Form.TheVariants.{Entries}
 use Rattle.run_file.specs.Forms.{IsWellFormed}
 use Rattle.run_file.specs.Readers.{run_of}
-use Rattle.run_merge.specs.Runs.{greatest_of}
+use Rattle.run_file.specs.Several.{greatest_of}
 use Rattle.run_merge.proofs.Finishing.{formed_among, goes_on}
 use Rattle.run_merge.proofs.merge.Merge.give.Goals as goal
 

@@ -3,8 +3,8 @@ use Rattle.std.proofs.lemmas.List.{length_push}
 use Rattle.run_file.specs.declared.form.Form.TheVariants.{Entries}
 use Rattle.run_file.specs.Readers.{form_of, run_of}
 use Rattle.run_file.specs.Reading.{Begins}
+use Rattle.run_file.specs.Several.{run_at}
 use Rattle.run_merge.specs.Heads.{EachReader}
-use Rattle.run_merge.specs.Runs.{run_at}
 use Rattle.run_merge.proofs.Beginning.{ahead_push, all_begin, each_push, heads_push, left_push, runs_push}
 use Rattle.run_merge.proofs.merge.Merge.new.Goals as goal
 
