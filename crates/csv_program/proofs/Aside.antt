@@ -8,7 +8,7 @@ use Rattle.aggregate.specs.Totals.{Entry, total}
 use Rattle.aggregate.specs.declared.kind.Kind.{Kind}
 use Rattle.spill_disk.specs.Files.{Files}
 use Rattle.run_file.specs.declared.run.Run.{Run}
-use Rattle.run_merge.specs.Runs.{HasEntries, HaveEntries, concatenated}
+use Rattle.run_file.specs.Several.{HasEntries, HaveEntries, concatenated}
 use Rattle.task_runner.specs.Answers.{HasCauseAmong, MergesTotal}
 use Rattle.task_runner.specs.declared.post.Post.{Post}
 use Rattle.task_runner.specs.declared.work_fault.WorkFault.{WorkFault}
@@ -39,7 +39,7 @@ merges_alike files files' kind lists (Ok None) same merges = merges
 merges_alike files files' kind lists (Ok (Some run)) same merges = subst (λ (f : Option Files). HasEntries f kind run (total kind (concatenated lists))) (sym (same run.disk)) merges
 merges_alike files files' kind lists (Err (NoRoom asked held floor)) same merges = tt
 merges_alike files files' kind lists (Err (DiskFault post)) same merges = tt
-merges_alike files files' kind lists (Err (Damaged post file kept found)) same merges = merges
+merges_alike files files' kind lists (Err (Damaged damage)) same merges = merges
 merges_alike files files' kind lists (Err NoMemory) same merges = tt
 
 -- ---- why a call gave up
@@ -48,5 +48,5 @@ pub cause_around : {T : Type 0} (before mid mid' after : ℕ → ℕ) (answer : 
 cause_around before mid mid' after (Ok x) first last cause = tt
 cause_around before mid mid' after (Err (NoRoom asked held floor)) first last cause = tt
 cause_around before mid mid' after (Err (DiskFault post)) first last cause = let low = first post in let high = last post in omega (arith, low, high, cause)
-cause_around before mid mid' after (Err (Damaged post file kept found)) first last cause = cause
+cause_around before mid mid' after (Err (Damaged damage)) first last cause = cause
 cause_around before mid mid' after (Err NoMemory) first last cause = tt

@@ -17,7 +17,7 @@ use Rattle.csv_program.specs.declared.outcome.Status.TheVariants as status
 outside_by : {T : Type 0} (says : T → Type 0) (fault : WorkFault) → IfSound says (Err fault) → IsOutside (status_of_work fault)
 outside_by says (NoRoom asked held floor) sound = _
 outside_by says (DiskFault post) sound = _
-outside_by says (Damaged post file kept found) sound = absurd sound
+outside_by says (Damaged damage) sound = absurd sound
 outside_by says NoMemory sound = _
 
 pub outside_work : {T : Type 0} (says : T → Type 0) (result : Result T WorkFault) (fault : WorkFault) (ended : Status) → result ≡ Err fault → IfSound says result → ended ≡ status_of_work fault → IsOutside ended
@@ -26,7 +26,7 @@ outside_work says result fault ended is sound tells = subst IsOutside (sym tells
 not_done : (fault : WorkFault) → status_of_work fault ≡ status.Done → ⊥
 not_done (NoRoom asked held floor) e = cc e
 not_done (DiskFault post) e = cc e
-not_done (Damaged post file kept found) e = cc e
+not_done (Damaged damage) e = cc e
 not_done NoMemory e = cc e
 
 -- a fault isn't the end of a whole run

@@ -7,7 +7,7 @@ use Rattle.spill_disk.specs.Files.{Files}
 use Rattle.consumer_trait.specs.States.{State}
 use Rattle.run_file.specs.Runs.{Stands}
 use Rattle.run_file.specs.declared.run.Run.{Run}
-use Rattle.run_merge.specs.Runs.{run_at}
+use Rattle.run_file.specs.Several.{run_at}
 use Rattle.job_plan.specs.Columns.{Fields, over_kept}
 use Rattle.job_plan.specs.Entries.{kind_of}
 use Rattle.job_plan.specs.Plans.{IsPlanOf, kind_at, no_shape}

@@ -74,7 +74,7 @@ pub room_more : {T : Type 0} (says tells : ℕ → ℕ → ℕ → Type 0) (answ
 room_more says tells (Ok x) more room = tt
 room_more says tells (Err (NoRoom asked held floor)) more room = more asked held floor room
 room_more says tells (Err (DiskFault post)) more room = tt
-room_more says tells (Err (Damaged post file kept found)) more room = tt
+room_more says tells (Err (Damaged damage)) more room = tt
 room_more says tells (Err NoMemory) more room = tt
 
 -- want of room that a worker's own entries show is in the journal

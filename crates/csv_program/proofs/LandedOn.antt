@@ -4,7 +4,7 @@ use Rattle.std.specs.Prelude.{IfErr, IfOk, IsSome}
 use Rattle.spill_disk.specs.Files.{Files}
 use Rattle.run_file.specs.Runs.{Stands}
 use Rattle.run_file.specs.declared.run.Run.{Run}
-use Rattle.run_merge.specs.Runs.{run_at}
+use Rattle.run_file.specs.Several.{run_at}
 use Rattle.job_plan.specs.Columns.{Fields}
 use Rattle.job_text.specs.declared.job.Job.{Job}
 use Rattle.landing.specs.Landed.{AreLanded, HasCauseAmong, Lands, partition_of}

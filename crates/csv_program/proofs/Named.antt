@@ -5,7 +5,7 @@ use Rattle.std.proofs.lemmas.Bool.{false≢true}
 use Rattle.spill_disk.specs.Files.{Files}
 use Rattle.run_file.specs.declared.run.Run.{Run}
 use Rattle.run_merge.specs.Causes.{is_run_in}
-use Rattle.run_merge.specs.Runs.{AreOn}
+use Rattle.run_file.specs.Several.{AreOn}
 use Rattle.run_merge.proofs.Damage.{in_cases, in_or_not, one_is}
 use Rattle.task_runner.specs.Answers.{TellsAmong}
 use Rattle.task_runner.specs.declared.work_fault.WorkFault.{WorkFault}
@@ -24,8 +24,8 @@ pub final_named : (T : Type 0) (named : ℕ → ℕ) (before : ℕ → Option Fi
 final_named T named before runs (Ok x) told count some on = tt
 final_named T named before runs (Err (NoRoom asked held floor)) told count some on = tt
 final_named T named before runs (Err (DiskFault post)) told count some on = tt
-final_named T named before runs (Err (Damaged post file kept found)) told count some on = elim (in_or_not runs post file kept) [
-  | inl is ↦ in_on count runs post file kept on is
+final_named T named before runs (Err (Damaged damage)) told count some on = elim (in_or_not runs damage.disk damage.file damage.kept) [
+  | inl is ↦ in_on count runs damage.disk damage.file damage.kept on is
   | inr none ↦ subst (λ (d : ℕ). d < count) (sym (told.0 none)) some
 ]
 final_named T named before runs (Err NoMemory) told count some on = tt

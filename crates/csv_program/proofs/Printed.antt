@@ -5,7 +5,7 @@ use Rattle.aggregate.specs.Totals.{Entry}
 use Rattle.aggregate.specs.declared.kind.Kind.{Kind}
 use Rattle.spill_disk.specs.Files.{Files}
 use Rattle.run_file.specs.declared.run.Run.{Run}
-use Rattle.run_merge.specs.Runs.{HasEntries}
+use Rattle.run_file.specs.Several.{HasEntries}
 use Rattle.result_table.specs.Results.{FindsNoDamage, HasResult}
 use Rattle.result_table.specs.declared.print_fault.PrintFault.{PrintFault}
 use Rattle.result_table.specs.declared.print_fault.PrintFault.TheVariants.{WriteFault, DiskFault, Damaged, NoMemory}
@@ -16,7 +16,7 @@ use Rattle.csv_program.specs.declared.outcome.Status.{Status}
 outside_print : (fault : PrintFault) → FindsNoDamage (Err fault) → IsOutside (status_of_print fault)
 outside_print WriteFault none = _
 outside_print (DiskFault disk) none = _
-outside_print (Damaged disk file kept found) none = absurd none
+outside_print (Damaged damage) none = absurd none
 outside_print NoMemory none = _
 
 -- a table that could not be printed, though its entries can be told, tells a fault of the outside

@@ -4,8 +4,8 @@ use Rattle.std.specs.Prelude.{IsSome, is_some}
 use Rattle.std.specs.FinMap as map
 use Rattle.spill_disk.specs.Files.{Files}
 use Rattle.run_file.specs.declared.run.Run.{Run}
-use Rattle.run_merge.specs.Merged.{IsFileAmong, KeepsFile, KeepsOthers}
-use Rattle.run_merge.specs.Runs.{no_run, run_at}
+use Rattle.run_file.specs.Several.{IsFileAmong, KeepsFile, KeepsOthers}
+use Rattle.run_file.specs.Several.{no_run, run_at}
 use Rattle.spill_stack.specs.Writing.{WasNotThere}
 use Rattle.task_runner.specs.Pass.{AreInNewFiles, KeepsAll}
 

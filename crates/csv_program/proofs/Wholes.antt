@@ -5,7 +5,7 @@ use Rattle.std.proofs.Math.Nat.{lt-mul-div-succ, suc-mul}
 use Rattle.std.proofs.Math.Seq.{take-add}
 use Rattle.std.proofs.lemmas.List.{map-append, take_all}
 use Rattle.aggregate.specs.Totals.{Entry, total}
-use Rattle.run_merge.specs.Runs.{concatenated}
+use Rattle.run_file.specs.Several.{concatenated}
 use Rattle.job_plan.specs.Columns.{Fields}
 use Rattle.job_plan.specs.Entries.{entry_of}
 use Rattle.job_plan.specs.Plans.{kept_at, kind_at}

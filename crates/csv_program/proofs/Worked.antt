@@ -10,8 +10,8 @@ use Rattle.aggregate.specs.declared.kind.Kind.{Kind}
 use Rattle.spill_disk.specs.Files.{Files}
 use Rattle.run_file.specs.Runs.{Stands}
 use Rattle.run_file.specs.declared.run.Run.{Run}
-use Rattle.run_merge.specs.Merged.{KeepsFile}
-use Rattle.run_merge.specs.Runs.{AreApart, AreOn, HasEntries, HaveEntries, concatenated, run_at}
+use Rattle.run_file.specs.Several.{KeepsFile}
+use Rattle.run_file.specs.Several.{AreApart, AreOn, HasEntries, HaveEntries, concatenated, run_at}
 use Rattle.consumer_trait.specs.States.{State}
 use Rattle.job_answer.specs.Parts.{PartsTellAll}
 use Rattle.job_plan.specs.Plans.{form_in, kind_at}
@@ -98,7 +98,7 @@ result_by files kind lists all (Ok None) same merges = sym same ∙ ap (λ (ls :
 result_by files kind lists all (Ok (Some run)) same merges = subst (HasEntries (files run.disk) kind run) same merges
 result_by files kind lists all (Err (NoRoom asked held floor)) same merges = tt
 result_by files kind lists all (Err (DiskFault post)) same merges = tt
-result_by files kind lists all (Err (Damaged post file kept found)) same merges = merges
+result_by files kind lists all (Err (Damaged damage)) same merges = merges
 result_by files kind lists all (Err NoMemory) same merges = tt
 
 -- the merged runs of all partitions are the result of all rows

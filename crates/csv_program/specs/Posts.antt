@@ -38,7 +38,7 @@ abbrev pub DamagedOn : {T : Type 0} → Result T WorkFault → (ℕ → Type 0) 
 DamagedOn (Ok x) P = ⊤
 DamagedOn (Err (NoRoom asked held floor)) P = ⊤
 DamagedOn (Err (DiskFault post)) P = ⊤
-DamagedOn (Err (Damaged post file kept found)) P = P post
+DamagedOn (Err (Damaged damage)) P = P damage.disk
 DamagedOn (Err NoMemory) P = ⊤
 
 -- the disks of the workers' posts tell

@@ -2,6 +2,7 @@
 -- This project's own.
 use Rattle.result_table.specs.declared.print_fault.PrintFault.{PrintFault}
 use Rattle.result_table.specs.declared.print_fault.PrintFault.TheVariants as print_fault
+use Rattle.run_file.specs.declared.run.Damage.{Damage}
 use Rattle.run_file.specs.declared.run.RunFault.{RunFault}
 use Rattle.run_file.specs.declared.run.RunFault.TheVariants as run_fault
 use Rattle.task_runner.specs.declared.work_fault.WorkFault.{WorkFault}
@@ -9,22 +10,26 @@ use Rattle.task_runner.specs.declared.work_fault.WorkFault.TheVariants as work_f
 use Rattle.csv_program.specs.declared.outcome.Status.{Status}
 use Rattle.csv_program.specs.declared.outcome.Status.TheVariants as status
 
+-- that of damage: its disk is the number of a post
+abbrev pub status_of_damage : Damage → Status
+status_of_damage damage = status.Damaged damage.disk damage.file damage.kept damage.found
+
 -- that of a fault of a run
 abbrev pub status_of_run : RunFault → Status
 status_of_run (run_fault.DiskFault disk) = status.DiskFault disk
-status_of_run (run_fault.Damaged disk file kept found) = status.Damaged disk file kept found
+status_of_run (run_fault.Damaged damage) = status_of_damage damage
 status_of_run run_fault.NoMemory = status.NoMemory
 
 -- that of a fault of a table
 abbrev pub status_of_print : PrintFault → Status
 status_of_print print_fault.WriteFault = status.WriteFault
 status_of_print (print_fault.DiskFault disk) = status.DiskFault disk
-status_of_print (print_fault.Damaged disk file kept found) = status.Damaged disk file kept found
+status_of_print (print_fault.Damaged damage) = status_of_damage damage
 status_of_print print_fault.NoMemory = status.NoMemory
 
 -- that of a fault of a task
 abbrev pub status_of_work : WorkFault → Status
 status_of_work (work_fault.NoRoom asked held floor) = status.NoRoom asked held floor
 status_of_work (work_fault.DiskFault post) = status.DiskFault post
-status_of_work (work_fault.Damaged post file kept found) = status.Damaged post file kept found
+status_of_work (work_fault.Damaged damage) = status_of_damage damage
 status_of_work work_fault.NoMemory = status.NoMemory

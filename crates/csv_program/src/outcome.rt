@@ -2,11 +2,15 @@
 
 ghost use Rattle.std.specs.Prelude.{◌≡◌, [], None};
 ghost use Rattle.csv_program.specs.Statuses.{number_of};
+ghost use Rattle.csv_program.specs.Telling.{status_of_damage, status_of_print, status_of_run, status_of_work};
 
 use aggregate::Key;
 use item_lists::Name;
 use pool_ledger::{Journal, Setup};
+use result_table::PrintFault;
+use run_file::{Damage, RunFault};
 use std::alloc::Global;
+use task_runner::WorkFault;
 use thiserror::Error;
 
 /// How a run ended. The texts are those on standard error; after `Done` there is none. Rows are numbered from 1, and the header
@@ -122,6 +126,57 @@ impl Status {
             Status::DiskFault { .. } => 16,
             Status::Damaged { .. } => 17,
             Status::NoMemory => 18,
+        }
+    }
+}
+
+impl From<Damage> for Status {
+    ghost from_gives = { λ damage status. status ≡ status_of_damage damage };
+
+    fn from(damage: Damage) -> Status {
+        Status::Damaged {
+            post: damage.disk,
+            file: damage.file,
+            kept: damage.kept,
+            found: damage.found,
+        }
+    }
+}
+
+impl From<RunFault> for Status {
+    ghost from_gives = { λ fault status. status ≡ status_of_run fault };
+
+    fn from(fault: RunFault) -> Status {
+        match fault {
+            RunFault::DiskFault { disk } => Status::DiskFault { post: disk },
+            RunFault::Damaged(damage) => Status::from(damage),
+            RunFault::NoMemory => Status::NoMemory,
+        }
+    }
+}
+
+impl From<PrintFault> for Status {
+    ghost from_gives = { λ fault status. status ≡ status_of_print fault };
+
+    fn from(fault: PrintFault) -> Status {
+        match fault {
+            PrintFault::WriteFault => Status::WriteFault,
+            PrintFault::DiskFault { disk } => Status::DiskFault { post: disk },
+            PrintFault::Damaged(damage) => Status::from(damage),
+            PrintFault::NoMemory => Status::NoMemory,
+        }
+    }
+}
+
+impl From<WorkFault> for Status {
+    ghost from_gives = { λ fault status. status ≡ status_of_work fault };
+
+    fn from(fault: WorkFault) -> Status {
+        match fault {
+            WorkFault::NoRoom { asked, held, floor } => Status::NoRoom { asked, held, floor },
+            WorkFault::DiskFault { post } => Status::DiskFault { post },
+            WorkFault::Damaged(damage) => Status::from(damage),
+            WorkFault::NoMemory => Status::NoMemory,
         }
     }
 }

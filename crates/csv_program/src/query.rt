@@ -32,28 +32,6 @@ use std::alloc::Global;
 use std::sync::Wait;
 use task_runner::{Post, WorkFault};
 
-// The status that tells a fault of a task.
-fn work_status(fault: WorkFault) -> Status
-    ensures { result ≡ status_of_work fault }
-{
-    match fault {
-        WorkFault::NoRoom { asked, held, floor } => Status::NoRoom { asked, held, floor },
-        WorkFault::DiskFault { post } => Status::DiskFault { post },
-        WorkFault::Damaged {
-            post,
-            file,
-            kept,
-            found,
-        } => Status::Damaged {
-            post,
-            file,
-            kept,
-            found,
-        },
-        WorkFault::NoMemory => Status::NoMemory,
-    }
-}
-
 /// Does the tasks of a plan of one query over landed partitions, in a pool of these sizes, checks the sums, and prints the table.
 pub fn run_query<K: Disk, D: Disk, C: Consumer, W: Sink, B: Basis, R: Wait + Sync>(
     rt: &R,
@@ -123,7 +101,7 @@ pub fn run_query<K: Disk, D: Disk, C: Consumer, W: Sink, B: Basis, R: Wait + Syn
     };
     let status = match answer {
         Ok(answer) => print_answer(alloc, posts, plan, answer.as_ref(), output),
-        Err(fault) => work_status(fault),
+        Err(fault) => Status::from(fault),
     };
     Outcome {
         status,

@@ -53,49 +53,6 @@ fn find_wide<D: Disk, H: Shelf<D>>(
     }
 }
 
-// The status that tells a fault of a run.
-fn run_status(fault: RunFault) -> Status
-    ensures { result ≡ status_of_run fault }
-{
-    match fault {
-        RunFault::DiskFault { disk } => Status::DiskFault { post: disk },
-        RunFault::Damaged {
-            disk,
-            file,
-            kept,
-            found,
-        } => Status::Damaged {
-            post: disk,
-            file,
-            kept,
-            found,
-        },
-        RunFault::NoMemory => Status::NoMemory,
-    }
-}
-
-// The status that tells a fault of a table.
-fn print_status(fault: PrintFault) -> Status
-    ensures { result ≡ status_of_print fault }
-{
-    match fault {
-        PrintFault::WriteFault => Status::WriteFault,
-        PrintFault::DiskFault { disk } => Status::DiskFault { post: disk },
-        PrintFault::Damaged {
-            disk,
-            file,
-            kept,
-            found,
-        } => Status::Damaged {
-            post: disk,
-            file,
-            kept,
-            found,
-        },
-        PrintFault::NoMemory => Status::NoMemory,
-    }
-}
-
 // Checks the sums of the result, and prints the table where none is too wide.
 fn check_and_print<D: Disk, H: Shelf<D>, W: Sink>(
     alloc: Global,
@@ -129,10 +86,10 @@ fn check_and_print<D: Disk, H: Shelf<D>, W: Sink>(
     match find_wide(alloc, shelf, plan, answer) {
         Ok(None) => match print_table(alloc, shelf, answer, plan, 0, output) {
             Ok(()) => Status::Done,
-            Err(fault) => print_status(fault),
+            Err(fault) => Status::from(fault),
         },
         Ok(Some(key)) => Status::SumTooWide { query: 0, key },
-        Err(fault) => run_status(fault),
+        Err(fault) => Status::from(fault),
     }
 }
 

@@ -10,7 +10,7 @@ use Rattle.spill_stack.specs.declared.fault.SpillFault.TheVariants.{DiskFault, N
 -- a writer finds nothing damaged
 abbrev pub fault_by : RunFault → Fault
 fault_by (run_fault.DiskFault disk) = fault.DiskFault
-fault_by (run_fault.Damaged disk file kept found) = fault.NoMemory
+fault_by (run_fault.Damaged damage) = fault.NoMemory
 fault_by run_fault.NoMemory = fault.NoMemory
 
 abbrev pub spill_fault_by : Fault → SpillFault

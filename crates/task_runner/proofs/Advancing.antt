@@ -3,7 +3,7 @@ use Rattle.std.proofs.Common.{◌≡◌, ◌∙◌, ◌∷◌, ◌++◌, ◌+◌
 use Rattle.std.specs.Prelude.{Err}
 use Rattle.std.proofs.lemmas.List.{length-append}
 use Rattle.run_file.specs.declared.run.Run.{Run}
-use Rattle.run_merge.specs.Runs.{run_at}
+use Rattle.run_file.specs.Several.{run_at}
 use Rattle.turn_lock.specs.Passes.{PassState}
 use Rattle.memory_lock.specs.Workers.{IsFree, SeesMore}
 use Rattle.spill_stack.proofs.Holding.{prefix_self, prefix_trans}
@@ -140,5 +140,5 @@ some_more plan parts workers start now after answers first below may = elim may 
 pub sound_of : {A T : Type 0} (says : A → Type 0) (tells : T → Type 0) (fault : WorkFault) → IfSound says (Err fault) → IfSound tells (Err fault)
 sound_of says tells (NoRoom asked held floor) sound = tt
 sound_of says tells (DiskFault post) sound = tt
-sound_of says tells (Damaged post file kept found) sound = sound
+sound_of says tells (Damaged damage) sound = sound
 sound_of says tells NoMemory sound = tt

@@ -68,5 +68,5 @@ pub room_weaker : {T : Type 0} (says tells : ℕ → ℕ → ℕ → Type 0) (an
 room_weaker says tells (Ok x) more room = tt
 room_weaker says tells (Err (NoRoom asked held floor)) more room = more asked held floor room
 room_weaker says tells (Err (DiskFault post)) more room = tt
-room_weaker says tells (Err (Damaged post file kept found)) more room = tt
+room_weaker says tells (Err (Damaged damage)) more room = tt
 room_weaker says tells (Err NoMemory) more room = tt

@@ -9,9 +9,9 @@ use Rattle.aggregate.specs.declared.kind.Kind.{Kind}
 use Rattle.spill_disk.specs.Files.{Files}
 use Rattle.run_file.specs.Runs.{Stands}
 use Rattle.run_file.specs.declared.run.Run.{Run}
-use Rattle.run_merge.specs.Merged.{IsFileAmong}
-use Rattle.run_merge.specs.Runs.{AreApart, HaveEntries, concatenated}
-use Rattle.run_merge.proofs.Among.{all_at, all_join, among_left, among_right, apart_join, is_among_one}
+use Rattle.run_file.specs.Several.{IsFileAmong}
+use Rattle.run_file.specs.Several.{AreApart, HaveEntries, concatenated}
+use Rattle.run_file.proofs.Among.{all_at, all_join, among_left, among_right, apart_join, is_among_one}
 use Rattle.run_merge.proofs.Rising.{all_weaker}
 use Rattle.run_merge.proofs.Ascending.{concatenated-append}
 use Rattle.run_merge.proofs.Kept.{have_join}

@@ -12,7 +12,7 @@ use Rattle.spill_disk.specs.Files.{Files, bytes_of}
 use Rattle.run_file.specs.declared.form.Form.{Form}
 use Rattle.run_file.specs.declared.run.Run.{Run}
 use Rattle.run_file.specs.Runs.{Stands}
-use Rattle.run_merge.specs.Runs.{HasEntries}
+use Rattle.run_file.specs.Several.{HasEntries}
 use Rattle.spill_stack.specs.Disks.{KeepsFiles, SameAt}
 use Rattle.spill_stack.specs.Writing.{WasNotThere}
 use Rattle.spill_stack.proofs.Holding.{not_there_before}

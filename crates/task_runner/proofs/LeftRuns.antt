@@ -19,9 +19,11 @@ use Rattle.spill_stack.specs.Writing.{WasNotThere}
 use Rattle.spill_stack.proofs.Holding.{not_there_before}
 use Rattle.spill_stack.proofs.LongerTotals.{total_not_none}
 use Rattle.task_memory.specs.Draining.{taken_at}
-use Rattle.run_merge.specs.Merged.{IsFileAmong, IsFresh, IsGone, KeepsFile, LeavesOnly, SameFile, answered}
-use Rattle.run_merge.proofs.Among.{among_none, among_one, among_or_not}
-use Rattle.run_merge.specs.Runs.{AreApart, HasEntries, HaveEntries, concatenated}
+use Rattle.run_file.specs.Shelved.{IsGone}
+use Rattle.run_file.specs.Several.{IsFileAmong, KeepsFile, SameFile}
+use Rattle.run_merge.specs.Merged.{IsFresh, LeavesOnly, answered}
+use Rattle.run_file.proofs.Among.{among_none, among_one, among_or_not}
+use Rattle.run_file.specs.Several.{AreApart, HasEntries, HaveEntries, concatenated}
 use Rattle.task_runner.specs.Answers.{MergesTotal}
 use Rattle.task_runner.specs.Parts.{IsMade, LeavesOnlyAnswer, TellsTotal}
 use Rattle.task_runner.specs.Spilling.{LeavesRuns}
@@ -84,7 +86,7 @@ tells_by files kind entries drained lists are comes (Ok None) tells =
 tells_by files kind entries drained lists are comes (Ok (Some run)) tells = subst (λ (es : List Entry). HasEntries files kind run es) (ap (total kind) are ∙ comes) tells
 tells_by files kind entries drained lists are comes (Err (NoRoom asked held floor)) tells = tt
 tells_by files kind entries drained lists are comes (Err (DiskFault post)) tells = tt
-tells_by files kind entries drained lists are comes (Err (Damaged post file kept found)) tells = absurd tells
+tells_by files kind entries drained lists are comes (Err (Damaged damage)) tells = absurd tells
 tells_by files kind entries drained lists are comes (Err NoMemory) tells = tt
 
 telling_now : (before old : Option Files) → IsSome before → KeepsFiles before old → IsSome old

@@ -15,7 +15,6 @@ mod AtPosts
 mod Reaching
 mod OtherFaults
 mod WholePass
-mod RunRows
 mod Feeds
 mod Fields
 mod Drains

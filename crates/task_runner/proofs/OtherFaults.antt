@@ -9,12 +9,12 @@ use Rattle.task_runner.specs.declared.work_fault.WorkFault.TheVariants.{NoRoom, 
 pub cause_of : (T : Type 0) (before mid now : ℕ → ℕ) (fault : WorkFault) → ((place : ℕ) → before place ≤ mid place) → HasCauseAmong {T = T} mid now (Err fault) → HasCauseAmong {T = T} before now (Err fault)
 cause_of T before mid now (NoRoom asked held floor) later cause = tt
 cause_of T before mid now (DiskFault post) later cause = let least = later post in omega (arith, least, cause)
-cause_of T before mid now (Damaged post file kept found) later cause = cause
+cause_of T before mid now (Damaged damage) later cause = cause
 cause_of T before mid now NoMemory later cause = tt
 
 -- a fault that was given the number of a post names it
 pub names_post : (T : Type 0) (number : ℕ) (fault : WorkFault) → NamesPost {T = T} number (Err (named_as number fault))
 names_post T number (NoRoom asked held floor) = tt
 names_post T number (DiskFault post) = refl
-names_post T number (Damaged post file kept found) = refl
+names_post T number (Damaged damage) = refl
 names_post T number NoMemory = tt

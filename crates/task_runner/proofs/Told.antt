@@ -11,5 +11,5 @@ pub told_room : (says tells : ℕ → ℕ → ℕ → Type 0) (answer : Result (
 told_room says tells (Ok run) held so room = tt
 told_room says tells (Err (NoRoom asked was floor)) held so room = so asked was floor room
 told_room says tells (Err (DiskFault post)) held so room = tt
-told_room says tells (Err (Damaged post file kept found)) held so room = tt
+told_room says tells (Err (Damaged damage)) held so room = tt
 told_room says tells (Err NoMemory) held so room = tt

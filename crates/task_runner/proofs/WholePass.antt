@@ -6,8 +6,8 @@ use Rattle.std.proofs.Math.Nat.{mod-lt}
 use Rattle.std.proofs.lemmas.Bool.{cases_lt}
 use Rattle.spill_disk.specs.Files.{Files}
 use Rattle.run_file.specs.declared.run.Run.{Run}
-use Rattle.run_merge.specs.Merged.{IsFileAmong, KeepsFile}
-use Rattle.run_merge.specs.Runs.{run_at}
+use Rattle.run_file.specs.Several.{IsFileAmong, KeepsFile}
+use Rattle.run_file.specs.Several.{run_at}
 use Rattle.spill_stack.specs.Disks.{KeepsFiles, SameAt}
 use Rattle.spill_stack.specs.Writing.{WasNotThere}
 use Rattle.spill_stack.proofs.Sameness.{same_at_self}

@@ -4,7 +4,7 @@ use Rattle.std.specs.Prelude.{◌≡◌, ℕ, ◌<◌, ◌≤◌, List, [], Opti
 use Rattle.std.specs.Option.{option_and_then, option_map, option_map_or}
 use Rattle.spill_disk.specs.Files.{Files}
 use Rattle.run_file.specs.declared.run.Run.{Run}
-use Rattle.run_merge.specs.Runs.{run_at}
+use Rattle.run_file.specs.Several.{run_at}
 use Rattle.spill_stack.specs.Disks.{LeavesDisk}
 use Rattle.turn_lock.specs.Passes.{PassState}
 use Rattle.memory_lock.specs.Workers.{IsFree, KeepsPin, SeesMore}
@@ -22,7 +22,7 @@ use Rattle.task_runner.specs.declared.work_fault.WorkFault.TheVariants.{NoRoom, 
 abbrev pub named_as : ℕ → WorkFault → WorkFault
 named_as number (NoRoom asked held floor) = NoRoom asked held floor
 named_as number (DiskFault post) = DiskFault number
-named_as number (Damaged post file kept found) = Damaged number file kept found
+named_as number (Damaged damage) = Damaged (record damage { disk = number })
 named_as number NoMemory = NoMemory
 
 -- ---- a post that may be there

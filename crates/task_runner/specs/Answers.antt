@@ -7,17 +7,26 @@ use Rattle.aggregate.specs.declared.kind.Kind.{Kind}
 use Rattle.spill_disk.specs.Files.{Files}
 use Rattle.run_file.specs.declared.run.Run.{Run}
 use Rattle.run_merge.specs.Causes.{is_run_in}
-use Rattle.run_merge.specs.Merged.{IsFileAmong, IsGone}
-use Rattle.run_merge.specs.Runs.{HasEntries, concatenated}
+use Rattle.run_file.specs.Shelved.{IsGone}
+use Rattle.run_file.specs.Several.{IsFileAmong}
+use Rattle.run_file.specs.Several.{HasEntries, concatenated}
+use Rattle.run_file.specs.declared.run.RunFault.{RunFault}
+use Rattle.run_file.specs.declared.run.RunFault.TheVariants as run_fault
 use Rattle.task_runner.specs.declared.work_fault.WorkFault.{WorkFault}
 use Rattle.task_runner.specs.declared.work_fault.WorkFault.TheVariants.{NoRoom, DiskFault, Damaged, NoMemory}
+
+-- a fault of a run as that of a task
+abbrev pub fault_by : RunFault → WorkFault
+fault_by (run_fault.DiskFault disk) = DiskFault disk
+fault_by (run_fault.Damaged damage) = Damaged damage
+fault_by run_fault.NoMemory = NoMemory
 
 -- a fault of a disk is told only where its count rose, and damage where fewer rows were found than kept
 abbrev pub HasCauseAmong : {T : Type 0} → (ℕ → ℕ) → (ℕ → ℕ) → Result T WorkFault → Type 0
 HasCauseAmong before now (Ok x) = ⊤
 HasCauseAmong before now (Err (NoRoom asked held floor)) = ⊤
 HasCauseAmong before now (Err (DiskFault post)) = Rose (before post) (now post)
-HasCauseAmong before now (Err (Damaged post file kept found)) = found < kept
+HasCauseAmong before now (Err (Damaged damage)) = damage.found < damage.kept
 HasCauseAmong before now (Err NoMemory) = ⊤
 
 -- a merge of runs with these entries, a list for each, answers a run of all of them, and finds no damage
@@ -26,7 +35,7 @@ MergesTotal files kind lists (Ok None) = lists ≡ []
 MergesTotal files kind lists (Ok (Some run)) = HasEntries (files run.disk) kind run (total kind (concatenated lists))
 MergesTotal files kind lists (Err (NoRoom asked held floor)) = ⊤
 MergesTotal files kind lists (Err (DiskFault post)) = ⊤
-MergesTotal files kind lists (Err (Damaged post file kept found)) = ⊥
+MergesTotal files kind lists (Err (Damaged damage)) = ⊥
 MergesTotal files kind lists (Err NoMemory) = ⊤
 
 -- a fault of a disk, and damage, names this post
@@ -34,7 +43,7 @@ abbrev pub NamesPost : {T : Type 0} → ℕ → Result T WorkFault → Type 0
 NamesPost number (Ok x) = ⊤
 NamesPost number (Err (NoRoom asked held floor)) = ⊤
 NamesPost number (Err (DiskFault post)) = post ≡ number
-NamesPost number (Err (Damaged post file kept found)) = post ≡ number
+NamesPost number (Err (Damaged damage)) = damage.disk ≡ number
 NamesPost number (Err NoMemory) = ⊤
 
 -- a fault of a disk, and damage, names one of so many posts
@@ -42,7 +51,7 @@ abbrev pub NamesSomePost : {T : Type 0} → ℕ → Result T WorkFault → Type 
 NamesSomePost count (Ok x) = ⊤
 NamesSomePost count (Err (NoRoom asked held floor)) = ⊤
 NamesSomePost count (Err (DiskFault post)) = post < count
-NamesSomePost count (Err (Damaged post file kept found)) = post < count
+NamesSomePost count (Err (Damaged damage)) = damage.disk < count
 NamesSomePost count (Err NoMemory) = ⊤
 
 -- damage is told of one of these runs, or of one that was made of them on the disk `to`, whose file is one of theirs or wasn't
@@ -51,6 +60,7 @@ abbrev pub TellsAmong : {T : Type 0} → (ℕ → ℕ) → (ℕ → Option Files
 TellsAmong named before runs to (Ok x) = ⊤
 TellsAmong named before runs to (Err (NoRoom asked held floor)) = ⊤
 TellsAmong named before runs to (Err (DiskFault post)) = ⊤
-TellsAmong named before runs to (Err (Damaged post file kept found)) =
-    (is_run_in runs post file kept ≡ false → post ≡ to) × ((IsFileAmong named runs post file → ⊥) → IsGone (before post) file) × (found < kept)
+TellsAmong named before runs to (Err (Damaged damage)) =
+    (is_run_in runs damage.disk damage.file damage.kept ≡ false → damage.disk ≡ to)
+    × ((IsFileAmong named runs damage.disk damage.file → ⊥) → IsGone (before damage.disk) damage.file) × (damage.found < damage.kept)
 TellsAmong named before runs to (Err NoMemory) = ⊤

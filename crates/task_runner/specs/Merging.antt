@@ -3,7 +3,7 @@
 use Rattle.std.specs.Prelude.{◌≡◌, ℕ, ◌+◌, ◌*◌, ◌<◌, min, List, Option, Result, Ok, Err, length, ⊤}
 use Rattle.pool_ledger.specs.Sizes.{Sizes, floor_of}
 use Rattle.run_file.specs.declared.run.Run.{Run}
-use Rattle.run_merge.specs.Runs.{greatest_of}
+use Rattle.run_file.specs.Several.{greatest_of}
 use Rattle.spill_stack.specs.Accounts.{Held}
 use Rattle.task_runner.specs.declared.work_fault.WorkFault.{WorkFault}
 use Rattle.task_runner.specs.declared.work_fault.WorkFault.TheVariants.{NoRoom, DiskFault, Damaged, NoMemory}
@@ -28,7 +28,7 @@ abbrev pub told_with : Result (Option Run) WorkFault → ℕ → Result (Option 
 told_with (Ok answer) held = Ok answer
 told_with (Err (NoRoom asked was floor)) held = Err (NoRoom asked held floor)
 told_with (Err (DiskFault post)) held = Err (DiskFault post)
-told_with (Err (Damaged post file kept found)) held = Err (Damaged post file kept found)
+told_with (Err (Damaged damage)) held = Err (Damaged damage)
 told_with (Err NoMemory) held = Err NoMemory
 
 -- no fault of a disk is told
@@ -36,5 +36,5 @@ abbrev pub AsksNoDisk : {T : Type 0} → Result T WorkFault → Type 0
 AsksNoDisk (Ok x) = ⊤
 AsksNoDisk (Err (NoRoom asked held floor)) = ⊤
 AsksNoDisk (Err (DiskFault post)) = ⊥
-AsksNoDisk (Err (Damaged post file kept found)) = ⊥
+AsksNoDisk (Err (Damaged damage)) = ⊥
 AsksNoDisk (Err NoMemory) = ⊤

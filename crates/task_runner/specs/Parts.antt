@@ -9,7 +9,7 @@ use Rattle.run_file.specs.Forms.{HasForm}
 use Rattle.run_file.specs.Runs.{Stands}
 use Rattle.run_file.specs.declared.form.Form.{Form}
 use Rattle.run_file.specs.declared.run.Run.{Run}
-use Rattle.run_merge.specs.Runs.{HasEntries}
+use Rattle.run_file.specs.Several.{HasEntries}
 use Rattle.spill_stack.specs.Disks.{SameAt}
 use Rattle.spill_stack.specs.Writing.{WasNotThere}
 use Rattle.job_plan.specs.Entries.{entry_of}
@@ -33,7 +33,7 @@ TellsTotal files kind entries (Ok None) = entries ≡ []
 TellsTotal files kind entries (Ok (Some run)) = HasEntries files kind run (total kind entries)
 TellsTotal files kind entries (Err (NoRoom asked held floor)) = ⊤
 TellsTotal files kind entries (Err (DiskFault post)) = ⊤
-TellsTotal files kind entries (Err (Damaged post file kept found)) = ⊥
+TellsTotal files kind entries (Err (Damaged damage)) = ⊥
 TellsTotal files kind entries (Err NoMemory) = ⊤
 
 -- no file was made or changed but the answer's

@@ -7,8 +7,8 @@ use Rattle.aggregate.specs.Totals.{Entry, total}
 use Rattle.aggregate.specs.declared.kind.Kind.{Kind}
 use Rattle.spill_disk.specs.Files.{Files}
 use Rattle.run_file.specs.declared.run.Run.{Run}
-use Rattle.run_merge.specs.Merged.{IsFileAmong, KeepsFile}
-use Rattle.run_merge.specs.Runs.{AreApart, HaveEntries, concatenated}
+use Rattle.run_file.specs.Several.{IsFileAmong, KeepsFile}
+use Rattle.run_file.specs.Several.{AreApart, HaveEntries, concatenated}
 use Rattle.consumer_trait.specs.States.{State}
 use Rattle.spill_stack.specs.Disks.{SameAt}
 use Rattle.spill_stack.specs.Writing.{WasNotThere}

@@ -13,7 +13,7 @@ abbrev pub GivesRows : List (List (List ℕ)) → Result PageView WorkFault → 
 GivesRows rows (Ok page) = page.rows ≡ rows
 GivesRows rows (Err (NoRoom asked held floor)) = ⊤
 GivesRows rows (Err (DiskFault post)) = ⊤
-GivesRows rows (Err (Damaged post file kept found)) = ⊥
+GivesRows rows (Err (Damaged damage)) = ⊥
 GivesRows rows (Err NoMemory) = ⊤
 
 -- damage is told of this run, on this disk, of which fewer rows were found than it has
@@ -21,7 +21,7 @@ abbrev pub TellsRunOn : {T : Type 0} → ℕ → Run → Result T WorkFault → 
 TellsRunOn disk run (Ok x) = ⊤
 TellsRunOn disk run (Err (NoRoom asked held floor)) = ⊤
 TellsRunOn disk run (Err (DiskFault post)) = ⊤
-TellsRunOn disk run (Err (Damaged post file kept found)) = (post ≡ disk) × (file ≡ run.file) × (kept ≡ run.count) × (found < kept)
+TellsRunOn disk run (Err (Damaged damage)) = (damage.disk ≡ disk) × (damage.file ≡ run.file) × (damage.kept ≡ run.count) × (damage.found < damage.kept)
 TellsRunOn disk run (Err NoMemory) = ⊤
 
 -- damage is told of this run, on the one disk that there is

@@ -75,7 +75,7 @@ abbrev pub NeverDamaged : {T : Type 0} → Result T WorkFault → Type 0
 NeverDamaged (Ok x) = ⊤
 NeverDamaged (Err (NoRoom asked held floor)) = ⊤
 NeverDamaged (Err (DiskFault post)) = ⊤
-NeverDamaged (Err (Damaged post file kept found)) = ⊥
+NeverDamaged (Err (Damaged damage)) = ⊥
 NeverDamaged (Err NoMemory) = ⊤
 
 -- a refusal for want of room: the last attempt was granted less than it asked, and less than had to be got

@@ -6,7 +6,7 @@ use Rattle.aggregate.specs.declared.kind.Kind.{Kind}
 use Rattle.pool_ledger.specs.declared.entry.Entry.{Entry as JournalEntry}
 use Rattle.spill_disk.specs.Files.{Files}
 use Rattle.run_file.specs.declared.run.Run.{Run}
-use Rattle.run_merge.specs.Runs.{HasEntries, run_at}
+use Rattle.run_file.specs.Several.{HasEntries, run_at}
 use Rattle.spill_stack.specs.Disks.{SameAt}
 use Rattle.turn_lock.specs.Passes.{PassState}
 use Rattle.memory_lock.specs.Workers.{own_entries}
@@ -90,5 +90,5 @@ abbrev pub IfSound : {T : Type 0} → (T → Type 0) → Result T WorkFault → 
 IfSound says (Ok x) = says x
 IfSound says (Err (NoRoom asked held floor)) = ⊤
 IfSound says (Err (DiskFault post)) = ⊤
-IfSound says (Err (Damaged post file kept found)) = ⊥
+IfSound says (Err (Damaged damage)) = ⊥
 IfSound says (Err NoMemory) = ⊤

@@ -61,5 +61,5 @@ abbrev pub IfNoRoom : {T : Type 0} → Result T WorkFault → (ℕ → ℕ → �
 IfNoRoom (Ok x) says = ⊤
 IfNoRoom (Err (NoRoom asked held floor)) says = says asked held floor
 IfNoRoom (Err (DiskFault post)) says = ⊤
-IfNoRoom (Err (Damaged post file kept found)) says = ⊤
+IfNoRoom (Err (Damaged damage)) says = ⊤
 IfNoRoom (Err NoMemory) says = ⊤

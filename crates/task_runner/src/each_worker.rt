@@ -5,7 +5,7 @@ ghost use Rattle.pool_ledger.specs.History.{was_begun};
 ghost use Rattle.memory_lock.specs.Crew.{AreWorkers};
 ghost use Rattle.memory_lock.specs.Workers.{IsFree, own_of};
 ghost use Rattle.run_file.specs.Shelved.{faults_on, files_on};
-ghost use Rattle.run_merge.specs.Runs.{run_at};
+ghost use Rattle.run_file.specs.Several.{run_at};
 ghost use Rattle.spill_disk.specs.Shelves.{disk_at};
 ghost use Rattle.turn_lock.specs.Passes.{PassState};
 ghost use Rattle.job_plan.specs.Planning.{columns_of};

@@ -4,8 +4,10 @@ ghost use Rattle.std.specs.Prelude.{◌≡◌, ◌≤◌, ◌<◌, ◌↔◌, �
 ghost use Rattle.aggregate.specs.Totals.{Entry};
 ghost use Rattle.run_file.specs.declared.run.Run.{Run};
 ghost use Rattle.run_file.specs.Shelved.{faults_on, files_on};
-ghost use Rattle.run_merge.specs.Merged.{IsFresh, KeepsOthers, KeepsShelf, LeavesOnly, answered};
-ghost use Rattle.run_merge.specs.Runs.{AreApart, AreOn, HaveEntries};
+ghost use Rattle.run_file.specs.Shelved.{KeepsShelf};
+ghost use Rattle.run_file.specs.Several.{KeepsOthers};
+ghost use Rattle.run_merge.specs.Merged.{IsFresh, LeavesOnly, answered};
+ghost use Rattle.run_file.specs.Several.{AreApart, AreOn, HaveEntries};
 ghost use Rattle.spill_stack.specs.Attempts.{held_by};
 ghost use Rattle.task_runner.specs.Answers.{HasCauseAmong, MergesTotal, TellsAmong};
 ghost use Rattle.task_runner.specs.Merging.{reader_of};
@@ -14,7 +16,7 @@ ghost use Rattle.task_runner.specs.Works.{IfNoRoom};
 use crate::work_fault::WorkFault;
 use aggregate::Kind;
 use memory_lock::{Basis, Worker};
-use run_file::{Run, RunFault};
+use run_file::Run;
 use run_merge::merge_all;
 use spill_disk::{Disk, Shelf};
 use spill_stack::Account;
@@ -59,20 +61,6 @@ pub(crate) fn merge_at<K: Disk, D: Disk, H: Shelf<D>, B: Basis>(
 {
     match merge_all(alloc, shelf, runs, kind, fan_in, to) {
         Ok(answer) => Ok(answer),
-        Err(RunFault::DiskFault { disk }) => Err(WorkFault::DiskFault { post: disk }),
-        Err(
-            RunFault::Damaged {
-                disk,
-                file,
-                kept,
-                found,
-            },
-        ) => Err(WorkFault::Damaged {
-            post: disk,
-            file,
-            kept,
-            found,
-        }),
-        Err(RunFault::NoMemory) => Err(WorkFault::NoMemory),
+        Err(fault) => Err(WorkFault::from(fault)),
     }
 }

@@ -4,8 +4,10 @@ ghost use Rattle.std.specs.Prelude.{◌≡◌, ◌≤◌, ◌<◌, ◌↔◌, �
 ghost use Rattle.aggregate.specs.Totals.{Entry};
 ghost use Rattle.run_file.specs.declared.run.Run.{Run};
 ghost use Rattle.run_file.specs.Shelved.{faults_on, files_on};
-ghost use Rattle.run_merge.specs.Merged.{IsFresh, KeepsOthers, KeepsShelf, LeavesOnly, answered};
-ghost use Rattle.run_merge.specs.Runs.{AreApart, AreOn, HaveEntries};
+ghost use Rattle.run_file.specs.Shelved.{KeepsShelf};
+ghost use Rattle.run_file.specs.Several.{KeepsOthers};
+ghost use Rattle.run_merge.specs.Merged.{IsFresh, LeavesOnly, answered};
+ghost use Rattle.run_file.specs.Several.{AreApart, AreOn, HaveEntries};
 ghost use Rattle.spill_stack.specs.Attempts.{held_by};
 ghost use Rattle.spill_stack.specs.Going.{Goes, IsAtWork};
 ghost use Rattle.task_runner.specs.Answers.{HasCauseAmong, MergesTotal, TellsAmong};

@@ -22,7 +22,7 @@ use crate::worker::run_worker;
 use consumer_trait::Consumer;
 use job_plan::Plan;
 use memory_lock::{Basis, Manager, Worker};
-use run_file::Run;
+use run_file::{Damage, Run};
 use spill_disk::Disk;
 use std::alloc::Global;
 use std::sync::Wait;
@@ -135,17 +135,10 @@ fn named(fault: WorkFault, number: u32) -> WorkFault
 {
     match fault {
         WorkFault::DiskFault { .. } => WorkFault::DiskFault { post: number },
-        WorkFault::Damaged {
-            file,
-            kept,
-            found,
-            ..
-        } => WorkFault::Damaged {
-            post: number,
-            file,
-            kept,
-            found,
-        },
+        WorkFault::Damaged(damage) => WorkFault::Damaged(Damage {
+            disk: number,
+            ..damage
+        }),
         fault => fault,
     }
 }

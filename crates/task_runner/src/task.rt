@@ -68,7 +68,7 @@ pub fn run_task<K: Disk, D: Disk, C: Consumer, B: Basis, R: Wait + Sync>(
     ensures disk { LeavesDisk (D.files post.old.disk) (D.files post.new.disk) (D.faults post.old.disk) (D.faults post.new.disk) }
     ensures cause { HasCauseAmong (λ _. D.faults post.old.disk) (λ _. D.faults post.new.disk) result }
 {
-    let page = match read_landed(alloc, plan, landed, post) {
+    let page = match read_landed(alloc, plan, landed, &mut post.disk) {
         Ok(page) => page,
         Err(fault) => return Err(fault),
     };

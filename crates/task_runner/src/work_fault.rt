@@ -1,5 +1,9 @@
 //! Why a task gave up.
 
+ghost use Rattle.std.specs.Prelude.{◌≡◌};
+ghost use Rattle.task_runner.specs.Answers.{fault_by};
+
+use run_file::{Damage, RunFault};
 use thiserror::Error;
 
 /// Why a task gave up. It has ended, if it had begun.
@@ -17,14 +21,21 @@ pub enum WorkFault {
     DiskFault {
         post: u32,
     },
-    /// The row after the first `found` isn't well formed, of `kept` rows that were written.
-    #[error("disk of post {post} file {file}: {kept} entries kept, {found} found")]
-    Damaged {
-        post: u32,
-        file: u64,
-        kept: u64,
-        found: u64,
-    },
+    /// A file isn't what was written. The damage's disk is the number of a post.
+    #[error(transparent)]
+    Damaged(Damage),
     #[error("out of memory")]
     NoMemory,
+}
+
+impl From<RunFault> for WorkFault {
+    ghost from_gives = { λ fault result. result ≡ fault_by fault };
+
+    fn from(fault: RunFault) -> WorkFault {
+        match fault {
+            RunFault::DiskFault { disk } => WorkFault::DiskFault { post: disk },
+            RunFault::Damaged(damage) => WorkFault::Damaged(damage),
+            RunFault::NoMemory => WorkFault::NoMemory,
+        }
+    }
 }

@@ -3,7 +3,7 @@
 ghost use Rattle.std.specs.Prelude.{◌≡◌, ◌≤◌, ◌<◌, ◌+◌, ◌*◌, All, List, ℕ, Some, false, IfOk, OnOk, length, map};
 ghost use Rattle.pool_ledger.specs.History.{was_begun};
 ghost use Rattle.memory_lock.specs.Workers.{IsFree, KeepsPin, SeesMore, own_of};
-ghost use Rattle.run_merge.specs.Runs.{run_at};
+ghost use Rattle.run_file.specs.Several.{run_at};
 ghost use Rattle.spill_stack.specs.Disks.{LeavesDisk};
 ghost use Rattle.job_plan.specs.Planning.{columns_of};
 ghost use Rattle.job_plan.specs.Plans.{form_in, kept_in, kind_at};

@@ -4,7 +4,7 @@ use Rattle.std.proofs.lemmas.Result.{err_from_is_err_and}
 use Rattle.pool_ledger.specs.History.{was_begun}
 use Rattle.memory_lock.specs.Workers.{own_of}
 use Rattle.run_file.specs.declared.run.Run.{Run}
-use Rattle.run_merge.specs.Runs.{run_at}
+use Rattle.run_file.specs.Several.{run_at}
 use Rattle.job_plan.specs.Plans.{form_in, kind_at}
 use Rattle.task_runner.specs.OneWorker.{DoesFirst, DoesOne, Scene, scene_of}
 use Rattle.task_runner.specs.Parts.{HoldsRows}
