@@ -1,9 +1,9 @@
 -- A consumer as its callers see it.
 -- After Spark: MemoryConsumer, whose `used` this is. Stages and the least are this project's own.
-use Rattle.std.specs.Prelude.{◌≡◌, ℕ, ◌-◌, ◌*◌, ◌≤◌, Bool, false, List, [], Option, Some, None, length}
+use Rattle.std.specs.Prelude.{ℕ, ◌-◌, ◌≤◌, Bool, false, List, [], Option, Some, None, length}
 use Rattle.aggregate.specs.declared.kind.Kind.{Kind}
-use Rattle.aggregate.specs.declared.kind.Kind.TheVariants.{Group, Order}
 use Rattle.aggregate.specs.Totals.{Entry, costs, total}
+use Rattle.aggregate.specs.Values.{IsValueOf}
 
 -- how far a spill has come: whether it asked for bytes, wrote entries and gave bytes back, the room that there was when
 -- it began, and what it has still to write, ascending by key
@@ -39,16 +39,11 @@ abbrev pub total_by : Option Kind → List Entry → List Entry
 total_by None entries = entries
 total_by (Some kind) entries = total kind entries
 
--- a group's value has 16 bytes for each aggregate
-abbrev pub HasWidth : Kind → List ℕ → Type 0
-HasWidth (Group aggs) value = length value ≡ 16 * length aggs
-HasWidth Order value = Unit {0}
-
 -- an entry that a consumer of this kind may be fed
 pub record IsEntryOf (kind : Kind) (entry : Entry) : Type 0 where
   pub key_fits : length entry.key ≤ 131152
   pub value_fits : length entry.value ≤ 65568
-  pub width : HasWidth kind entry.value
+  pub width : IsValueOf kind entry.value
 
 -- the same under a kind, if there is one
 abbrev pub IsEntryBy : Option Kind → Entry → Type 0

@@ -7,7 +7,7 @@ ghost use Rattle.consumer_trait.specs.declared.answers.Fed.TheVariants.{Need};
 ghost use Rattle.consumer_trait.specs.Usages.{fields_of_entry};
 
 use crate::answers::Fed;
-use row_page::{Page, PageFault, RowBuf};
+use row_page::{Page, PageFault};
 
 /// The bytes that an entry is charged: 32, its key and its value.
 pub fn cost_of(key: &[u8], value: &[u8]) -> u64
@@ -28,14 +28,9 @@ pub fn need_of(must: u64) -> Fed
     }
 }
 
-/// Puts an entry on the page, through `row`, which may hold any. `Full` comes only where the page has rows:
-/// each entry has room on an empty one. After an `Err` the page is as it was.
-pub fn put_entry(
-    row: &mut RowBuf,
-    key: &[u8],
-    value: &[u8],
-    out: &mut Page,
-) -> Result<(), PageFault>
+/// Puts an entry on the page. `Full` comes only where the page has rows: each entry has room on an empty
+/// one. After an `Err` the page is as it was.
+pub fn put_entry(key: &[u8], value: &[u8], out: &mut Page) -> Result<(), PageFault>
     requires key_fits { length key.now ≤ 131152 }
     requires value_fits { length value.now ≤ 65568 }
     requires room { out.old.room ≡ 262144 }
@@ -45,8 +40,5 @@ pub fn put_entry(
     ensures err { OnErr result (out.new ≡ out.old) }
     ensures full { result ≡ Err Full → out.old.rows ≢ [] }
 {
-    row.clear();
-    row.add(key)?;
-    row.add(value)?;
-    out.push(row.view())
+    out.push_pair(key, value)
 }

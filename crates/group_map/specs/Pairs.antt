@@ -1,12 +1,13 @@
 -- Keys, and the value of each at its place in one list of bytes, as entries.
 -- This project's own.
-use Rattle.std.specs.Prelude.{◌≡◌, ℕ, ◌+◌, ◌*◌, List, [], ◌∷◌, ◌++◌, Bool, Option, Some, None, length, take, drop}
+use Rattle.std.specs.Prelude.{◌≡◌, ℕ, ◌+◌, List, [], ◌∷◌, ◌++◌, Bool, Option, Some, None, length, take, drop}
 use Rattle.std.specs.Global.{Vec}
 use Rattle.std.specs.List.{IsDistinct}
 use Rattle.std.specs.Ordering.{is_eq}
 use Rattle.aggregate.specs.declared.agg_list.Agg.{Agg}
 use Rattle.aggregate.specs.declared.kind.Kind.TheVariants.{Group}
 use Rattle.aggregate.specs.Totals.{Entry, costs, key_cmp, total}
+use Rattle.aggregate.specs.Values.{width}
 use Rattle.group_map.specs.declared.groups.Groups.{Groups}
 
 -- the entries: the value of the key at place i has `width` bytes from width * i on
@@ -30,10 +31,10 @@ AreApart entries = IsDistinct same_key entries
 abbrev pub HasLength : ℕ → Entry → Type 0
 HasLength bytes entry = length entry.value ≡ bytes
 
--- the bytes of a value: 16 for each aggregate
+-- the bytes of a value, once the aggregates are known
 abbrev pub width_of : Option (List Agg) → ℕ
 width_of None = 0
-width_of (Some aggs) = 16 * length aggs
+width_of (Some aggs) = width aggs
 
 -- a list of entries has one more taken in, which is charged so many bytes
 pub record TakesIn (aggs : List Agg) (old new : List Entry) (entry : Entry) (bytes : ℕ) : Type 0 where

@@ -10,8 +10,8 @@ ghost use Rattle.part_spiller.specs.Rows.{entries_of_rows, Puts};
 
 use crate::Row;
 use consumer_trait::{cost_of, put_entry};
-use row_page::{Page, PageFault, RowBuf};
-use std::alloc::{AllocError, Global};
+use row_page::{Page, PageFault};
+use std::alloc::AllocError;
 
 /// How many rows at the front have keys that never fall, at most `most`.
 pub fn front_of(rows: &[Row], most: usize) -> usize
@@ -41,21 +41,15 @@ pub fn front_of(rows: &[Row], most: usize) -> usize
 }
 
 /// Puts the first `most` rows on the page, or as many as it has room for, and says how many.
-pub fn put_front(
-    alloc: Global,
-    rows: &[Row],
-    most: usize,
-    out: &mut Page,
-) -> Result<usize, AllocError>
+pub fn put_front(rows: &[Row], most: usize, out: &mut Page) -> Result<usize, AllocError>
     requires some { 1 ≤ most }
     requires within { most ≤ length rows.now }
     requires page { out.old ≡ record { rows = []; room = 262144 } }
     ensures puts { IfOk result (λ count. Puts rows.now most count out.new.rows) }
     ensures room { out.new.room ≡ out.old.room }
 {
-    let mut fields = RowBuf::new(alloc);
     for i in 0..most {
-        match put_entry(&mut fields, &rows[i].key, &rows[i].value, out) {
+        match put_entry(&rows[i].key, &rows[i].value, out) {
             Ok(()) => {}
             Err(PageFault::Full) if i > 0 => return Ok(i),
             Err(_) => return Err(AllocError),

@@ -1,17 +1,12 @@
 -- Which rows a reader takes: entries of a query, or landed rows.
 -- This project's own.
-use Rattle.std.specs.Prelude.{◌≡◌, ℕ, ◌+◌, ◌*◌, ◌≤◌, IsTrue, List, [], length, slice_index, slice_index_or, EachIndex}
+use Rattle.std.specs.Prelude.{◌≡◌, ℕ, ◌+◌, ◌≤◌, IsTrue, List, [], length, slice_index, slice_index_or, EachIndex}
 use Rattle.row_page.specs.Spelling.{row_length}
 use Rattle.aggregate.specs.declared.kind.Kind.{Kind}
-use Rattle.aggregate.specs.declared.kind.Kind.TheVariants.{Group, Order}
+pub use Rattle.aggregate.specs.Values.{IsValueOf}
 use Rattle.run_file.specs.Numbers.{is_number}
 use Rattle.run_file.specs.declared.form.Form.{Form}
 use Rattle.run_file.specs.declared.form.Form.TheVariants.{Entries, Landed}
-
--- a value of a group has 16 bytes for each aggregate; one of an order has any bytes
-abbrev pub IsValueOf : Kind → List ℕ → Type 0
-IsValueOf (Group aggs) value = length value ≡ 16 * length aggs
-IsValueOf Order value = Unit {0}
 
 -- the field of a kept column, behind the row's number, is a number
 abbrev pub IsNumberAt : List (List ℕ) → ℕ → Type 0

@@ -1,13 +1,9 @@
 -- Which fields are numbers: decimal and of 64 bits.
 -- This project's own.
-use Rattle.std.specs.Prelude.{ℕ, ◌^◌, ◌&&◌, Bool, List, Option, Some, None, length, if◌then◌else◌, ℤ, pos, negsuc, nat_lt}
+use Rattle.std.specs.Prelude.{ℕ, ◌&&◌, Bool, List, Option, Some, None, length, if◌then◌else◌, ℤ, nat_lt}
 use Rattle.std.specs.Str.{all_ascii_digits}
 use Rattle.std.specs.Str.Parse.{signed_digits_value, without_leading_sign}
-
--- whether a number is in the range of `i64`
-abbrev pub fits_i64 : ℤ → Bool
-fits_i64 (pos n) = nat_lt n (2 ^ 63)
-fits_i64 (negsuc n) = nat_lt n (2 ^ 63)
+pub use Rattle.aggregate.specs.Partial.{fits_i64}
 
 -- whether a field is a number: an optional sign, then one ASCII digit or more, in the range of `i64`
 abbrev pub is_number : List ℕ → Bool

@@ -1,7 +1,8 @@
 //! Entries that are fed to a consumer within a limit.
 
 ghost use Rattle.std.specs.Prelude.{◌≡◌, ◌≤◌, ◌^◌, [], List, ℕ, length, true, Some, IsSome, IfOk, OnOk};
-ghost use Rattle.consumer_trait.specs.States.{HasWidth, IsEntryBy, Rest, as_reset};
+ghost use Rattle.aggregate.specs.Values.{IsValueOf};
+ghost use Rattle.consumer_trait.specs.States.{IsEntryBy, Rest, as_reset};
 
 use crate::drawn::Drawn;
 use aggregate::Kind;
@@ -83,7 +84,7 @@ pub fn feed_all<C: Consumer>(
 ) -> Result<(u64, u64), AllocError>
     requires serves { (C.state consumer.old).serves kind.now ≡ true }
     requires fresh { C.state consumer.old ≡ as_reset (C.state consumer.old) }
-    requires width { (value : List ℕ) → length value ≡ 32 → HasWidth kind.now value }
+    requires width { (value : List ℕ) → length value ≡ 32 → IsValueOf kind.now value }
 {
     let most = most.clamp(72, 1 << 40);
     consumer.begin(kind)?;
