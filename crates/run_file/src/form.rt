@@ -2,7 +2,8 @@
 
 ghost use Rattle.std.specs.Prelude.{◌≡◌, ◌+◌, ◌↔◌, [], length, slice_index, slice_index_or, EachIndex, IsTrue, IfOk};
 ghost use Rattle.row_page.specs.Views.{fields_in};
-ghost use Rattle.run_file.specs.Forms.{IsWellFormed, IsValueOf, IsNumberAt};
+ghost use Rattle.aggregate.specs.Values.{IsValueOf};
+ghost use Rattle.run_file.specs.Forms.{IsWellFormed, IsNumberAt};
 
 use crate::NumberList;
 use crate::number::is_decimal;
@@ -53,12 +54,9 @@ fn is_entry(kind: &Kind, row: &RowView<'_>) -> bool
         ↔ ((length (fields_in row.now) ≡ 2)
         × IsValueOf kind.now (slice_index_or (fields_in row.now) 1 [])) }
 {
-    if row.count() != 2 {
-        return false;
-    }
-    match kind {
-        Kind::Group(aggs) => row.field(1).len() == 16 * aggs.items().len(),
-        Kind::Order => true,
+    match row.pair() {
+        Some((_, value)) => kind.takes(value),
+        None => false,
     }
 }
 
