@@ -69,6 +69,8 @@ pub lands_all : (files : ℕ → Option Files) (job : Job) (max_rows part_rows w
     → GivesRow before after (Some header) → AreRules job (fields_of header) rules → rules.max_rows ≡ max_rows → is_too_long (fields_of header) ≡ false
     → LandsRows files rules part_rows workers parts count after → Lands files job max_rows part_rows workers rules.plan parts count before
 lands_all files job max_rows part_rows workers rules parts count before after header given are most short l = record {
+  header = fields_of header;
+  planned = are.planned;
   rows = l.rows;
   counts = l.counts;
   few = omega (arith, l.few, most);

@@ -17,8 +17,7 @@ use Rattle.run_file.specs.declared.form.Form.TheVariants.{Landed}
 use Rattle.run_file.specs.declared.run.Run.{Run}
 use Rattle.run_file.specs.Forms.{HasForm}
 use Rattle.run_file.specs.Runs.{Counts, Stands, greatest_cost}
-use Rattle.run_merge.specs.Merged.{KeepsFile}
-use Rattle.run_merge.specs.Runs.{no_run, run_at}
+use Rattle.run_file.specs.Several.{KeepsFile, no_run, run_at}
 use Rattle.job_plan.specs.Columns.{Fields, kept, number_places}
 use Rattle.job_plan.specs.Entries.{field_bytes}
 use Rattle.job_plan.specs.Planning.{columns_of}

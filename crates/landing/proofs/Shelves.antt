@@ -1,35 +1,18 @@
 -- Calls on a shelf one after another: what they keep, and why they gave up.
-use Rattle.std.proofs.Common.{◌≡◌, ℕ, ◌≤◌, ◌<◌, ◌++◌, ◌∷◌, [], List, Option, Some, None, Ok, Err, refl, sym, ap, subst, ◌∙◌, inl, inr, arith}
-use Rattle.std.specs.Prelude.{true, Result, OnOk, is_some, if◌then◌else◌}
+use Rattle.std.proofs.Common.{◌≡◌, ℕ, ◌≤◌, ◌<◌, ◌++◌, ◌∷◌, [], List, Option, Some, None, refl, sym, ap, subst, ◌∙◌, inl, inr, arith}
+use Rattle.std.specs.Prelude.{true, Result, is_some, if◌then◌else◌}
 use Rattle.std.specs.Result.{is_ok}
 use Rattle.std.proofs.lemmas.Bool.Decides.{eqb_tells}
 use Rattle.fault_count.specs.Faults.{Rose}
 use Rattle.spill_disk.specs.Files.{Files}
 use Rattle.run_file.specs.declared.run.Run.{Run}
-use Rattle.run_merge.specs.Becoming.{SameOthers}
-use Rattle.run_merge.specs.Merged.{IsGone, KeepsFile, KeepsShelf}
-use Rattle.run_merge.specs.Touching.{file_in, IsGoneOn, SameBut}
-use Rattle.run_merge.proofs.Among.{among_left, among_right, is_among_one}
+use Rattle.run_file.specs.Several.{KeepsFile, SameOthers}
+use Rattle.run_file.specs.Shelved.{file_in, IsGone, IsGoneOn, SameBut}
+use Rattle.run_file.proofs.Among.{among_left, among_right, is_among_one}
 use Rattle.landing.specs.Explaining.{Explains, FailsAmong, FailsOn}
 use Rattle.landing.specs.Landed.{KeepsFiles}
 use Rattle.landing.specs.declared.fault.LandFault.{LandFault}
 use Rattle.landing.specs.declared.fault.LandFault.TheVariants.{NoHeader, NoColumn, Ragged, RowTooLong, BadNumber, TooManyRows, ReadFault, DiskFault, NoMemory}
-
-pub keeps_self : {H D : Type 0} (count_of : H → ℕ) (named : H → ℕ → ℕ) (disk_of : H → ℕ → Option D) (files : D → Option Files) (faults : D → ℕ) (shelf : H) → KeepsShelf count_of named disk_of files faults shelf shelf
-keeps_self count_of named disk_of files faults shelf = record { count = refl; names = λ j. refl; tells = λ j. refl; later = λ j. omega arith }
-
-pub keeps_trans : {H D : Type 0} (count_of : H → ℕ) (named : H → ℕ → ℕ) (disk_of : H → ℕ → Option D) (files : D → Option Files) (faults : D → ℕ) (old middle new : H) → KeepsShelf count_of named disk_of files faults old middle → KeepsShelf count_of named disk_of files faults middle new → KeepsShelf count_of named disk_of files faults old new
-keeps_trans count_of named disk_of files faults old middle new first next = record {
-  count = next.count ∙ first.count;
-  names = λ j. next.names j ∙ first.names j;
-  tells = λ j. next.tells j ∙ first.tells j;
-  later = λ j. omega (arith, first.later j, next.later j);
-}
-
--- calls that change one file, one after another
-pub same_more : (named named' : ℕ → ℕ) (before middle after : ℕ → Option Files) (disk file : ℕ) → ((j : ℕ) → named' j ≡ named j) → SameBut named before middle disk file → SameBut named' middle after disk file → SameBut named before after disk file
-same_more named named' before middle after disk file each first next j g apart =
-    next j g (λ here. apart (sym (each j) ∙ here.0 ∙ each disk, here.1)) ∙ first j g apart
 
 -- runs' files are changed, one after another
 pub others_more : (named named' : ℕ → ℕ) (before now after : ℕ → Option Files) (parts : List Run) (run : Run) (to : ℕ) → ((j : ℕ) → named' j ≡ named j) → run.disk ≡ to → SameOthers named before now parts → SameBut named' now after to run.file → SameOthers named before after (parts ++ run ∷ [])
@@ -62,11 +45,8 @@ files_kept named before after disk file tells gone same j g = elim (eqb_tells (n
   | inr apart ↦ told_same (before j) (after j) g (tells j) (same j g (λ both. apart.1 both.0))
 ]
 
-keep_same : (before after : ℕ → Option Files) → ((j : ℕ) → after j ≡ before j) → KeepsFiles before after
-keep_same before after each j g = told_same (before j) (after j) g (ap is_some (each j)) (ap (λ (files : Option Files). file_in files g) (each j))
-
 pub files_same : (before after : ℕ → Option Files) → ((j : ℕ) → after j ≡ before j) → KeepsFiles before after
-files_same before after each = keep_same before after each
+files_same before after each j g = told_same (before j) (after j) g (ap is_some (each j)) (ap (λ (files : Option Files). file_in files g) (each j))
 
 kept_trans : (a b c : Option Files) (file : ℕ) → KeepsFile a b file → KeepsFile b c file → KeepsFile a c file
 kept_trans None None None file f g = tt
@@ -102,10 +82,6 @@ fails_later to before middle now disk later h = (h.0, rose_later (before disk) (
 
 pub if_ok : {T E X : Type 0} (r : Result T E) (some none : X) → is_ok r ≡ true → (if is_ok r then some else none) ≡ some
 if_ok r some none ok = rw ok refl
-
-pub ok_always : {T E P : Type 0} (r : Result T E) → P → OnOk r P
-ok_always (Ok x) p = p
-ok_always (Err e) p = tt
 
 pub fails_among : (to workers : ℕ) (before middle now : ℕ → ℕ) (disk : ℕ) → to < workers → ((j : ℕ) → before j ≤ middle j) → FailsOn to middle now disk → FailsAmong workers before now disk
 fails_among to workers before middle now disk within later h =

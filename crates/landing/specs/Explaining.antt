@@ -29,5 +29,11 @@ FailsAmong workers before now disk = (disk < workers) × Rose (before disk) (now
 -- a writer's fault as one of a landing
 abbrev pub fault_by : RunFault → LandFault
 fault_by (run_fault.DiskFault disk) = DiskFault disk
-fault_by (run_fault.Damaged disk file kept found) = NoMemory
+fault_by (run_fault.Damaged damage) = NoMemory
 fault_by run_fault.NoMemory = NoMemory
+
+-- a fault that a writer of rows tells: it finds no damage
+abbrev pub IsOfWriter : RunFault → Type 0
+IsOfWriter (run_fault.DiskFault disk) = ⊤
+IsOfWriter (run_fault.Damaged damage) = ⊥
+IsOfWriter run_fault.NoMemory = ⊤

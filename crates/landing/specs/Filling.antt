@@ -1,21 +1,20 @@
 -- A partition that is being written, and one that was.
 -- This project's own.
 use Rattle.std.specs.Prelude.{◌≡◌, ℕ, ◌+◌, ◌*◌, ◌≤◌, Bool, true, List, Option, IsSome, IfSome, length}
-use Rattle.row_page.specs.Pages.{PageView}
 use Rattle.spill_disk.specs.Files.{Files}
 use Rattle.run_file.specs.declared.run.Run.{Run}
-use Rattle.run_file.specs.Runs.{Counts, IsFileOf, Stands}
-use Rattle.run_merge.specs.Touching.{IsSoFar}
+use Rattle.run_file.specs.Runs.{Counts, Stands}
+use Rattle.run_file.specs.Writing.{IsSoFar, WriterView}
 use Rattle.job_plan.specs.Columns.{Fields}
 use Rattle.job_plan.specs.Plans.{form_in}
 use Rattle.landing.specs.Landed.{AreChecked, AreLanded, AreShort}
 use Rattle.landing.specs.Ruling.{ArePassed, Follows}
 use Rattle.landing.specs.declared.rules.Rules.{Rules}
 
--- so many rows of a partition, behind `first` rows of others, are in its file or on the page
-pub record IsFilling (files : Option Files) (rules : Rules) (first count : ℕ) (run : Run) (page : PageView) (before after : Option (List Fields)) : Type 0 where
+-- so many rows of a partition, behind `first` rows of others, were put
+pub record IsFilling (files : Option Files) (rules : Rules) (first count : ℕ) (writer : WriterView) (before after : Option (List Fields)) : Type 0 where
   pub rows : List Fields
-  pub so_far : IsSoFar files run page rows
+  pub so_far : IsSoFar files writer rows
   pub counts : count ≡ length rows
   pub few : first + count ≤ rules.max_rows
   pub are_checked : AreChecked (form_in rules.plan) rows
@@ -30,11 +29,10 @@ pub record AreOfPart (rules : Rules) (first part_rows : ℕ) (more : Bool) (befo
   pub are_checked : AreChecked (form_in rules.plan) rows
   pub follows : Follows rules (first + 1) rows before after
 
--- they are all in a run's file
-pub record Fills (files : Option Files) (rules : Rules) (first part_rows : ℕ) (run : Run) (more : Bool) (before after : Option (List Fields)) : Type 0 where
+-- they were all put
+pub record Fills (files : Option Files) (rules : Rules) (first part_rows : ℕ) (writer : WriterView) (more : Bool) (before after : Option (List Fields)) : Type 0 where
   pub rows : List Fields
-  pub counts : Counts run rows
-  pub file : IsFileOf files run.file rows
+  pub so_far : IsSoFar files writer rows
   pub are : AreOfPart rules first part_rows more before after rows
 
 -- a run stands with them, where the disk tells

@@ -8,8 +8,8 @@ use Rattle.run_file.specs.Forms.{HasForm}
 use Rattle.run_file.specs.Runs.{Stands}
 use Rattle.run_file.specs.declared.form.Form.{Form}
 use Rattle.run_file.specs.declared.run.Run.{Run}
-use Rattle.run_merge.specs.Merged.{KeepsFile}
-use Rattle.run_merge.specs.Runs.{run_at}
+use Rattle.run_file.specs.Several.{AreApart, KeepsFile, run_at}
+use Rattle.run_file.specs.Shelved.{IsGoneOn}
 use Rattle.job_text.specs.declared.job.Job.{Job}
 use Rattle.job_plan.specs.Columns.{Fields}
 use Rattle.job_plan.specs.Entries.{field_bytes}
@@ -54,8 +54,11 @@ pub record AreRowsOf (job : Job) (max_rows : ℕ) (plan : Plan) (landed : List F
   pub planned : IsPlanOf job header plan
   pub landed_are : landed ≡ landed_rows (places_in plan) 1 rows
 
--- what was landed: rows that were checked stand in runs, and they are those of the records, where these are known
+-- what was landed: the plan is that of a header, rows that were checked stand in runs, and they are those of the
+-- records, where these are known
 pub record Lands (files : ℕ → Option Files) (job : Job) (max_rows part_rows workers : ℕ) (plan : Plan) (parts : List Run) (count : ℕ) (records : Option (List Fields)) : Type 0 where
+  pub header : Fields
+  pub planned : IsPlanOf job header plan
   pub rows : List Fields
   pub counts : count ≡ length rows
   pub few : length rows ≤ max_rows
@@ -63,6 +66,11 @@ pub record Lands (files : ℕ → Option Files) (job : Job) (max_rows part_rows 
   pub are_landed : AreLanded files part_rows workers parts rows
   pub are_short : AreShort (form_in plan) parts
   pub are_known : IfSome records (AreRowsOf job max_rows plan rows)
+
+-- the runs' files are new: none was on its disk before, and no two are one where their disks tell
+pub record AreMade (named : ℕ → ℕ) (before : ℕ → Option Files) (parts : List Run) : Type 0 where
+  pub fresh : (part : ℕ) → part < length parts → IsGoneOn named before (run_at parts part).disk (run_at parts part).file
+  pub apart : ((part : ℕ) → part < length parts → IsSome (before (run_at parts part).disk)) → AreApart named parts
 
 -- all files that were there are as they were
 abbrev pub KeepsFiles : (ℕ → Option Files) → (ℕ → Option Files) → Type 0

@@ -9,20 +9,16 @@ ghost use Rattle.landing.specs.Explaining.{Explains, Never};
 use crate::fault::LandFault;
 use byte_io::{Origin, RecordFault, Records, Tap};
 use csv::ByteRecord;
-use row_page::{Page, RowBuf};
+use row_page::RowBuf;
 use std::alloc::Global;
 
-/// The bytes of a page that is written.
-const PAGE_ROOM: u64 = 262144;
-
-/// The record in hand, unless the records have ended, the landed row that is made of it, and the landed rows
-/// that aren't written yet. Their memory is used again from row to row.
+/// The record in hand, unless the records have ended, and the landed row that is made of it. Their memory is
+/// used again from row to row.
 #[derive(Drop)]
 pub(crate) struct Desk {
     pub(crate) more: bool,
     pub(crate) row: ByteRecord,
     pub(crate) landed: RowBuf,
-    pub(crate) page: Page,
 }
 
 impl Desk {
@@ -32,7 +28,6 @@ impl Desk {
             more: false,
             row: ByteRecord::new(alloc),
             landed: RowBuf::new(alloc),
-            page: Page::new(alloc, PAGE_ROOM),
         }
     }
 
@@ -45,7 +40,6 @@ impl Desk {
         ensures rows { OnOk result (GivesRow (rows_left records.old) (rows_left records.new)
             (if self.new.more then Some self.new.row else None)) }
         ensures reading { OnOk result (IsReading records.new) }
-        ensures page { self.new.page ≡ self.old.page }
         ensures end { OnOk result (self.new.more ≡ false → IsAtEnd (T.left (source_under records.new))) }
         ensures err { IfErr result
             (Explains Never (Rose O.faults (T.faults (source_under records.new))) Never) }

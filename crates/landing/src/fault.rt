@@ -1,9 +1,11 @@
 //! Why an input wasn't landed.
 
 ghost use Rattle.std.specs.Prelude.{◌≡◌};
+ghost use Rattle.landing.specs.Explaining.{IsOfWriter, fault_by};
 ghost use Rattle.landing.specs.declared.fault.LandFault.TheVariants.{NoMemory};
 
 use item_lists::Name;
+use run_file::RunFault;
 use std::alloc::AllocError;
 use thiserror::Error;
 
@@ -42,5 +44,17 @@ impl From<AllocError> for LandFault {
 
     fn from(_refused: AllocError) -> LandFault {
         LandFault::NoMemory
+    }
+}
+
+/// A fault of a writer of rows, which finds no damage, as one of a landing.
+pub(crate) fn fault_of(fault: RunFault) -> LandFault
+    requires { IsOfWriter fault }
+    ensures { result ≡ fault_by fault }
+{
+    match fault {
+        RunFault::DiskFault { disk } => LandFault::DiskFault { disk },
+        RunFault::Damaged(_) => unreachable!(),
+        RunFault::NoMemory => LandFault::NoMemory,
     }
 }

@@ -5,14 +5,13 @@ ghost use Rattle.std.specs.Io.KnownBytes.{IsAtEnd};
 ghost use Rattle.fault_count.specs.Faults.{Rose};
 ghost use Rattle.byte_io.specs.Records.{IsReading, rows_left, source_under};
 ghost use Rattle.byte_io.specs.Rows.{rows_of};
-ghost use Rattle.run_file.specs.Shelved.{files_on, faults_on};
-ghost use Rattle.run_merge.specs.Becoming.{SameOthers};
-ghost use Rattle.run_merge.specs.Merged.{KeepsShelf};
+ghost use Rattle.run_file.specs.Several.{SameOthers};
+ghost use Rattle.run_file.specs.Shelved.{files_on, faults_on, KeepsShelf};
 ghost use Rattle.job_text.specs.Jobs.{IsJob};
 ghost use Rattle.landing.specs.Checks.{Refused, checked};
 ghost use Rattle.landing.specs.Explaining.{Explains, FailsAmong};
 ghost use Rattle.landing.specs.Filling.{LandsRows};
-ghost use Rattle.landing.specs.Landed.{HasCauseAmong, IsOfInput, KeepsFiles, Lands};
+ghost use Rattle.landing.specs.Landed.{AreMade, HasCauseAmong, IsOfInput, KeepsFiles, Lands};
 ghost use Rattle.landing.specs.Ruling.{IsRuled, first_refusal_in};
 ghost use Rattle.landing.specs.declared.fault.LandFault.{LandFault};
 
@@ -23,10 +22,14 @@ use crate::rules::{Rules, rules_of};
 use byte_io::{Origin, RecordFault, Records, Source, Tap};
 use job_plan::Plan;
 use job_text::Job;
+use row_page::Page;
 use run_file::Run;
 use spill_disk::{Disk, Shelf};
 use std::alloc::Global;
 use std::marker::Brand;
+
+/// The bytes of a page that is written.
+const PAGE_ROOM: u64 = 262144;
 
 /// What was landed: the plan of the job over the header, the landed run of each partition, that of
 /// partition `p` on disk `p % workers`, and how many rows there are.
@@ -56,6 +59,8 @@ fn land_rows<T: Tap, O: Origin, D: Disk, H: Shelf<D>>(
         workers landed.0.items landed.1 (rows_left records.old)) }
     ensures only { IfOk result (λ landed. SameOthers (H.named shelf.old)
         (files_on H.disk_of D.files shelf.old) (files_on H.disk_of D.files shelf.new) landed.0.items) }
+    ensures made { IfOk result (λ landed.
+        AreMade (H.named shelf.old) (files_on H.disk_of D.files shelf.old) landed.0.items) }
     ensures end { OnOk result (IsAtEnd (T.left (source_under records.new))) }
     ensures files { KeepsFiles
         (files_on H.disk_of D.files shelf.old) (files_on H.disk_of D.files shelf.new) }
@@ -67,11 +72,15 @@ fn land_rows<T: Tap, O: Origin, D: Disk, H: Shelf<D>>(
 {
     let mut desk = Desk::new(alloc);
     desk.take(records)?;
+    let mut page = Page::new(alloc, PAGE_ROOM);
     let mut parts = Vec::new(alloc);
     let mut rows = 0;
     'parts: while desk.more {
         let to = (parts.len() % workers as usize) as u32;
-        let run = land_part(records, rules, shelf, to, rows, part_rows, &mut desk)?;
+        let (run, cleared) = land_part(
+            alloc, records, rules, shelf, to, rows, part_rows, page, &mut desk,
+        )?;
+        page = cleared;
         rows += run.count;
         if parts.push(run).is_err() {
             return Err(LandFault::NoMemory);
@@ -101,6 +110,8 @@ fn land_all<T: Tap, O: Origin, D: Disk, H: Shelf<D>>(
         part_rows workers landed.plan landed.parts.items landed.rows (rows_left records.old)) }
     ensures only { IfOk result (λ landed. SameOthers (H.named shelf.old)
         (files_on H.disk_of D.files shelf.old) (files_on H.disk_of D.files shelf.new) landed.parts.items) }
+    ensures made { IfOk result (λ landed.
+        AreMade (H.named shelf.old) (files_on H.disk_of D.files shelf.old) landed.parts.items) }
     ensures end { OnOk result (IsAtEnd (T.left (source_under records.new))) }
     ensures files { KeepsFiles
         (files_on H.disk_of D.files shelf.old) (files_on H.disk_of D.files shelf.new) }
@@ -149,6 +160,8 @@ fn land_from<T: Tap, O: Origin, D: Disk, H: Shelf<D>>(
         part_rows workers landed.plan landed.parts.items landed.rows (option_map rows_of (T.left source))) }
     ensures only { IfOk result.0 (λ landed. SameOthers (H.named shelf.old)
         (files_on H.disk_of D.files shelf.old) (files_on H.disk_of D.files shelf.new) landed.parts.items) }
+    ensures made { IfOk result.0 (λ landed.
+        AreMade (H.named shelf.old) (files_on H.disk_of D.files shelf.old) landed.parts.items) }
     ensures end { OnOk result.0 (IsAtEnd (T.left result.1)) }
     ensures same { T.name result.1 ≡ O.name }
     ensures later { O.faults ≤ T.faults result.1 }
@@ -194,6 +207,8 @@ pub fn land<S: Source, D: Disk, H: Shelf<D>>(
         landed.plan landed.parts.items landed.rows (option_map rows_of (S.left source.old))) }
     ensures only { IfOk result (λ landed. SameOthers (H.named shelf.old)
         (files_on H.disk_of D.files shelf.old) (files_on H.disk_of D.files shelf.new) landed.parts.items) }
+    ensures made { IfOk result (λ landed.
+        AreMade (H.named shelf.old) (files_on H.disk_of D.files shelf.old) landed.parts.items) }
     ensures end { OnOk result (IsAtEnd (S.left source.new)) }
     ensures refused { (why : LandFault) → IsOfInput why → IsErrOf result why →
         IfSome (S.left source.old) (λ bytes. checked job.now max_rows (rows_of bytes) ≡ Refused why) }

@@ -7,7 +7,6 @@ mod landing;
 mod length;
 mod part;
 mod rules;
-mod shelf_calls;
 
 pub use fault::LandFault;
 pub use landing::{Landed, land};

@@ -5,15 +5,19 @@ use Rattle.std.proofs.Math.Nat.{mod-lt}
 use Rattle.std.proofs.lemmas.Result.{err_from_is_err_and}
 use Rattle.fault_count.specs.Faults.{Rose}
 use Rattle.byte_io.specs.Records.{rows_left, source_under}
+use Rattle.row_page.specs.Pages.{PageView}
 use Rattle.run_file.specs.declared.run.Run.{Run}
 use Rattle.run_file.specs.Shelved.{files_on, faults_on}
-use Rattle.run_merge.specs.Becoming.{SameOthers}
+use Rattle.run_file.specs.Several.{SameOthers}
+use Rattle.run_file.proofs.Shelves.{keeps_self, keeps_trans}
 use Rattle.landing.specs.Explaining.{FailsAmong, FailsOn}
 use Rattle.landing.specs.Filling.{AreLandedSoFar}
+use Rattle.landing.specs.Landed.{AreMade}
 use Rattle.landing.specs.Ruling.{ahead, first_refusal_in}
 use Rattle.landing.proofs.Following.{follows_read, follows_start}
+use Rattle.landing.proofs.NewFiles.{made_more, made_none}
 use Rattle.landing.proofs.Partitions.{so_far_all, so_far_more, so_far_none, so_far_refused}
-use Rattle.landing.proofs.Shelves.{explains_more, fails_among, files_same, if_ok, files_trans, keeps_self, keeps_trans, others_more}
+use Rattle.landing.proofs.Shelves.{explains_more, fails_among, files_same, if_ok, files_trans, others_more}
 use Rattle.landing.proofs.landing.land_rows.Goals as goal
 
 pub parts-init : goal.parts-init
@@ -30,6 +34,8 @@ parts-init g c =
       reading = c.in_ok-take.ensures.reading;
       end = c.in_ok-take.ensures.end;
       within = c.requires.shelf;
+      empty = ap (λ (page : PageView). page.rows) c.new-page.ensures;
+      made = subst (λ (parts : List Run). AreMade (g.H.Shelf.named shelf) (files shelf) parts) (sym c.new-parts.ensures.items) (made_none (g.H.Shelf.named shelf) (files shelf));
       only = λ disk file apart. refl;
       files = files_same (files shelf) (files shelf) (λ j. refl);
       shelf = keeps_self g.H.Shelf.count_of g.H.Shelf.named g.H.Shelf.disk_of g.D.Disk.files g.D.Disk.faults shelf;
@@ -96,6 +102,10 @@ parts-preserved g c =
       reading = c.in_ok-run.ensures.reading;
       end = c.in_ok-run.ensures.end;
       within = subst (λ (n : ℕ). workers ≤ n) (sym c.land_part.ensures.shelf.count) before.within;
+      empty = c.in_ok-run.ensures.page;
+      made = subst (λ (runs : List Run). AreMade (g.H.Shelf.named start) (files start) runs) (sym pushed)
+          (made_more (g.H.Shelf.named start) (g.H.Shelf.named now) (files start) (files now) c.args.part_rows workers parts before.so_far.rows run to before.shelf.names before.shelf.tells before.files before.so_far.are_landed
+          c.in_ok-run.ensures.disk c.in_ok-run.ensures.fresh before.made);
       only = subst (λ (runs : List Run). SameOthers (g.H.Shelf.named start) (files start) (files after) runs) (sym pushed)
           (others_more (g.H.Shelf.named start) (g.H.Shelf.named now) (files start) (files now) (files after) parts run to before.shelf.names c.in_ok-run.ensures.disk before.only c.in_ok-run.ensures.only);
       files = files_trans (files start) (files now) (files after) before.files c.land_part.ensures.files;
