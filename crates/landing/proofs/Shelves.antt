@@ -80,8 +80,9 @@ rose_later before middle now later rose = omega arith
 pub fails_later : (to : ℕ) (before middle now : ℕ → ℕ) (disk : ℕ) → ((j : ℕ) → before j ≤ middle j) → FailsOn to middle now disk → FailsOn to before now disk
 fails_later to before middle now disk later h = (h.0, rose_later (before disk) (middle disk) (now disk) (later disk) h.1)
 
-pub if_ok : {T E X : Type 0} (r : Result T E) (some none : X) → is_ok r ≡ true → (if is_ok r then some else none) ≡ some
-if_ok r some none ok = rw ok refl
+-- what a call left, where it succeeded
+pub if_ok : {T E X : Type 0} (r : Result T E) (left some none : X) → left ≡ (if is_ok r then some else none) → is_ok r ≡ true → left ≡ some
+if_ok r left some none is ok = is ∙ rw ok refl
 
 pub fails_among : (to workers : ℕ) (before middle now : ℕ → ℕ) (disk : ℕ) → to < workers → ((j : ℕ) → before j ≤ middle j) → FailsOn to middle now disk → FailsAmong workers before now disk
 fails_among to workers before middle now disk within later h =

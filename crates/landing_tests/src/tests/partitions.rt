@@ -1,7 +1,7 @@
 // Inputs that are landed on two disks in memory, against answers that were written by hand.
 ghost use Rattle.std.specs.Prelude.{◌≡◌, [], IfOk, OnOk};
 ghost use Rattle.job_text.specs.Jobs.{IsJob};
-ghost use Rattle.run_file.specs.Reading.{run_of};
+ghost use Rattle.run_file.specs.Readers.{run_of};
 
 use byte_io::MemorySource;
 use job_text::{Job, JobFault, read};
@@ -288,6 +288,28 @@ fn each_partition_is_a_run_on_the_disk_of_its_worker(rt: HostRuntime) -> Result<
 fn no_row_is_no_partition(rt: HostRuntime) -> Result<(), Fail> {
     let runs = runs_of(rt.alloc(), "order number a: a", b"b,a\n", 2)?;
     assert_eq!(rt; runs.as_slice(), b"0 rows".as_slice());
+    Ok(())
+}
+
+// Where the runs are: each one's disk and file.
+fn files_of(alloc: Global, landed: &Landed) -> Result<String, AllocError> {
+    let mut files = String::new(alloc);
+    for run in &landed.parts {
+        files.push_str(format!(in alloc; "{}.{} ", run.disk, run.file)?.as_str())?;
+    }
+    Ok(files)
+}
+
+#[test]
+fn each_landing_makes_new_files(rt: HostRuntime) -> Result<(), Fail> {
+    let alloc = rt.alloc();
+    let mut disks = disks_of(alloc, NEVER, NEVER)?;
+    // A disk in memory numbers its files from 0, in the order in which they are made.
+    for wanted in ["0.0 1.0 0.1 ", "0.2 1.1 0.3 ", "0.4 1.2 0.5 "] {
+        let mut source = source_of(alloc, b"a\n1\n2\n3\n4\n5\n", NEVER)?;
+        let landed = land_text(alloc, &mut source, "order a: a", 1000, 2, &mut disks)??;
+        assert_eq!(rt; files_of(alloc, &landed)?.as_str(), wanted);
+    }
     Ok(())
 }
 

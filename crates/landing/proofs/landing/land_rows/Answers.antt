@@ -94,7 +94,7 @@ parts-preserved g c =
     let before = c.parts.invariant in
     let several : c.len.result ≡ length parts = omega (arith, c.len.ensures, c.parts.parts.ok.0) in
     let ok : is_ok c.push.result ≡ true = c.is_err.ensures.negation ∙ ap not c.if-is_err.false in
-    let pushed : c.push.new.self.items ≡ parts ++ run ∷ [] = c.push.ensures.items ∙ if_ok c.push.result (parts ++ run ∷ []) parts ok in
+    let pushed : c.push.new.self.items ≡ parts ++ run ∷ [] = if_ok c.push.result c.push.new.self.items (parts ++ run ∷ []) parts c.push.ensures.items ok in
     record {
       so_far = subst (λ (runs : List Run). AreLandedSoFar (files after) rules c.args.part_rows workers runs (c.parts.rows + run.count) desk.more all rest) (sym pushed)
           (so_far_more (files now) (files after) rules c.args.part_rows workers parts c.parts.rows run to c.parts.desk.more desk.more c.parts.desk.row (rows_left c.parts.records) all rest
