@@ -5,7 +5,7 @@ use Rattle.std.proofs.lemmas.List.{append-nil, append_assoc}
 use Rattle.aggregate.specs.Rows.{TotalsAscend}
 use Rattle.aggregate.specs.Totals.{Entry, TotalsStayEqual, total}
 use Rattle.aggregate.specs.declared.kind.Kind.{Kind}
-use Rattle.run_merge.specs.Runs.{concatenated}
+use Rattle.run_file.specs.Several.{concatenated}
 
 -- lists of equal total stay equal before any rest
 pub before_rest : (kind : Kind) → TotalsStayEqual kind → (entries others rest : List Entry) → total kind entries ≡ total kind others → total kind (entries ++ rest) ≡ total kind (others ++ rest)

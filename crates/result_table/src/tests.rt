@@ -1,219 +1,394 @@
-// Printed tables against texts that were written by hand.
-ghost use Rattle.std.specs.Prelude.{◌∷◌, [], All, IfOk, OnOk};
-ghost use Rattle.result_table.specs.Table.{IsTableRow};
+// Tables printed of runs whose entries were made by hand, against texts that were written by hand.
+ghost use Rattle.std.specs.Prelude.{◌≡◌, IfOk};
+ghost use Rattle.job_plan.specs.Entries.{kind_of};
 
-use crate::{print_list, put_rows_are_printable};
-use aggregate::{Agg, AggList, Key, put_field, put_partial};
-use byte_io::{MemorySink, SinkError};
-use std::alloc::{AllocError, Global};
-use std::process::Abort;
+use crate::entry_reader::EntryReader;
+use crate::line::Line;
+use crate::run_table::{heading_text, print_entries};
+use crate::{PrintFault, too_wide};
+use aggregate::{Agg, AggList, Kind, put_field, put_partial};
+use byte_io::MemorySink;
+use item_lists::Listed;
+use job_text::{KeyItem, Part, Shape};
+use row_page::{Page, RowBuf};
+use run_file::{Run, RunFault, RunWriter};
+use spill_disk::{MemoryDisk, One};
+use std::alloc::Global;
 use std::test::Fail;
 
-// A key and a value of a count and a sum.
-fn row_of(alloc: Global, field: &[u8], count: i64, sum: i64) -> Result<(Key, Key), AllocError>
-    ensures { IfOk result (IsTableRow (Agg.Count ∷ Agg.Sum ∷ [])) }
+// A shape, and the kind of its entries.
+#[derive(Drop)]
+struct Query {
+    shape: Shape,
+    kind: Kind,
+}
+
+// Groups of two columns, with all four aggregates.
+fn groups(alloc: Global) -> Result<Query, Fail>
+    ensures { IfOk result (λ query. query.kind ≡ kind_of query.shape) }
 {
-    put_rows_are_printable();
+    let mut columns = Vec::new(alloc);
+    columns.push(0u32)?;
+    columns.push(1u32)?;
+    let mut parts = Vec::new(alloc);
+    parts.push(part(Agg::Count, None))?;
+    parts.push(part(Agg::Sum, Some(2)))?;
+    parts.push(part(Agg::Min, Some(2)))?;
+    parts.push(part(Agg::Max, Some(2)))?;
+    let aggs = AggList::of(alloc, &[Agg::Count, Agg::Sum, Agg::Min, Agg::Max])?;
+    Ok(Query {
+        shape: Shape::Group {
+            columns: Listed::of(columns),
+            parts: Listed::of(parts),
+        },
+        kind: Kind::Group(aggs),
+    })
+}
+
+// An aggregate of a column.
+fn part(agg: Agg, column: Option<u32>) -> Part
+    ensures { result.agg ≡ agg }
+{
+    Part { agg, column }
+}
+
+// Rows of three columns in the order of a number.
+fn orders(alloc: Global) -> Result<Query, Fail>
+    ensures { IfOk result (λ query. query.kind ≡ kind_of query.shape) }
+{
+    let mut keys = Vec::new(alloc);
+    keys.push(KeyItem {
+        column: 0,
+        number: true,
+        down: false,
+    })?;
+    let mut columns = Vec::new(alloc);
+    columns.push(0u32)?;
+    columns.push(1u32)?;
+    columns.push(2u32)?;
+    Ok(Query {
+        shape: Shape::Order {
+            keys: Listed::of(keys),
+            columns: Listed::of(columns),
+        },
+        kind: Kind::Order,
+    })
+}
+
+// Adds an entry to a page.
+fn push_entry(alloc: Global, page: &mut Page, key: &[u8], value: &[u8]) -> Result<(), Fail> {
+    if key.len() > 1000 || value.len() > 1000 {
+        return Err("the entry is long".into());
+    }
+    let mut row = RowBuf::new(alloc);
+    row.add(key)?;
+    row.add(value)?;
+    page.push(row.view())?;
+    Ok(())
+}
+
+// A group's key, which spells these fields, each behind a `|`.
+fn key_of(alloc: Global, fields: &str) -> Result<Vec<u8>, Fail> {
     let mut key = Vec::new(alloc);
-    put_field(&mut key, field, false)?;
+    if let Some((_, fields)) = fields.split_once('|') {
+        for field in fields.split('|') {
+            put_field(&mut key, field.as_bytes(), false)?;
+        }
+    }
+    Ok(key)
+}
+
+// A group's value, of these numbers.
+fn value_of(alloc: Global, numbers: &str) -> Result<Vec<u8>, Fail> {
     let mut value = Vec::new(alloc);
-    put_partial(&mut value, i128::from(count))?;
-    put_partial(&mut value, i128::from(sum))?;
-    Ok((Key::of(key), Key::of(value)))
+    for number in numbers.split(' ') {
+        put_partial(&mut value, number.parse()?)?;
+    }
+    Ok(value)
 }
 
-// Adds a row.
-fn push_row(
-    rows: &mut Vec<(Key, Key)>,
-    field: &[u8],
-    count: i64,
-    sum: i64,
-) -> Result<(), AllocError>
-    requires { All (IsTableRow (Agg.Count ∷ Agg.Sum ∷ [])) rows.old.items }
-    ensures { OnOk result (All (IsTableRow (Agg.Count ∷ Agg.Sum ∷ [])) rows.new.items) }
+// A page of groups as `|FIELD|FIELD=COUNT SUM MIN MAX`, with a `/` between them.
+fn page_of_groups(alloc: Global, groups: &str) -> Result<Page, Fail> {
+    let mut page = Page::new(alloc, 1_000_000);
+    for group in groups.split('/') {
+        let (fields, numbers) = group.split_once('=').ok_or("a group without numbers")?;
+        let key = key_of(alloc, fields)?;
+        push_entry(alloc, &mut page, &key, &value_of(alloc, numbers)?)?;
+    }
+    Ok(page)
+}
+
+// A row of these fields, each behind a `|`.
+fn row_of(alloc: Global, fields: &str) -> Result<RowBuf, Fail> {
+    let mut row = RowBuf::new(alloc);
+    let (_, fields) = fields.split_once('|').ok_or("a row without fields")?;
+    for field in fields.split('|') {
+        if field.len() > 100 || row.view().bytes().len() > 1000 {
+            return Err("the row is long".into());
+        }
+        row.add(field.as_bytes())?;
+    }
+    Ok(row)
+}
+
+// A page of ordered rows, with a `/` between them, whose keys are 1, 2 and so on.
+fn page_of_orders(alloc: Global, rows: &str) -> Result<Page, Fail> {
+    let mut page = Page::new(alloc, 1_000_000);
+    let mut key = 1u8;
+    for row in rows.split('/') {
+        let row = row_of(alloc, row)?;
+        push_entry(alloc, &mut page, &[key], row.view().bytes())?;
+        key = key.wrapping_add(1);
+    }
+    Ok(page)
+}
+
+// Writes a page as a run.
+fn put_run(disk: &mut MemoryDisk, page: &Page) -> Result<Run, Fail>
+    ensures { IfOk result (λ run. run.disk ≡ 0) }
 {
-    let row = row_of(*rows.allocator(), field, count, sum)?;
-    match rows.push(row) {
-        Ok(()) => Ok(()),
-        Err(_) => Err(AllocError),
-    }
+    let mut writer = RunWriter::start(disk, 0)?;
+    writer.write(disk, page)?;
+    Ok(writer.finish())
 }
 
-// The rows of a text, each a field, a count and a sum as `FIELD=COUNT=SUM`, with a `|` between them.
-fn rows_of(alloc: Global, text: &str) -> Result<Vec<(Key, Key)>, Fail>
-    ensures { IfOk result (λ rows. All (IsTableRow (Agg.Count ∷ Agg.Sum ∷ [])) rows.items) }
-{
-    let mut rows = Vec::new(alloc);
-    for row in text.split('|') {
-        let (field, numbers) = row.split_once('=').ok_or("a field without numbers")?;
-        let (count, sum) = numbers.split_once('=').ok_or("a count without a sum")?;
-        push_row(&mut rows, field.as_bytes(), count.parse()?, sum.parse()?)?;
-    }
-    Ok(rows)
+// The text of the heading `k,n`.
+fn heading_of(alloc: Global, line: &mut Line) -> Result<Vec<u8>, Fail> {
+    let mut names = RowBuf::new(alloc);
+    names.add(b"k")?;
+    names.add(b"n")?;
+    Ok(heading_text(alloc, line, &names.view())?)
 }
 
-// The names of the columns, with a `;` between them.
-fn head_of(alloc: Global, names: &str) -> Result<Vec<Key>, Fail> {
-    let mut head = Vec::new(alloc);
-    for name in names.split(';') {
-        head.push(Key::of(Vec::from_slice(alloc, name.as_bytes())?))?;
-    }
-    Ok(head)
-}
-
-// How a table of counts and sums is printed under these names, and what the sink then has, of which these calls fail.
-fn print_of(
+// Prints a run's entries under the heading `k,n`.
+fn print(
     alloc: Global,
-    names: &str,
-    rows: &[(Key, Key)],
-    fails: Vec<u64>,
-) -> Result<(Result<(), SinkError>, MemorySink), Fail>
-    requires { All (IsTableRow (Agg.Count ∷ Agg.Sum ∷ [])) rows.now }
+    disk: &mut MemoryDisk,
+    run: &Run,
+    query: &Query,
+    output: &mut MemorySink,
+) -> Result<Result<(), PrintFault>, Fail>
+    requires run { run.now.disk ≡ 0 }
+    requires kind { query.now.kind ≡ kind_of query.now.shape }
 {
-    let head = head_of(alloc, names)?;
-    let aggs = AggList::of(alloc, &[Agg::Count, Agg::Sum])?;
-    let mut output = MemorySink::new(alloc, fails);
-    let answer = print_list(alloc, &head, rows, &aggs, &mut output);
-    Ok((answer, output))
+    let mut line = Line::new(alloc);
+    let text = heading_of(alloc, &mut line)?;
+    let mut reader = EntryReader::new(alloc, run, &query.kind)?;
+    let mut one = One { disk };
+    Ok(print_entries(
+        &mut one,
+        &mut reader,
+        &query.shape,
+        &query.kind,
+        &mut line,
+        text,
+        output,
+    ))
 }
 
-// What is printed of such a table, which all goes well.
-fn printed(alloc: Global, names: &str, rows: &[(Key, Key)]) -> Result<MemorySink, Fail>
-    requires { All (IsTableRow (Agg.Count ∷ Agg.Sum ∷ [])) rows.now }
+// How a page that is written as a run is printed, on a disk and to a sink that fail at these calls.
+fn print_page(
+    alloc: Global,
+    page: &Page,
+    query: &Query,
+    disk_fails: &[u64],
+    output: &mut MemorySink,
+) -> Result<Result<(), PrintFault>, Fail>
+    requires { query.now.kind ≡ kind_of query.now.shape }
 {
-    let (answer, output) = print_of(alloc, names, rows, Vec::new(alloc))?;
-    answer?;
+    let mut disk = MemoryDisk::new(alloc, disk_fails.to_vec(alloc)?);
+    let run = put_run(&mut disk, page)?;
+    print(alloc, &mut disk, &run, query, output)
+}
+
+// What is printed of a page, which all goes well.
+fn printed(alloc: Global, page: &Page, query: &Query) -> Result<MemorySink, Fail>
+    requires { query.now.kind ≡ kind_of query.now.shape }
+{
+    let mut output = MemorySink::new(alloc, Vec::new(alloc));
+    print_page(alloc, page, query, &[], &mut output)??;
     Ok(output)
 }
 
-const ROWS: &str =
-    "=1=0|\0=2=-1| leading=3=75|a,b=4=9223372036854775807|a\nb=5=-9223372036854775808|\
-    a\rb=9223372036854775807=10|say \"hi\"=7=-277";
+// What is printed of these groups.
+fn printed_groups(alloc: Global, groups_text: &str) -> Result<MemorySink, Fail> {
+    printed(alloc, &page_of_groups(alloc, groups_text)?, &groups(alloc)?)
+}
 
 #[test]
-fn fields_are_quoted_where_csv_needs_it(rt: HostRuntime) -> Result<(), Fail> {
-    let rows = rows_of(rt.alloc(), ROWS)?;
-    let output = printed(rt.alloc(), "city, state;count;sum_v", &rows)?;
+fn a_group_is_told_by_its_fields_and_numbers(rt: HostRuntime) -> Result<(), Fail> {
+    let told = "||a\0=2 -277 -9223372036854775808 9223372036854775807/|a,b|Oslo=1 5 5 5";
+    let output = printed_groups(rt.alloc(), told)?;
     let wanted =
-        b"\"city, state\",count,sum_v\n,1,0\n\0,2,-1\n leading,3,75\n\"a,b\",4,9223372036854775807\n\"a\nb\",5,-9223372036854775808\n\"a\rb\",9223372036854775807,10\n\"say \"\"hi\"\"\",7,-277\n";
+        b"k,n\n,a\0,2,-277,-9223372036854775808,9223372036854775807\n\"a,b\",Oslo,1,5,5,5\n";
     assert_eq!(rt; output.bytes(), wanted.as_slice());
     Ok(())
 }
 
 #[test]
-fn a_table_without_rows_is_its_names(rt: HostRuntime) -> Result<(), Fail> {
-    let head = head_of(rt.alloc(), "k;;sum_v")?;
-    let aggs = AggList::of(rt.alloc(), &[Agg::Sum])?;
-    let mut output = MemorySink::new(rt.alloc(), Vec::new(rt.alloc()));
-    print_list(rt.alloc(), &head, &[], &aggs, &mut output)?;
-    assert_eq!(rt; output.bytes(), b"k,,sum_v\n".as_slice());
+fn an_ordered_row_is_told_by_its_columns(rt: HostRuntime) -> Result<(), Fail> {
+    let page = page_of_orders(rt.alloc(), "|-3||say \"hi\"/|17|a| b")?;
+    let output = printed(rt.alloc(), &page, &orders(rt.alloc())?)?;
+    let wanted = b"k,n\n-3,,\"say \"\"hi\"\"\"\n17,a, b\n";
+    assert_eq!(rt; output.bytes(), wanted.as_slice());
     Ok(())
 }
 
-// 3,000 rows, which fill three blocks.
-fn many_rows(alloc: Global) -> Result<Vec<(Key, Key)>, Fail>
-    ensures { IfOk result (λ rows. All (IsTableRow (Agg.Count ∷ Agg.Sum ∷ [])) rows.items) }
+// Whether the second of two entries is damaged.
+fn is_damaged(alloc: Global, page: &Page, query: &Query) -> Result<bool, Fail>
+    requires { query.now.kind ≡ kind_of query.now.shape }
 {
-    let mut rows = Vec::new(alloc);
-    for i in 0..3000i64 {
-        let field = format!(in alloc;
-            "the key of the group with the number {i}, of three thousand"
-        )?;
-        push_row(&mut rows, field.as_bytes(), i, i)?;
+    let mut output = MemorySink::new(alloc, Vec::new(alloc));
+    let damaged = PrintFault::Damaged {
+        disk: 0,
+        file: 0,
+        kept: 2,
+        found: 1,
+    };
+    match print_page(alloc, page, query, &[], &mut output)? {
+        Err(PrintFault::NoMemory) => Err(PrintFault::NoMemory.into()),
+        told => Ok(told == Err(damaged)),
     }
-    Ok(rows)
 }
 
-// Their table, under the names `k`, `count` and `sum_v`.
-fn many_rows_text(alloc: Global) -> Result<String, Fail> {
-    let mut text = String::from_str(alloc, "k,count,sum_v\n")?;
-    for i in 0..3000i64 {
+// Keys of one field, of three and of none, where there are two; sums past both ends of 64 bits.
+const DAMAGED: &str = "|a|a=1 1 1 1/|b=1 1 1 1;|a|a=1 1 1 1/|b|c|d=1 1 1 1;|a|a=1 1 1 1/=1 1 1 1;\
+    |a|a=1 1 1 1/|b|b=1 9223372036854775808 1 1;|a|a=1 1 1 1/|b|b=1 -9223372036854775809 1 1";
+
+#[test]
+fn an_entry_that_cannot_be_told_is_damaged(rt: HostRuntime) -> Result<(), Fail> {
+    for told in DAMAGED.split(';') {
+        let page = page_of_groups(rt.alloc(), told)?;
+        let damaged = is_damaged(rt.alloc(), &page, &groups(rt.alloc())?)?;
+        assert!(rt; damaged, "{told}");
+    }
+    let page = page_of_orders(rt.alloc(), "|1|a|b/|")?;
+    let damaged = is_damaged(rt.alloc(), &page, &orders(rt.alloc())?)?;
+    assert!(rt; damaged, "a row of one column");
+    Ok(())
+}
+
+// A page of 3,000 groups, which fill three blocks.
+fn many_groups(alloc: Global) -> Result<Page, Fail> {
+    let mut page = Page::new(alloc, 1_000_000);
+    for i in 10_000..13_000i64 {
+        let fields = format!(in alloc; "|the first of two fields of the group with number {i}|b")?;
+        let numbers = format!(in alloc; "1 {i} {i} {i}")?;
+        let key = key_of(alloc, &fields)?;
+        push_entry(alloc, &mut page, &key, &value_of(alloc, &numbers)?)?;
+    }
+    Ok(page)
+}
+
+// Their table.
+fn many_groups_text(alloc: Global) -> Result<String, Fail> {
+    let mut text = String::from_str(alloc, "k,n\n")?;
+    for i in 10_000..13_000i64 {
         let row = format!(in alloc;
-            "\"the key of the group with the number {i}, of three thousand\",{i},{i}\n"
+            "the first of two fields of the group with number {i},b,1,{i},{i},{i}\n"
         )?;
         text.push_str(&row)?;
     }
     Ok(text)
 }
 
+// How a page of groups is printed where this call of the sink fails, and what the sink then has.
+fn print_failing(
+    alloc: Global,
+    page: &Page,
+    failing: u64,
+) -> Result<(Result<(), PrintFault>, MemorySink), Fail> {
+    let mut output = MemorySink::new(alloc, [failing].to_vec(alloc)?);
+    let answer = print_page(alloc, page, &groups(alloc)?, &[], &mut output)?;
+    Ok((answer, output))
+}
+
+// Each write of the sink fails in turn, until a table makes fewer.
 #[test]
-fn a_table_longer_than_a_block_is_whole(rt: HostRuntime) -> Result<(), Fail> {
-    let rows = many_rows(rt.alloc())?;
-    let wanted = many_rows_text(rt.alloc())?;
-    let output = printed(rt.alloc(), "k;count;sum_v", &rows)?;
-    let size = wanted.len();
-    assert!(rt; size > 3 * 65536, "the table has {size} bytes");
-    assert!(rt;
-        output.bytes() == wanted.as_bytes(),
-        "all rows are there, once, in order"
-    );
+fn a_failing_sink_has_taken_a_front_of_the_printed_run(rt: HostRuntime) -> Result<(), Fail> {
+    let page = many_groups(rt.alloc())?;
+    let wanted = many_groups_text(rt.alloc())?;
+    for failing in 0..4u64 {
+        let (answer, output) = print_failing(rt.alloc(), &page, failing)?;
+        assert_eq!(rt;
+            answer,
+            Err(PrintFault::WriteFault),
+            "a table of four writes, write {failing}"
+        );
+        assert!(rt; output.bytes() != wanted.as_bytes(), "write {failing}");
+        assert!(rt; wanted.as_bytes().starts_with(output.bytes()), "a front");
+        assert_eq!(rt;
+            (output.bytes().len() / 65536) as u64,
+            failing,
+            "a block each"
+        );
+    }
+    let (answer, output) = print_failing(rt.alloc(), &page, 4)?;
+    assert_eq!(rt; answer, Ok(()), "a table of four writes");
+    assert!(rt; output.bytes() == wanted.as_bytes(), "the table is whole");
     Ok(())
 }
 
-// How many bytes a sink has taken of a table of which the calls from one on fail, up to another; each is a front of it,
-// a block for each call before.
-fn taken_of(
-    rt: &impl Abort,
-    alloc: Global,
-    rows: &[(Key, Key)],
-    wanted: &[u8],
-    failing: u64,
-    last: u64,
-) -> Result<usize, Fail>
-    requires { All (IsTableRow (Agg.Count ∷ Agg.Sum ∷ [])) rows.now }
-{
-    let mut fails = Vec::new(alloc);
-    for call in failing..=last {
-        fails.push(call)?;
-    }
-    let (answer, output) = print_of(alloc, "k;count;sum_v", rows, fails)?;
-    assert_eq!(rt;
-        answer,
-        Err(SinkError::Failed),
-        "from call {failing} to {last}"
-    );
-    assert!(rt;
-        wanted.starts_with(output.bytes()),
-        "a front, from call {failing}"
-    );
-    let taken = output.bytes().len();
-    assert_eq!(rt;
-        taken / 65536,
-        failing as usize,
-        "a block for each call before {failing}"
-    );
-    Ok(taken)
+// How an ordered row is printed where this call of the disk fails.
+fn print_unread(alloc: Global, failing: u64) -> Result<Result<(), PrintFault>, Fail> {
+    let page = page_of_orders(alloc, "|1|a|b")?;
+    let mut output = MemorySink::new(alloc, Vec::new(alloc));
+    print_page(alloc, &page, &orders(alloc)?, &[failing], &mut output)
 }
 
-// The first call of the sink that fails is each in turn, until a table makes fewer calls. Then each
-// later call fails too.
+// Two calls write the run; the third reads it.
 #[test]
-fn a_failing_sink_has_taken_a_front_of_the_table(rt: HostRuntime) -> Result<(), Fail> {
-    let rows = many_rows(rt.alloc())?;
-    let wanted = many_rows_text(rt.alloc())?;
-    let mut taken = 0;
-    for failing in 0..3u64 {
-        for more in [0, 3] {
-            taken = taken_of(
-                &rt,
-                rt.alloc(),
-                &rows,
-                wanted.as_bytes(),
-                failing,
-                failing + more,
-            )?;
-        }
-    }
-    assert!(rt;
-        taken < wanted.len(),
-        "the last call is the end of the table"
-    );
-    let (answer, output) = print_of(rt.alloc(), "k;count;sum_v", &rows, [3].to_vec(rt.alloc())?)?;
-    assert_eq!(rt; answer, Ok(()));
+fn a_failing_read_is_a_fault_of_its_disk(rt: HostRuntime) -> Result<(), Fail> {
     assert_eq!(rt;
-        output.bytes().len(),
-        wanted.len(),
-        "a table makes no fourth call"
+        print_unread(rt.alloc(), 2)?,
+        Err(PrintFault::DiskFault { disk: 0 })
     );
+    assert_eq!(rt; print_unread(rt.alloc(), 3)?, Ok(()));
+    Ok(())
+}
+
+// The key of the first of these groups that is too wide, where this call of the disk fails.
+fn wide_of(
+    alloc: Global,
+    groups: &str,
+    failing: u64,
+) -> Result<Result<Option<Vec<u8>>, RunFault>, Fail> {
+    let page = page_of_groups(alloc, groups)?;
+    let mut disk = MemoryDisk::new(alloc, [failing].to_vec(alloc)?);
+    let run = put_run(&mut disk, &page)?;
+    let aggs = AggList::of(alloc, &[Agg::Count, Agg::Sum, Agg::Min, Agg::Max])?;
+    let mut one = One { disk: &mut disk };
+    match too_wide(alloc, &mut one, Some(&run), &aggs) {
+        Ok(Some(key)) => Ok(Ok(Some(key.bytes().to_vec(alloc)?))),
+        Ok(None) => Ok(Ok(None)),
+        Err(fault) => Ok(Err(fault)),
+    }
+}
+
+// Whether a result without a run has a group that is too wide.
+fn none_is_wide(alloc: Global) -> Result<bool, Fail> {
+    let mut disk = MemoryDisk::new(alloc, Vec::new(alloc));
+    let aggs = AggList::of(alloc, &[Agg::Sum])?;
+    Ok(too_wide(alloc, &mut One { disk: &mut disk }, None, &aggs)?.is_none())
+}
+
+// The second and the third of these pass 64 bits, one above and one below.
+const WIDE: &str = "|Bonn=1 9223372036854775807 1 1/\
+    |Oslo=2 9223372036854775808 1 9223372036854775807/|Rome=2 -9223372036854775809 1 1";
+
+#[test]
+fn the_first_group_that_is_too_wide_is_found(rt: HostRuntime) -> Result<(), Fail> {
+    let alloc = rt.alloc();
+    let fits = wide_of(alloc, "|Bonn=1 9223372036854775807 1 1", 9)?;
+    assert_eq!(rt; fits, Ok(None), "all fit");
+    let oslo = b"\x4f\x73\x6c\x6f\0\0".to_vec(alloc)?;
+    assert_eq!(rt;
+        wide_of(alloc, WIDE, 9)?,
+        Ok(Some(oslo)),
+        "the second of three"
+    );
+    let fault = RunFault::DiskFault { disk: 0 };
+    assert_eq!(rt; wide_of(alloc, WIDE, 2)?, Err(fault));
+    assert!(rt; none_is_wide(alloc)?, "no run");
     Ok(())
 }
