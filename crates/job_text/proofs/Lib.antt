@@ -10,3 +10,8 @@ pub mod Names
 pub mod Places
 pub mod Doubled
 pub mod Texts
+pub mod Named
+pub mod Meant
+pub mod Spelled
+pub mod Written
+pub mod Grammars

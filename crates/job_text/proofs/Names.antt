@@ -1,6 +1,6 @@
--- A step adds one name at most.
-use Rattle.std.proofs.Common.{◌≡◌, ℕ, ◌+◌, ◌≤◌, Bool, true, false, cond, List, [], ◌∷◌, ◌++◌, length, Some, None, arith, inl, inr, ◌&&◌}
-use Rattle.std.specs.Prelude.{IfSome, if◌then◌else◌, nat_lt}
+-- A step adds one name at most, and names stay.
+use Rattle.std.proofs.Common.{◌≡◌, ℕ, ◌+◌, ◌≤◌, Bool, true, false, cond, List, [], ◌∷◌, ◌++◌, length, Option, Some, None, refl, ap, subst, arith, inl, inr, ◌&&◌}
+use Rattle.std.specs.Prelude.{IfSome, if◌then◌else◌, nat_lt, option_and_then}
 use Rattle.std.specs.Str.{bytes_eq}
 use Rattle.std.proofs.lemmas.Bool.{cases_Bool}
 use Rattle.job_text.specs.declared.mark.Mark.{Mark}
@@ -15,11 +15,16 @@ use Rattle.job_text.specs.declared.state.At.{At}
 use Rattle.job_text.specs.declared.state.At.TheVariants as at
 use Rattle.job_text.specs.declared.state.Read.{Read}
 use Rattle.job_text.specs.declared.state.State.{State}
-use Rattle.job_text.specs.Columns.{place_of, with_name, has_column, has_key, has_part, is_short}
+use Rattle.job_text.specs.Columns.{place_of, with_name, with_names, has_column, has_key, has_part, is_short}
 use Rattle.job_text.specs.Step.{step, query_of, counted, key, named, after_mark, after_query, after_group_columns, after_part, after_parts, after_keys, after_key_column, after_order_columns, after_source, ended, after_column, one_more}
+use Rattle.job_text.specs.Begins.{steps}
+
+abbrev pub with_some : List (List ℕ) → Option (List ℕ) → List (List ℕ)
+with_some names None = names
+with_some names (Some name) = with_name names name
 
 abbrev pub OneMore : Read → State → Type 0
-OneMore r next = length next.read.names ≤ length r.names + 1
+OneMore r next = (name : Option (List ℕ)) × (next.read.names ≡ with_some r.names name)
 
 length-with_name-one : (names : List (List ℕ)) (name : List ℕ) → length (with_name names name) ≤ length names + 1
 length-with_name-one [] name = omega arith
@@ -38,54 +43,54 @@ module _ (r : Read) where
   one_none false x h = h
 
   one_if : {A : Type 0} (items : List A) (next : At) → IfSome (one_more r items next) (OneMore r)
-  one_if items next = one_cond (nat_lt (length items) 8) (record { read = r; at = next }) (omega arith)
+  one_if items next = one_cond (nat_lt (length items) 8) (record { read = r; at = next }) ((None, refl))
 
   one_ended : (shape : Shape) (mark : Mark) → IfSome (ended r shape mark) (OneMore r)
-  one_ended shape marks.Semicolon = one_cond (nat_lt (length r.queries + 1) 8) (record { read = record r { queries = r.queries ++ query_of shape ∷ [] }; at = at.Query }) (omega arith)
+  one_ended shape marks.Semicolon = one_cond (nat_lt (length r.queries + 1) 8) (record { read = record r { queries = r.queries ++ query_of shape ∷ [] }; at = at.Query }) ((None, refl))
   one_ended shape _ = tt
 
   one_query : (mark : Mark) → IfSome (after_query r mark) (OneMore r)
-  one_query marks.Group = omega arith
-  one_query marks.Order = omega arith
+  one_query marks.Group = (None, refl)
+  one_query marks.Order = (None, refl)
   one_query _ = tt
 
   one_group_columns : (columns : List ℕ) (mark : Mark) → IfSome (after_group_columns r columns mark) (OneMore r)
   one_group_columns columns marks.Comma = one_if columns (at.GroupColumn columns)
-  one_group_columns columns marks.Colon = omega arith
+  one_group_columns columns marks.Colon = (None, refl)
   one_group_columns columns _ = tt
 
   one_part : (columns : List ℕ) (parts : List Part) (mark : Mark) → IfSome (after_part r columns parts mark) (OneMore r)
-  one_part columns parts marks.Count = one_none (has_part parts counted) (record { read = r; at = at.Parts columns (parts ++ counted ∷ []) }) (omega arith)
-  one_part columns parts marks.Sum = omega arith
-  one_part columns parts marks.Min = omega arith
-  one_part columns parts marks.Max = omega arith
+  one_part columns parts marks.Count = one_none (has_part parts counted) (record { read = r; at = at.Parts columns (parts ++ counted ∷ []) }) ((None, refl))
+  one_part columns parts marks.Sum = (None, refl)
+  one_part columns parts marks.Min = (None, refl)
+  one_part columns parts marks.Max = (None, refl)
   one_part columns parts _ = tt
 
   one_parts : (columns : List ℕ) (parts : List Part) (mark : Mark) → IfSome (after_parts r columns parts mark) (OneMore r)
   one_parts columns parts marks.Comma = one_if parts (at.Part columns parts)
-  one_parts columns parts marks.From = omega arith
+  one_parts columns parts marks.From = (None, refl)
   one_parts columns parts mark = one_ended (shapes.Group columns parts) mark
 
   one_keys : (keys : List KeyItem) (mark : Mark) → IfSome (after_keys r keys mark) (OneMore r)
   one_keys keys marks.Comma = one_if keys (at.Key keys)
-  one_keys keys marks.Colon = omega arith
+  one_keys keys marks.Colon = (None, refl)
   one_keys keys _ = tt
 
   one_key_column : (keys : List KeyItem) (column : ℕ) (number : Bool) (mark : Mark) → IfSome (after_key_column r keys column number mark) (OneMore r)
-  one_key_column keys column number marks.Down = omega arith
+  one_key_column keys column number marks.Down = (None, refl)
   one_key_column keys column number mark = one_keys (key keys column number false) mark
 
   one_order_columns : (keys : List KeyItem) (columns : List ℕ) (mark : Mark) → IfSome (after_order_columns r keys columns mark) (OneMore r)
   one_order_columns keys columns marks.Comma = one_if columns (at.OrderColumn keys columns)
-  one_order_columns keys columns marks.From = omega arith
+  one_order_columns keys columns marks.From = (None, refl)
   one_order_columns keys columns mark = one_ended (shapes.Order keys columns) mark
 
   one_source : (shape : Shape) (mark : Mark) → IfSome (after_source r shape mark) (OneMore r)
-  one_source shape marks.Input = omega arith
+  one_source shape marks.Input = (None, refl)
   one_source shape _ = tt
 
   one_number : (keys : List KeyItem) (mark : Mark) → IfSome (after_mark r (at.Key keys) mark) (OneMore r)
-  one_number keys marks.Number = omega arith
+  one_number keys marks.Number = (None, refl)
   one_number keys _ = tt
 
   one_mark : (place : At) (mark : Mark) → IfSome (after_mark r place mark) (OneMore r)
@@ -105,7 +110,7 @@ module _ (r : Read) where
   one_mark (at.Sourced shape) mark = one_ended shape mark
 
   one_named : (is_taken : ℕ → Bool) (next : ℕ → At) (name : List ℕ) → IfSome (named r is_taken next (Some name)) (OneMore r)
-  one_named is_taken next name = one_cond (is_short name && (if is_taken (place_of r.names name) then false else true)) (record { read = record r { names = with_name r.names name }; at = next (place_of r.names name) }) (length-with_name-one r.names name)
+  one_named is_taken next name = one_cond (is_short name && (if is_taken (place_of r.names name) then false else true)) (record { read = record r { names = with_name r.names name }; at = next (place_of r.names name) }) (Some name, refl)
 
   one_column : (place : At) (name : List ℕ) → IfSome (after_column r place (Some name)) (OneMore r)
   one_column (at.GroupColumn columns) name = one_named (has_column columns) (λ c. at.GroupColumns (columns ++ c ∷ [])) name
@@ -123,5 +128,40 @@ one_step s (Quoted name) = one_column s.read s.at name
 one_step s (Text text) = tt
 one_step s Whole = tt
 
+length-with_some : (names : List (List ℕ)) (name : Option (List ℕ)) → length (with_some names name) ≤ length names + 1
+length-with_some names None = omega arith
+length-with_some names (Some name) = length-with_name-one names name
+
 pub names_grow : (s next : State) (t : Token) → step s t ≡ Some next → length next.read.names ≤ length s.read.names + 1
-names_grow s next t e = rw e at (one_step s t)
+names_grow s next t e =
+    let one = rw e at (one_step s t) in
+    omega (arith, ap length one.1, length-with_some s.read.names one.0)
+
+-- ---- so the names that are read stay, and others follow
+
+abbrev pub Reaches : List (List ℕ) → List (List ℕ) → Type 0
+Reaches names all = (later : List (List ℕ)) × (with_names names later ≡ all)
+
+reaches_some : (names : List (List ℕ)) (name : Option (List ℕ)) (all : List (List ℕ)) → Reaches (with_some names name) all → Reaches names all
+reaches_some names None all h = h
+reaches_some names (Some name) all h = (name ∷ h.0, h.1)
+
+pub reaches_step : (s next : State) (t : Token) (all : List (List ℕ)) → step s t ≡ Some next → Reaches next.read.names all → Reaches s.read.names all
+reaches_step s next t all e h =
+    let one = rw e at (one_step s t) in
+    reaches_some s.read.names one.0 all (subst (λ (l : List (List ℕ)). Reaches l all) one.1 h)
+
+no_state : (s : State) → let none : Option State = None in none ≡ Some s → ⊥
+no_state s e = cc
+
+same_state : (s t : State) → let one : Option State = Some s in one ≡ Some t → s ≡ t
+same_state s t e = cc
+
+pub reaches : (ts : List Token) (s last : State) → steps s ts ≡ Some last → Reaches s.read.names last.read.names
+unfolding steps
+reaches [] s last e = ([], ap (λ (s : State). s.read.names) (same_state s last e))
+reaches (t ∷ ts) s last e = on (step s t) refl e (λ next r. reaches ts next last r)
+  where
+    on : (o : Option State) → step s t ≡ o → option_and_then (λ next. steps next ts) o ≡ Some last → ((next : State) → steps next ts ≡ Some last → Reaches next.read.names last.read.names) → Reaches s.read.names last.read.names
+    on None es r go = absurd (no_state last r)
+    on (Some next) es r go = reaches_step s next t last.read.names es (go next r)

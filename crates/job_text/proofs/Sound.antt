@@ -1,262 +1,489 @@
--- Each job that tokens give is one: its lists are short, and its columns are among its names.
-use Rattle.std.proofs.Common.{◌≡◌, ℕ, ◌+◌, ◌<◌, ◌≤◌, Bool, true, false, cond, List, [], ◌∷◌, ◌++◌, length, Option, Some, None, Result, Ok, Err, refl, sym, ◌∙◌, arith}
-use Rattle.std.specs.Prelude.{⊤, All, IfSome, IfOk, option_and_then, if◌then◌else◌, nat_lt, ◌&&◌}
-use Rattle.std.proofs.lemmas.Bool.{ltb-true, and_parts, leb-true}
-use Rattle.std.proofs.lemmas.List.{length-append, length-map}
-use Rattle.std.proofs.lemmas.List.Elements.{All-nil, All-push}
+-- Tokens that are read as a job are written as the grammar has it.
+use Rattle.std.proofs.Common.{◌≡◌, ◌≢◌, ℕ, ◌+◌, ◌<◌, Bool, true, false, cond, List, [], ◌∷◌, ◌++◌, length, Option, Some, None, refl, sym, ap, subst, ◌∙◌, append_assoc, arith, ◌&&◌}
+use Rattle.std.specs.Prelude.{All, IfSome, map, option_and_then, if◌then◌else◌, nat_lt}
+use Rattle.std.specs.Option.{option_map}
+use Rattle.std.proofs.lemmas.Bool.{ltb-true, and_parts, leb-true, or_parts, eq-eqb, true≢false}
+use Rattle.std.proofs.lemmas.List.{append-nil, length-append, length-map}
+use Rattle.std.proofs.lemmas.List.Elements.{All-nil, All-cons, All-push, All-map}
+use Rattle.aggregate.specs.declared.agg_list.Agg.{Agg}
+use Rattle.aggregate.specs.declared.agg_list.Agg.TheVariants as aggs
 use Rattle.job_text.specs.declared.mark.Mark.{Mark}
 use Rattle.job_text.specs.declared.mark.Mark.TheVariants as marks
 use Rattle.job_text.specs.declared.token.Token.{Token}
 use Rattle.job_text.specs.declared.token.Token.TheVariants.{Fixed, Word, Quoted, Text, Whole}
-use Rattle.job_text.specs.declared.fault.JobFault.{JobFault}
 use Rattle.job_text.specs.declared.job.Part.{Part}
 use Rattle.job_text.specs.declared.job.KeyItem.{KeyItem}
 use Rattle.job_text.specs.declared.job.Shape.{Shape}
 use Rattle.job_text.specs.declared.job.Shape.TheVariants as shapes
 use Rattle.job_text.specs.declared.job.Job.{Job}
+use Rattle.job_text.specs.declared.job.Query.{Query}
 use Rattle.job_text.specs.declared.state.At.{At}
 use Rattle.job_text.specs.declared.state.At.TheVariants as at
 use Rattle.job_text.specs.declared.state.Read.{Read}
 use Rattle.job_text.specs.declared.state.State.{State}
-use Rattle.job_text.specs.Columns.{place_of, with_name, is_short, has_column, has_key, has_part}
+use Rattle.job_text.specs.Columns.{place_of, with_name, is_short, has_column, has_key, has_part, same_agg, same_column}
 use Rattle.job_text.specs.Step.{step, start, query_of, counted, key, named, after_mark, after_query, after_group_columns, after_part, after_parts, after_keys, after_key_column, after_order_columns, after_source, ended, after_column, one_more, shape_of}
-use Rattle.job_text.specs.Begins.{steps, job_with, job_at}
-use Rattle.job_text.specs.Text.{Gives, read_of, scan}
-use Rattle.job_text.specs.Place.{only_tokens, IsJobText}
-use Rattle.job_text.specs.Jobs.{IsPart, IsDistinct, IsColumns, IsShape, IsQuery, IsJob, is_count}
-use Rattle.job_text.proofs.Fresh.{length-with_name, place_below}
-use Rattle.job_text.proofs.Fitting.{put, key_columns, key_columns-push}
+use Rattle.job_text.specs.Begins.{steps, job_with, job_at, job_of}
+use Rattle.job_text.specs.Jobs.{IsDistinct, is_count}
+use Rattle.job_text.specs.Grammar.{WrittenColumn, WrittenKey, WrittenAgg, WrittenShape, WrittenQuery, WrittenJob, column_written, key_written, agg_written, shape_written, query_written, job_written, optional, separated, name_of, IsShortColumn, IsShortAgg, AreColumns, AreAggs, IsShapeRight, IsRight, agg_of, agg_column, agg_named, column_meant, key_meant, agg_meant}
+use Rattle.job_text.specs.Grammar.{word, in_quotes, count, sum_of, min_of, max_of, group, order, input}
+use Rattle.job_text.specs.Printing.{agg_mark}
+use Rattle.job_text.proofs.Fitting.{put}
+use Rattle.job_text.proofs.Growing.{other_columns}
+use Rattle.job_text.proofs.Named.{place_now}
+use Rattle.job_text.proofs.Names.{Reaches, reaches}
+use Rattle.job_text.proofs.Spelled.{ended_by, ended-push, separated-last, IsOpenList, IsWholeList, no_items, opened, added, new_by}
 use Rattle.job_text.proofs.Viable.{has_key_is}
-use Rattle.job_text.proofs.Places.{found_of}
-use Rattle.job_text.proofs.Growing.{AreSoFar, ArePartsSoFar, so_far_more, columns_more, parts_more, queries_more, none_so_far, column_added, columns_open, part_added, is_counted, is_part, All-with_name, distinct-with_name}
 
--- what was read is part of a job
-pub record IsReadSound (r : Read) : Type 0 where
-  pub names : All (λ name. length name ≤ 1024) r.names
-  pub distinct : IsDistinct r.names
-  pub queries : All (IsQuery (length r.names) 0) r.queries
-  pub few : length r.queries < 8
+-- ---- what isn't in a list
 
--- and so is the query at hand
-abbrev pub IsAtSound : ℕ → At → Type 0
-IsAtSound n at.Query = ⊤
-IsAtSound n (at.GroupColumn columns) = AreSoFar n columns
-IsAtSound n (at.GroupColumns columns) = IsColumns n columns
-IsAtSound n (at.Part columns parts) = IsColumns n columns × ArePartsSoFar n parts
-IsAtSound n (at.PartColumn columns parts agg) = IsColumns n columns × ArePartsSoFar n parts × (is_count agg ≡ false)
-IsAtSound n (at.Parts columns parts) = IsShape n (shapes.Group columns parts)
-IsAtSound n (at.Key keys) = AreSoFar n (key_columns keys)
-IsAtSound n (at.NumberKey keys) = AreSoFar n (key_columns keys)
-IsAtSound n (at.KeyColumn keys column number) = IsColumns n (key_columns keys ++ column ∷ [])
-IsAtSound n (at.Keys keys) = IsColumns n (key_columns keys)
-IsAtSound n (at.OrderColumn keys columns) = IsColumns n (key_columns keys) × AreSoFar n columns
-IsAtSound n (at.OrderColumns keys columns) = IsShape n (shapes.Order keys columns)
-IsAtSound n (at.Source shape) = IsShape n shape
-IsAtSound n (at.Sourced shape) = IsShape n shape
+same_agg_is : (agg : Agg) → same_agg agg agg ≡ true
+same_agg_is aggs.Count = refl
+same_agg_is aggs.Sum = refl
+same_agg_is aggs.Min = refl
+same_agg_is aggs.Max = refl
 
-abbrev pub IsSound : State → Type 0
-IsSound s = IsReadSound s.read × IsAtSound (length s.read.names) s.at
+same_column_is : (column : Option ℕ) → same_column column column ≡ true
+same_column_is None = refl
+same_column_is (Some column) = eq-eqb column column refl
 
-sound_cond : (b : Bool) (x : State) → (b ≡ true → IsSound x) → IfSome (cond b (Some x) None) IsSound
-sound_cond true x h = h refl
-sound_cond false x h = tt
+other_parts : (parts : List Part) (part : Part) → has_part parts part ≡ false → All (λ p. p ≢ part) parts
+other_parts [] part h = All-nil (λ p. p ≢ part)
+other_parts (p ∷ parts) part h =
+    let both = or_parts (same_agg p.agg part.agg && same_column p.column part.column) (has_part parts part) h in
+    All-cons (λ p. p ≢ part) p parts (λ e.
+    let itself : (same_agg part.agg part.agg && same_column part.column part.column) ≡ false = subst (λ (q : Part). (same_agg q.agg part.agg && same_column q.column part.column) ≡ false) e both.0 in
+    true≢false (sym (rw (same_agg_is part.agg, same_column_is part.column) refl) ∙ itself)) (other_parts parts part both.1)
 
-sound_none : (b : Bool) (x : State) → IsSound x → IfSome (cond b None (Some x)) IsSound
-sound_none true x h = tt
-sound_none false x h = h
+-- ---- what was read of a query, by the names that the job will have
 
-free_of : (taken : Bool) → (if taken then false else true) ≡ true → taken ≡ false
-free_of true h = sym h
-free_of false h = refl
+abbrev IsOpenColumns : List (List ℕ) → List ℕ → List Token → Type 0
+IsOpenColumns names = IsOpenList column_written (column_meant names) name_of IsShortColumn
+
+abbrev AreWholeColumns : List (List ℕ) → List ℕ → List Token → Type 0
+AreWholeColumns names = IsWholeList column_written (column_meant names) name_of IsShortColumn
+
+abbrev key_name : WrittenKey → List ℕ
+key_name key = name_of key.column
+
+abbrev IsShortKey : WrittenKey → Type 0
+IsShortKey key = IsShortColumn key.column
+
+abbrev AreOpenKeys : List (List ℕ) → List KeyItem → List Token → Type 0
+AreOpenKeys names = IsOpenList key_written (key_meant names) key_name IsShortKey
+
+abbrev AreWholeKeys : List (List ℕ) → List KeyItem → List Token → Type 0
+AreWholeKeys names = IsWholeList key_written (key_meant names) key_name IsShortKey
+
+abbrev AreOpenParts : List (List ℕ) → List Part → List Token → Type 0
+AreOpenParts names = IsOpenList agg_written (agg_meant names) agg_named IsShortAgg
+
+abbrev AreWholeParts : List (List ℕ) → List Part → List Token → Type 0
+AreWholeParts names = IsWholeList agg_written (agg_meant names) agg_named IsShortAgg
+
+abbrev IsAtWritten : List (List ℕ) → List Token → At → Type 0
+IsAtWritten names ts at.Query = ts ≡ []
+IsAtWritten names ts (at.GroupColumn columns) = (cs : List Token) × (ts ≡ Fixed marks.Group ∷ cs) × IsOpenColumns names columns cs
+IsAtWritten names ts (at.GroupColumns columns) = (cs : List Token) × (ts ≡ Fixed marks.Group ∷ cs) × AreWholeColumns names columns cs
+IsAtWritten names ts (at.Part columns parts) =
+    (cs : List Token) × (ps : List Token) × (ts ≡ Fixed marks.Group ∷ cs ++ Fixed marks.Colon ∷ ps) × AreWholeColumns names columns cs × AreOpenParts names parts ps
+IsAtWritten names ts (at.PartColumn columns parts agg) =
+    (cs : List Token) × (ps : List Token) × (ts ≡ Fixed marks.Group ∷ cs ++ Fixed marks.Colon ∷ (ps ++ Fixed (agg_mark agg) ∷ [])) × AreWholeColumns names columns cs × AreOpenParts names parts ps × (is_count agg ≡ false)
+IsAtWritten names ts (at.Parts columns parts) =
+    (cs : List Token) × (ps : List Token) × (ts ≡ Fixed marks.Group ∷ cs ++ Fixed marks.Colon ∷ ps) × AreWholeColumns names columns cs × AreWholeParts names parts ps
+IsAtWritten names ts (at.Key keys) = (ks : List Token) × (ts ≡ Fixed marks.Order ∷ ks) × AreOpenKeys names keys ks
+IsAtWritten names ts (at.NumberKey keys) = (ks : List Token) × (ts ≡ Fixed marks.Order ∷ (ks ++ Fixed marks.Number ∷ [])) × AreOpenKeys names keys ks
+IsAtWritten names ts (at.KeyColumn keys column number) =
+    (ks : List Token) × (c : WrittenColumn) × (ts ≡ Fixed marks.Order ∷ (ks ++ (optional number marks.Number ++ column_written c)))
+    × (column ≡ column_meant names c) × IsShortColumn c × (h : AreOpenKeys names keys ks) × All (λ x. x ≢ name_of c) (map key_name h.written)
+IsAtWritten names ts (at.Keys keys) = (ks : List Token) × (ts ≡ Fixed marks.Order ∷ ks) × AreWholeKeys names keys ks
+IsAtWritten names ts (at.OrderColumn keys columns) =
+    (ks : List Token) × (cs : List Token) × (ts ≡ Fixed marks.Order ∷ ks ++ Fixed marks.Colon ∷ cs) × AreWholeKeys names keys ks × IsOpenColumns names columns cs
+IsAtWritten names ts (at.OrderColumns keys columns) =
+    (ks : List Token) × (cs : List Token) × (ts ≡ Fixed marks.Order ∷ ks ++ Fixed marks.Colon ∷ cs) × AreWholeKeys names keys ks × AreWholeColumns names columns cs
+IsAtWritten names ts (at.Source shape) = (w : WrittenShape) × (ts ≡ shape_written w ++ Fixed marks.From ∷ []) × IsShapeRight w
+IsAtWritten names ts (at.Sourced shape) = (q : WrittenQuery) × (ts ≡ query_written q) × IsShapeRight q.shape
+
+-- the queries before it, each with its semicolon
+pub record AreBefore (queries : List Query) (ts : List Token) : Type 0 where
+  pub written : List WrittenQuery
+  pub tokens_are : ts ≡ ended_by marks.Semicolon query_written written
+  pub as_many : length written ≡ length queries
+  pub few : length queries < 8
+  pub right : All (λ query. IsShapeRight query.shape) written
+
+abbrev IsStateWritten : List (List ℕ) → List Token → State → Type 0
+IsStateWritten names ts s = (front : List Token) × (back : List Token) × (ts ≡ front ++ back) × AreBefore s.read.queries front × IsAtWritten names back s.at
+
+-- ---- what whole lists are
+
+on_one : (a : Token) (cs back more : List Token) → back ≡ a ∷ cs → back ++ more ≡ a ∷ (cs ++ more)
+on_one a cs back more e = ap (λ (l : List Token). l ++ more) e
+
+on_two : (a b : Token) (cs ps back more : List Token) → back ≡ a ∷ cs ++ b ∷ ps → back ++ more ≡ a ∷ cs ++ b ∷ (ps ++ more)
+on_two a b cs ps back more e = ap (λ (l : List Token). l ++ more) e ∙ append_assoc (a ∷ cs) (b ∷ ps) more
+
+names_of_keys : (keys : List WrittenKey) → map name_of (map (λ key. key.column) keys) ≡ map key_name keys
+names_of_keys [] = refl
+names_of_keys (key ∷ keys) = ap (λ (l : List (List ℕ)). key_name key ∷ l) (names_of_keys keys)
+
+module _ (names : List (List ℕ)) where
+  columns_right : (columns : List ℕ) (ts : List Token) (h : AreWholeColumns names columns ts) → AreColumns h.written
+  columns_right columns ts h = record { several = h.several; short = h.fine; distinct = h.distinct }
+
+  keys_right : (keys : List KeyItem) (ts : List Token) (h : AreWholeKeys names keys ts) → AreColumns (map (λ key. key.column) h.written)
+  keys_right keys ts h = record {
+    several = record { some = omega (arith, h.several.some, length-map h.written (λ key. key.column)); few = omega (arith, h.several.few, length-map h.written (λ key. key.column)) };
+    short = All-map IsShortColumn (λ key. key.column) h.written h.fine;
+    distinct = subst IsDistinct (sym (names_of_keys h.written)) h.distinct;
+  }
+
+  parts_right : (parts : List Part) (ts : List Token) (h : AreWholeParts names parts ts) → AreAggs h.written
+  parts_right parts ts h = record { several = h.several; short = h.fine; distinct = h.distinct }
+
+  -- a shape that is whole
+  abbrev IsShapeWhole : List Token → Type 0
+  IsShapeWhole ts = (w : WrittenShape) × (ts ≡ shape_written w) × IsShapeRight w
+
+  group_whole : (ts : List Token) (columns : List ℕ) (parts : List Part) → IsAtWritten names ts (at.Parts columns parts) → IsShapeWhole ts
+  group_whole ts columns parts h = (
+    group h.3.written h.4.written,
+    h.2 ∙ ap (λ (l : List Token). Fixed marks.Group ∷ l ++ Fixed marks.Colon ∷ h.1) h.3.tokens_are ∙ ap (λ (l : List Token). Fixed marks.Group ∷ separated marks.Comma column_written h.3.written ++ Fixed marks.Colon ∷ l) h.4.tokens_are,
+    (columns_right columns h.0 h.3, parts_right parts h.1 h.4),
+  )
+
+  order_whole : (ts : List Token) (keys : List KeyItem) (columns : List ℕ) → IsAtWritten names ts (at.OrderColumns keys columns) → IsShapeWhole ts
+  order_whole ts keys columns h = (
+    order h.3.written h.4.written,
+    h.2 ∙ ap (λ (l : List Token). Fixed marks.Order ∷ l ++ Fixed marks.Colon ∷ h.1) h.3.tokens_are ∙ ap (λ (l : List Token). Fixed marks.Order ∷ separated marks.Comma key_written h.3.written ++ Fixed marks.Colon ∷ l) h.4.tokens_are,
+    (keys_right keys h.0 h.3, columns_right columns h.1 h.4),
+  )
+
+  -- a query that is whole
+  abbrev IsQueryWhole : List Token → Type 0
+  IsQueryWhole ts = (q : WrittenQuery) × (ts ≡ query_written q) × IsShapeRight q.shape
+
+  without_source : (ts : List Token) → IsShapeWhole ts → IsQueryWhole ts
+  without_source ts h = (record { shape = h.0; source = None }, h.1 ∙ sym (append-nil (shape_written h.0)), h.2)
+
+  -- ---- one item more
+
+  column_more : (columns : List ℕ) (ts : List Token) → IsOpenColumns names columns ts → (c : WrittenColumn) (place : ℕ) → place ≡ column_meant names c → IsShortColumn c → has_column columns place ≡ false
+      → AreWholeColumns names (columns ++ place ∷ []) (ts ++ column_written c)
+  column_more columns ts h c place e short free =
+      subst (λ (p : ℕ). AreWholeColumns names (columns ++ p ∷ []) (ts ++ column_written c)) (sym e)
+      (added column_written (column_meant names) name_of IsShortColumn columns ts h c short
+      (new_by (column_meant names) name_of c (λ a b same. ap (place_of names) same) h.written
+      (subst (All (λ p. p ≢ column_meant names c)) h.items_are (subst (λ (p : ℕ). All (λ q. q ≢ p) columns) e (other_columns columns place free)))))
+
+  named_meant : (one other : WrittenAgg) → agg_named one ≡ agg_named other → agg_meant names one ≡ agg_meant names other
+  named_meant one other e = both (ap (λ (p : Agg × Option (List ℕ)). p.0) e) (same (agg_column one) ∙ ap (λ (p : Agg × Option (List ℕ)). option_map (place_of names) p.1) e ∙ sym (same (agg_column other)))
+    where
+      same : (column : Option WrittenColumn) → option_map (column_meant names) column ≡ option_map (place_of names) (option_map name_of column)
+      same None = refl
+      same (Some column) = refl
+
+      both : agg_of one ≡ agg_of other → option_map (column_meant names) (agg_column one) ≡ option_map (column_meant names) (agg_column other) → agg_meant names one ≡ agg_meant names other
+      both e f = rw (e, f) refl
+
+  part_is : (parts : List Part) (ts : List Token) → AreOpenParts names parts ts → (w : WrittenAgg) (part : Part) (more : List Token) → agg_meant names w ≡ part → agg_written w ≡ more → IsShortAgg w → has_part parts part ≡ false
+      → AreWholeParts names (parts ++ part ∷ []) (ts ++ more)
+  part_is parts ts h w part more em et short free =
+      subst (λ (p : Part). AreWholeParts names (parts ++ p ∷ []) (ts ++ more)) em
+      (subst (λ (l : List Token). AreWholeParts names (parts ++ agg_meant names w ∷ []) (ts ++ l)) et
+      (added agg_written (agg_meant names) agg_named IsShortAgg parts ts h w short
+      (new_by (agg_meant names) agg_named w named_meant h.written (subst (All (λ p. p ≢ agg_meant names w)) h.items_are (other_parts parts (agg_meant names w) (subst (λ (p : Part). has_part parts p ≡ false) (sym em) free))))))
+
+  part_more : (parts : List Part) (ts : List Token) → AreOpenParts names parts ts → (agg : Agg) (c : WrittenColumn) (place : ℕ) → is_count agg ≡ false → place ≡ column_meant names c → IsShortColumn c → has_part parts (record { agg = agg; column = Some place }) ≡ false
+      → AreWholeParts names (parts ++ record { agg = agg; column = Some place } ∷ []) (ts ++ Fixed (agg_mark agg) ∷ column_written c)
+  part_more parts ts h aggs.Count c place of_column e short free = absurd (true≢false of_column)
+  part_more parts ts h aggs.Sum c place of_column e short free = part_is parts ts h (sum_of c) (record { agg = aggs.Sum; column = Some place }) (Fixed marks.Sum ∷ column_written c) (ap (λ (p : ℕ). record { agg = aggs.Sum; column = Some p }) (sym e)) refl short free
+  part_more parts ts h aggs.Min c place of_column e short free = part_is parts ts h (min_of c) (record { agg = aggs.Min; column = Some place }) (Fixed marks.Min ∷ column_written c) (ap (λ (p : ℕ). record { agg = aggs.Min; column = Some p }) (sym e)) refl short free
+  part_more parts ts h aggs.Max c place of_column e short free = part_is parts ts h (max_of c) (record { agg = aggs.Max; column = Some place }) (Fixed marks.Max ∷ column_written c) (ap (λ (p : ℕ). record { agg = aggs.Max; column = Some p }) (sym e)) refl short free
+
+  columns_of_keys : (keys : List WrittenKey) → map (λ key. key.column) (map (key_meant names) keys) ≡ map (λ key. column_meant names key.column) keys
+  columns_of_keys [] = refl
+  columns_of_keys (key ∷ keys) = ap (λ (l : List ℕ). column_meant names key.column ∷ l) (columns_of_keys keys)
+
+  -- no key has this column
+  new_key : (keys : List KeyItem) (ts : List Token) (h : AreOpenKeys names keys ts) (c : WrittenColumn) (place : ℕ) → place ≡ column_meant names c → has_key keys place ≡ false → All (λ x. x ≢ name_of c) (map key_name h.written)
+  new_key keys ts h c place e free =
+      new_by (λ key. column_meant names key.column) key_name (record { number = false; column = c; down = false }) (λ a b same. ap (place_of names) same) h.written
+      (subst (All (λ p. p ≢ column_meant names c)) (ap (map (λ key. key.column)) h.items_are ∙ columns_of_keys h.written)
+      (subst (λ (p : ℕ). All (λ q. q ≢ p) (map (λ key. key.column) keys)) e (other_columns (map (λ key. key.column) keys) place (sym (has_key_is keys place) ∙ free))))
+
+  key_more : (ts : List Token) (keys : List KeyItem) (column : ℕ) (number down : Bool) (h : IsAtWritten names ts (at.KeyColumn keys column number))
+      → IsAtWritten names (ts ++ optional down marks.Down) (at.Keys (key keys column number down))
+  key_more ts keys column number down h =
+      let c = h.1 in
+      let w : WrittenKey = record { number = number; column = c; down = down } in (
+        h.0 ++ key_written w,
+        on_one (Fixed marks.Order) (h.0 ++ (optional number marks.Number ++ column_written c)) ts (optional down marks.Down) h.2 ∙ ap (λ (l : List Token). Fixed marks.Order ∷ l) (append_assoc h.0 (optional number marks.Number ++ column_written c) (optional down marks.Down)),
+        subst (λ (p : ℕ). AreWholeKeys names (keys ++ record { column = p; number = number; down = down } ∷ []) (h.0 ++ key_written w)) (sym h.3) (added key_written (key_meant names) key_name IsShortKey keys h.0 h.5 w h.4 h.6),
+      )
 
 -- ---- each step keeps it
 
-module _ (r : Read) (fine : IsReadSound r) where
-  sound_more : {A : Type 0} (items : List A) (next : At) → (length items < 8 → IsAtSound (length r.names) next) → IfSome (one_more r items next) IsSound
-  sound_more items next h = sound_cond (nat_lt (length items) 8) (record { read = r; at = next }) (λ t. (fine, h (ltb-true _ _ t)))
+module _ (names : List (List ℕ)) (r : Read) (front : List Token) (before : AreBefore r.queries front) where
+  abbrev Goes : List Token → State → Type 0
+  Goes back next = Reaches next.read.names names → IsStateWritten names (front ++ back) next
 
-  sound_ended : (shape : Shape) (mark : Mark) → IsShape (length r.names) shape → IfSome (ended r shape mark) IsSound
-  sound_ended shape marks.Semicolon h = sound_cond (nat_lt (length r.queries + 1) 8) (put r.names (r.queries ++ query_of shape ∷ []) at.Query) (λ t. (
-    record {
-      names = fine.names;
-      distinct = fine.distinct;
-      queries = All-push (IsQuery (length r.names) 0) r.queries (query_of shape) fine.queries (record { dataset = omega arith; shape = h });
-      few = omega (arith, ltb-true _ _ t, length-append r.queries (query_of shape ∷ []));
-    },
-    tt,
+  goes_cond : (back : List Token) (b : Bool) (x : State) → (b ≡ true → Goes back x) → IfSome (cond b (Some x) None) (Goes back)
+  goes_cond back true x h = h refl
+  goes_cond back false x h = tt
+
+  goes_none : (back : List Token) (b : Bool) (x : State) → (b ≡ false → Goes back x) → IfSome (cond b None (Some x)) (Goes back)
+  goes_none back true x h = tt
+  goes_none back false x h = h refl
+
+  stays : (back : List Token) (place : At) → IsAtWritten names back place → Goes back (record { read = r; at = place })
+  stays back place h = λ _. (front, back, refl, before, h)
+
+  more : {A : Type 0} (back : List Token) (items : List A) (next : At) → (length items < 8 → IsAtWritten names back next) → IfSome (one_more r items next) (Goes back)
+  more back items next h = goes_cond back (nat_lt (length items) 8) (record { read = r; at = next }) (λ t. stays back next (h (ltb-true _ _ t)))
+
+  before_more : (shape : Shape) (q : WrittenQuery) → IsShapeRight q.shape → length r.queries + 1 < 8 → AreBefore (r.queries ++ query_of shape ∷ []) (front ++ (query_written q ++ Fixed marks.Semicolon ∷ []))
+  before_more shape q right lt = record {
+    written = before.written ++ q ∷ [];
+    tokens_are = sym (append_assoc front (query_written q) (Fixed marks.Semicolon ∷ [])) ∙ ap (λ (l : List Token). l ++ query_written q ++ Fixed marks.Semicolon ∷ []) before.tokens_are ∙ sym (ended-push marks.Semicolon query_written before.written q);
+    as_many = omega (arith, before.as_many, length-append before.written (q ∷ []), length-append r.queries (query_of shape ∷ []));
+    few = omega (arith, lt, length-append r.queries (query_of shape ∷ []));
+    right = All-push (λ query. IsShapeRight query.shape) before.written q before.right right;
+  }
+
+  goes_ended : (back : List Token) (shape : Shape) (mark : Mark) → IsQueryWhole names back → IfSome (ended r shape mark) (Goes (back ++ Fixed mark ∷ []))
+  goes_ended back shape marks.Semicolon h =
+      goes_cond (back ++ Fixed marks.Semicolon ∷ []) (nat_lt (length r.queries + 1) 8) (put r.names (r.queries ++ query_of shape ∷ []) at.Query) (λ t. λ _. (
+        front ++ (query_written h.0 ++ Fixed marks.Semicolon ∷ []),
+        [],
+        ap (λ (l : List Token). front ++ (l ++ Fixed marks.Semicolon ∷ [])) h.1 ∙ sym (append-nil (front ++ (query_written h.0 ++ Fixed marks.Semicolon ∷ []))),
+        before_more shape h.0 h.2 (ltb-true _ _ t),
+        refl,
+      ))
+  goes_ended back shape _ h = tt
+
+  goes_query : (back : List Token) (mark : Mark) → back ≡ [] → IfSome (after_query r mark) (Goes (back ++ Fixed mark ∷ []))
+  goes_query back marks.Group h = stays (back ++ Fixed marks.Group ∷ []) (at.GroupColumn []) ([], ap (λ (l : List Token). l ++ Fixed marks.Group ∷ []) h, no_items column_written (column_meant names) name_of IsShortColumn)
+  goes_query back marks.Order h = stays (back ++ Fixed marks.Order ∷ []) (at.Key []) ([], ap (λ (l : List Token). l ++ Fixed marks.Order ∷ []) h, no_items key_written (key_meant names) key_name IsShortKey)
+  goes_query back _ h = tt
+
+  goes_group_columns : (back : List Token) (columns : List ℕ) (mark : Mark) → IsAtWritten names back (at.GroupColumns columns) → IfSome (after_group_columns r columns mark) (Goes (back ++ Fixed mark ∷ []))
+  goes_group_columns back columns marks.Comma h = more (back ++ Fixed marks.Comma ∷ []) columns (at.GroupColumn columns) (λ lt. (
+    h.0 ++ Fixed marks.Comma ∷ [],
+    on_one (Fixed marks.Group) h.0 back (Fixed marks.Comma ∷ []) h.1,
+    opened column_written (column_meant names) name_of IsShortColumn columns h.0 h.2 lt,
   ))
-  sound_ended shape _ h = tt
+  goes_group_columns back columns marks.Colon h = stays (back ++ Fixed marks.Colon ∷ []) (at.Part columns []) (
+    h.0,
+    [],
+    on_one (Fixed marks.Group) h.0 back (Fixed marks.Colon ∷ []) h.1,
+    h.2,
+    no_items agg_written (agg_meant names) agg_named IsShortAgg,
+  )
+  goes_group_columns back columns _ h = tt
 
-  sound_query : (mark : Mark) → IfSome (after_query r mark) IsSound
-  sound_query marks.Group = (fine, none_so_far (length r.names))
-  sound_query marks.Order = (fine, none_so_far (length r.names))
-  sound_query _ = tt
+  goes_part : (back : List Token) (columns : List ℕ) (parts : List Part) (mark : Mark) → IsAtWritten names back (at.Part columns parts) → IfSome (after_part r columns parts mark) (Goes (back ++ Fixed mark ∷ []))
+  goes_part back columns parts marks.Count h = goes_none (back ++ Fixed marks.Count ∷ []) (has_part parts counted) (record { read = r; at = at.Parts columns (parts ++ counted ∷ []) }) (λ free. stays (back ++ Fixed marks.Count ∷ []) (at.Parts columns (parts ++ counted ∷ [])) (
+    h.0,
+    h.1 ++ Fixed marks.Count ∷ [],
+    on_two (Fixed marks.Group) (Fixed marks.Colon) h.0 h.1 back (Fixed marks.Count ∷ []) h.2,
+    h.3,
+    part_is names parts h.1 h.4 count counted (Fixed marks.Count ∷ []) refl refl tt free,
+  ))
+  goes_part back columns parts marks.Sum h = stays (back ++ Fixed marks.Sum ∷ []) (at.PartColumn columns parts aggs.Sum) (h.0, h.1, on_two (Fixed marks.Group) (Fixed marks.Colon) h.0 h.1 back (Fixed marks.Sum ∷ []) h.2, h.3, h.4, refl)
+  goes_part back columns parts marks.Min h = stays (back ++ Fixed marks.Min ∷ []) (at.PartColumn columns parts aggs.Min) (h.0, h.1, on_two (Fixed marks.Group) (Fixed marks.Colon) h.0 h.1 back (Fixed marks.Min ∷ []) h.2, h.3, h.4, refl)
+  goes_part back columns parts marks.Max h = stays (back ++ Fixed marks.Max ∷ []) (at.PartColumn columns parts aggs.Max) (h.0, h.1, on_two (Fixed marks.Group) (Fixed marks.Colon) h.0 h.1 back (Fixed marks.Max ∷ []) h.2, h.3, h.4, refl)
+  goes_part back columns parts _ h = tt
 
-  sound_group_columns : (columns : List ℕ) (mark : Mark) → IsColumns (length r.names) columns → IfSome (after_group_columns r columns mark) IsSound
-  sound_group_columns columns marks.Comma h = sound_more columns (at.GroupColumn columns) (columns_open _ columns h)
-  sound_group_columns columns marks.Colon h = (fine, (h, record { few = omega arith; fine = All-nil (IsPart (length r.names)) }))
-  sound_group_columns columns _ h = tt
+  goes_source_word : (back : List Token) (shape : Shape) → IsShapeWhole names back → Goes (back ++ Fixed marks.From ∷ []) (record { read = r; at = at.Source shape })
+  goes_source_word back shape h = stays (back ++ Fixed marks.From ∷ []) (at.Source shape) (h.0, ap (λ (l : List Token). l ++ Fixed marks.From ∷ []) h.1, h.2)
 
-  sound_part : (columns : List ℕ) (parts : List Part) (mark : Mark) → IsColumns (length r.names) columns → ArePartsSoFar (length r.names) parts → IfSome (after_part r columns parts mark) IsSound
-  sound_part columns parts marks.Count h p = sound_none (has_part parts counted) (put r.names r.queries (at.Parts columns (parts ++ counted ∷ []))) (
-      let added = part_added _ parts counted p (is_counted (length r.names)) in (
-        record { names = fine.names; distinct = fine.distinct; queries = fine.queries; few = fine.few },
-        (h, added.0, added.1),
-      ))
-  sound_part columns parts marks.Sum h p = (fine, (h, p, refl))
-  sound_part columns parts marks.Min h p = (fine, (h, p, refl))
-  sound_part columns parts marks.Max h p = (fine, (h, p, refl))
-  sound_part columns parts _ h p = tt
+  goes_parts : (back : List Token) (columns : List ℕ) (parts : List Part) (mark : Mark) → IsAtWritten names back (at.Parts columns parts) → IfSome (after_parts r columns parts mark) (Goes (back ++ Fixed mark ∷ []))
+  goes_parts back columns parts marks.Comma h = more (back ++ Fixed marks.Comma ∷ []) parts (at.Part columns parts) (λ lt. (
+    h.0,
+    h.1 ++ Fixed marks.Comma ∷ [],
+    on_two (Fixed marks.Group) (Fixed marks.Colon) h.0 h.1 back (Fixed marks.Comma ∷ []) h.2,
+    h.3,
+    opened agg_written (agg_meant names) agg_named IsShortAgg parts h.1 h.4 lt,
+  ))
+  goes_parts back columns parts marks.From h = goes_source_word back (shapes.Group columns parts) (group_whole names back columns parts h)
+  goes_parts back columns parts mark h = goes_ended back (shapes.Group columns parts) mark (without_source names back (group_whole names back columns parts h))
 
-  sound_parts : (columns : List ℕ) (parts : List Part) (mark : Mark) → IsShape (length r.names) (shapes.Group columns parts) → IfSome (after_parts r columns parts mark) IsSound
-  sound_parts columns parts marks.Comma h = sound_more parts (at.Part columns parts) (λ lt. (h.0, record { few = lt; fine = h.2 }))
-  sound_parts columns parts marks.From h = (fine, h)
-  sound_parts columns parts mark h = sound_ended (shapes.Group columns parts) mark h
+  goes_keys : (back : List Token) (keys : List KeyItem) (mark : Mark) → IsAtWritten names back (at.Keys keys) → IfSome (after_keys r keys mark) (Goes (back ++ Fixed mark ∷ []))
+  goes_keys back keys marks.Comma h = more (back ++ Fixed marks.Comma ∷ []) keys (at.Key keys) (λ lt. (
+    h.0 ++ Fixed marks.Comma ∷ [],
+    on_one (Fixed marks.Order) h.0 back (Fixed marks.Comma ∷ []) h.1,
+    opened key_written (key_meant names) key_name IsShortKey keys h.0 h.2 lt,
+  ))
+  goes_keys back keys marks.Colon h = stays (back ++ Fixed marks.Colon ∷ []) (at.OrderColumn keys []) (
+    h.0,
+    [],
+    on_one (Fixed marks.Order) h.0 back (Fixed marks.Colon ∷ []) h.1,
+    h.2,
+    no_items column_written (column_meant names) name_of IsShortColumn,
+  )
+  goes_keys back keys _ h = tt
 
-  sound_keys : (keys : List KeyItem) (mark : Mark) → IsColumns (length r.names) (key_columns keys) → IfSome (after_keys r keys mark) IsSound
-  sound_keys keys marks.Comma h = sound_more keys (at.Key keys) (λ lt. columns_open _ _ h (omega (arith, length-map keys (λ key. key.column), lt)))
-  sound_keys keys marks.Colon h = (fine, (h, none_so_far (length r.names)))
-  sound_keys keys _ h = tt
+  goes_key_column : (back : List Token) (keys : List KeyItem) (column : ℕ) (number : Bool) (mark : Mark) → IsAtWritten names back (at.KeyColumn keys column number) → IfSome (after_key_column r keys column number mark) (Goes (back ++ Fixed mark ∷ []))
+  goes_key_column back keys column number marks.Down h = stays (back ++ Fixed marks.Down ∷ []) (at.Keys (key keys column number true)) (key_more names back keys column number true h)
+  goes_key_column back keys column number mark h =
+      goes_keys back (key keys column number false) mark (subst (λ (l : List Token). IsAtWritten names l (at.Keys (key keys column number false))) (append-nil back) (key_more names back keys column number false h))
 
-  sound_key_column : (keys : List KeyItem) (column : ℕ) (number : Bool) (mark : Mark) → IsColumns (length r.names) (key_columns keys ++ column ∷ []) → IfSome (after_key_column r keys column number mark) IsSound
-  sound_key_column keys column number marks.Down h = (fine, rw (key_columns-push keys (record { column = column; number = number; down = true })) h)
-  sound_key_column keys column number mark h = sound_keys (key keys column number false) mark (rw (key_columns-push keys (record { column = column; number = number; down = false })) h)
+  goes_order_columns : (back : List Token) (keys : List KeyItem) (columns : List ℕ) (mark : Mark) → IsAtWritten names back (at.OrderColumns keys columns) → IfSome (after_order_columns r keys columns mark) (Goes (back ++ Fixed mark ∷ []))
+  goes_order_columns back keys columns marks.Comma h = more (back ++ Fixed marks.Comma ∷ []) columns (at.OrderColumn keys columns) (λ lt. (
+    h.0,
+    h.1 ++ Fixed marks.Comma ∷ [],
+    on_two (Fixed marks.Order) (Fixed marks.Colon) h.0 h.1 back (Fixed marks.Comma ∷ []) h.2,
+    h.3,
+    opened column_written (column_meant names) name_of IsShortColumn columns h.1 h.4 lt,
+  ))
+  goes_order_columns back keys columns marks.From h = goes_source_word back (shapes.Order keys columns) (order_whole names back keys columns h)
+  goes_order_columns back keys columns mark h = goes_ended back (shapes.Order keys columns) mark (without_source names back (order_whole names back keys columns h))
 
-  sound_order_columns : (keys : List KeyItem) (columns : List ℕ) (mark : Mark) → IsShape (length r.names) (shapes.Order keys columns) → IfSome (after_order_columns r keys columns mark) IsSound
-  sound_order_columns keys columns marks.Comma h = sound_more columns (at.OrderColumn keys columns) (λ lt. (h.0, columns_open _ columns h.1 lt))
-  sound_order_columns keys columns marks.From h = (fine, h)
-  sound_order_columns keys columns mark h = sound_ended (shapes.Order keys columns) mark h
+  goes_source : (back : List Token) (shape : Shape) (mark : Mark) → IsAtWritten names back (at.Source shape) → IfSome (after_source r shape mark) (Goes (back ++ Fixed mark ∷ []))
+  goes_source back shape marks.Input h = stays (back ++ Fixed marks.Input ∷ []) (at.Sourced shape) (
+    record { shape = h.0; source = Some input },
+    ap (λ (l : List Token). l ++ Fixed marks.Input ∷ []) h.1 ∙ append_assoc (shape_written h.0) (Fixed marks.From ∷ []) (Fixed marks.Input ∷ []),
+    h.2,
+  )
+  goes_source back shape _ h = tt
 
-  sound_source : (shape : Shape) (mark : Mark) → IsShape (length r.names) shape → IfSome (after_source r shape mark) IsSound
-  sound_source shape marks.Input h = (fine, h)
-  sound_source shape _ h = tt
+  goes_number : (back : List Token) (keys : List KeyItem) (mark : Mark) → IsAtWritten names back (at.Key keys) → IfSome (after_mark r (at.Key keys) mark) (Goes (back ++ Fixed mark ∷ []))
+  goes_number back keys marks.Number h = stays (back ++ Fixed marks.Number ∷ []) (at.NumberKey keys) (h.0, on_one (Fixed marks.Order) h.0 back (Fixed marks.Number ∷ []) h.1, h.2)
+  goes_number back keys _ h = tt
 
-  sound_number : (keys : List KeyItem) (mark : Mark) → AreSoFar (length r.names) (key_columns keys) → IfSome (after_mark r (at.Key keys) mark) IsSound
-  sound_number keys marks.Number h = (fine, h)
-  sound_number keys _ h = tt
+  goes_mark : (back : List Token) (place : At) (mark : Mark) → IsAtWritten names back place → IfSome (after_mark r place mark) (Goes (back ++ Fixed mark ∷ []))
+  goes_mark back at.Query mark h = goes_query back mark h
+  goes_mark back (at.GroupColumn columns) mark h = tt
+  goes_mark back (at.GroupColumns columns) mark h = goes_group_columns back columns mark h
+  goes_mark back (at.Part columns parts) mark h = goes_part back columns parts mark h
+  goes_mark back (at.PartColumn columns parts agg) mark h = tt
+  goes_mark back (at.Parts columns parts) mark h = goes_parts back columns parts mark h
+  goes_mark back (at.Key keys) mark h = goes_number back keys mark h
+  goes_mark back (at.NumberKey keys) mark h = tt
+  goes_mark back (at.KeyColumn keys column number) mark h = goes_key_column back keys column number mark h
+  goes_mark back (at.Keys keys) mark h = goes_keys back keys mark h
+  goes_mark back (at.OrderColumn keys columns) mark h = tt
+  goes_mark back (at.OrderColumns keys columns) mark h = goes_order_columns back keys columns mark h
+  goes_mark back (at.Source shape) mark h = goes_source back shape mark h
+  goes_mark back (at.Sourced shape) mark h = goes_ended back shape mark h
 
-  sound_mark : (place : At) (mark : Mark) → IsAtSound (length r.names) place → IfSome (after_mark r place mark) IsSound
-  sound_mark at.Query mark h = sound_query mark
-  sound_mark (at.GroupColumn columns) mark h = tt
-  sound_mark (at.GroupColumns columns) mark h = sound_group_columns columns mark h
-  sound_mark (at.Part columns parts) mark h = sound_part columns parts mark h.0 h.1
-  sound_mark (at.PartColumn columns parts agg) mark h = tt
-  sound_mark (at.Parts columns parts) mark h = sound_parts columns parts mark h
-  sound_mark (at.Key keys) mark h = sound_number keys mark h
-  sound_mark (at.NumberKey keys) mark h = tt
-  sound_mark (at.KeyColumn keys column number) mark h = sound_key_column keys column number mark h
-  sound_mark (at.Keys keys) mark h = sound_keys keys mark h
-  sound_mark (at.OrderColumn keys columns) mark h = tt
-  sound_mark (at.OrderColumns keys columns) mark h = sound_order_columns keys columns mark h
-  sound_mark (at.Source shape) mark h = sound_source shape mark h
-  sound_mark (at.Sourced shape) mark h = sound_ended shape mark h
+  -- ---- columns
 
--- ---- columns
+  free_of : (taken : Bool) → (if taken then false else true) ≡ true → taken ≡ false
+  free_of true h = sym h
+  free_of false h = refl
 
-module _ (r : Read) (name : List ℕ) (fine : IsReadSound r) where
-  sound_named : (is_taken : ℕ → Bool) (next : ℕ → At) → (is_taken (place_of r.names name) ≡ false → IsAtSound (length (with_name r.names name)) (next (place_of r.names name))) → IfSome (named r is_taken next (Some name)) IsSound
-  sound_named is_taken next h = sound_cond (is_short name && (if is_taken (place_of r.names name) then false else true)) (put (with_name r.names name) r.queries (next (place_of r.names name))) (λ t.
-      let both = and_parts (is_short name) (if is_taken (place_of r.names name) then false else true) t in (
-        record {
-          names = All-with_name (λ name. length name ≤ 1024) r.names name fine.names (leb-true (length name) 1024 both.0);
-          distinct = distinct-with_name r.names name fine.distinct;
-          queries = queries_more (length r.names) (length (with_name r.names name)) (length-with_name r.names name) r.queries fine.queries;
-          few = fine.few;
-        },
-        h (free_of _ both.1),
-      ))
+  goes_named : (back : List Token) (c : WrittenColumn) (is_taken : ℕ → Bool) (next : ℕ → At) → ((place : ℕ) → place ≡ column_meant names c → IsShortColumn c → is_taken place ≡ false → IsAtWritten names back (next place))
+      → IfSome (named r is_taken next (Some (name_of c))) (Goes back)
+  goes_named back c is_taken next h = goes_cond back (is_short (name_of c) && (if is_taken (place_of r.names (name_of c)) then false else true)) (put (with_name r.names (name_of c)) r.queries (next (place_of r.names (name_of c)))) (λ t. λ reach.
+      let both = and_parts (is_short (name_of c)) (if is_taken (place_of r.names (name_of c)) then false else true) t in
+      let there = place_now r.names (name_of c) reach.0 ∙ ap (λ (l : List (List ℕ)). place_of l (name_of c)) reach.1 in
+      (front, back, refl, before, h (place_of r.names (name_of c)) there (leb-true (length (name_of c)) 1024 both.0) (free_of (is_taken (place_of r.names (name_of c))) both.1)))
 
-  so_far : (columns : List ℕ) → AreSoFar (length r.names) columns → AreSoFar (length (with_name r.names name)) columns
-  so_far columns h = so_far_more _ _ (length-with_name r.names name) columns h
+  goes_column : (back : List Token) (c : WrittenColumn) (place : At) → IsAtWritten names back place → IfSome (after_column r place (Some (name_of c))) (Goes (back ++ column_written c))
+  goes_column back c (at.GroupColumn columns) h = goes_named (back ++ column_written c) c (has_column columns) (λ p. at.GroupColumns (columns ++ p ∷ [])) (λ place e short free. (
+    h.0 ++ column_written c,
+    on_one (Fixed marks.Group) h.0 back (column_written c) h.1,
+    column_more names columns h.0 h.2 c place e short free,
+  ))
+  goes_column back c (at.PartColumn columns parts agg) h = goes_named (back ++ column_written c) c (λ p. has_part parts (record { agg = agg; column = Some p })) (λ p. at.Parts columns (parts ++ record { agg = agg; column = Some p } ∷ [])) (λ place e short free. (
+    h.0,
+    h.1 ++ Fixed (agg_mark agg) ∷ column_written c,
+    on_two (Fixed marks.Group) (Fixed marks.Colon) h.0 (h.1 ++ Fixed (agg_mark agg) ∷ []) back (column_written c) h.2 ∙ ap (λ (l : List Token). Fixed marks.Group ∷ h.0 ++ Fixed marks.Colon ∷ l) (append_assoc h.1 (Fixed (agg_mark agg) ∷ []) (column_written c)),
+    h.3,
+    part_more names parts h.1 h.4 agg c place h.5 e short free,
+  ))
+  goes_column back c (at.Key keys) h = goes_named (back ++ column_written c) c (has_key keys) (λ p. at.KeyColumn keys p false) (λ place e short free. (
+    h.0,
+    c,
+    on_one (Fixed marks.Order) h.0 back (column_written c) h.1,
+    e,
+    short,
+    h.2,
+    new_key names keys h.0 h.2 c place e free,
+  ))
+  goes_column back c (at.NumberKey keys) h = goes_named (back ++ column_written c) c (has_key keys) (λ p. at.KeyColumn keys p true) (λ place e short free. (
+    h.0,
+    c,
+    on_one (Fixed marks.Order) (h.0 ++ Fixed marks.Number ∷ []) back (column_written c) h.1 ∙ ap (λ (l : List Token). Fixed marks.Order ∷ l) (append_assoc h.0 (Fixed marks.Number ∷ []) (column_written c)),
+    e,
+    short,
+    h.2,
+    new_key names keys h.0 h.2 c place e free,
+  ))
+  goes_column back c (at.OrderColumn keys columns) h = goes_named (back ++ column_written c) c (has_column columns) (λ p. at.OrderColumns keys (columns ++ p ∷ [])) (λ place e short free. (
+    h.0,
+    h.1 ++ column_written c,
+    on_two (Fixed marks.Order) (Fixed marks.Colon) h.0 h.1 back (column_written c) h.2,
+    h.3,
+    column_more names columns h.1 h.4 c place e short free,
+  ))
+  goes_column back c _ h = tt
 
-  all : (columns : List ℕ) → IsColumns (length r.names) columns → IsColumns (length (with_name r.names name)) columns
-  all columns h = columns_more _ _ (length-with_name r.names name) columns h
+module _ (names : List (List ℕ)) where
+  -- the same behind all tokens before it
+  behind_all : (o : Option State) (ts front back more : List Token) → ts ≡ front ++ back → IfSome o (λ next. Reaches next.read.names names → IsStateWritten names (front ++ (back ++ more)) next)
+      → IfSome o (λ next. Reaches next.read.names names → IsStateWritten names (ts ++ more) next)
+  behind_all None ts front back more e h = tt
+  behind_all (Some next) ts front back more e h = λ reach. subst (λ (l : List Token). IsStateWritten names l next) (sym (append_assoc front back more) ∙ ap (λ (l : List Token). l ++ more) (sym e)) (h reach)
 
-  parts_so_far : (parts : List Part) → ArePartsSoFar (length r.names) parts → ArePartsSoFar (length (with_name r.names name)) parts
-  parts_so_far parts h = record { few = h.few; fine = parts_more _ _ (length-with_name r.names name) parts h.fine }
+  goes_step : (s : State) (t : Token) (ts : List Token) → IsStateWritten names ts s → IfSome (step s t) (λ next. Reaches next.read.names names → IsStateWritten names (ts ++ t ∷ []) next)
+  unfolding step
+  goes_step s (Fixed mark) ts h = behind_all (after_mark s.read s.at mark) ts h.0 h.1 (Fixed mark ∷ []) h.2 (goes_mark names s.read h.0 h.3 h.1 s.at mark h.4)
+  goes_step s (Word name) ts h = behind_all (after_column s.read s.at (Some name)) ts h.0 h.1 (Word name ∷ []) h.2 (goes_column names s.read h.0 h.3 h.1 (word name) s.at h.4)
+  goes_step s (Quoted name) ts h = behind_all (after_column s.read s.at (Some name)) ts h.0 h.1 (Quoted name ∷ []) h.2 (goes_column names s.read h.0 h.3 h.1 (in_quotes name) s.at h.4)
+  goes_step s (Text text) ts h = tt
+  goes_step s Whole ts h = tt
 
-  sound_column : (place : At) → IsAtSound (length r.names) place → IfSome (after_column r place (Some name)) IsSound
-  sound_column (at.GroupColumn columns) h = sound_named (has_column columns) (λ c. at.GroupColumns (columns ++ c ∷ []))
-      (λ free. column_added _ columns _ (so_far columns h) (place_below r.names name) free)
-  sound_column (at.PartColumn columns parts agg) h = sound_named (λ c. has_part parts (record { agg = agg; column = Some c })) (λ c. at.Parts columns (parts ++ record { agg = agg; column = Some c } ∷ []))
-      (λ free. let added = part_added _ parts _ (parts_so_far parts h.1) (is_part _ agg _ h.2 (place_below r.names name)) in (all columns h.0, added.0, added.1))
-  sound_column (at.Key keys) h = sound_named (has_key keys) (λ c. at.KeyColumn keys c false)
-      (λ free. column_added _ (key_columns keys) _ (so_far (key_columns keys) h) (place_below r.names name) (sym (has_key_is keys _) ∙ free))
-  sound_column (at.NumberKey keys) h = sound_named (has_key keys) (λ c. at.KeyColumn keys c true)
-      (λ free. column_added _ (key_columns keys) _ (so_far (key_columns keys) h) (place_below r.names name) (sym (has_key_is keys _) ∙ free))
-  sound_column (at.OrderColumn keys columns) h = sound_named (has_column columns) (λ c. at.OrderColumns keys (columns ++ c ∷ []))
-      (λ free. (all (key_columns keys) h.0, column_added _ columns _ (so_far columns h.1) (place_below r.names name) free))
-  sound_column _ h = tt
+no_state : (s : State) → let none : Option State = None in none ≡ Some s → ⊥
+no_state s e = cc
 
-pub sound_step : (s : State) (t : Token) → IsSound s → IfSome (step s t) IsSound
-unfolding step
-sound_step s (Fixed mark) h = sound_mark s.read h.0 s.at mark h.1
-sound_step s (Word name) h = sound_column s.read name h.0 s.at h.1
-sound_step s (Quoted name) h = sound_column s.read name h.0 s.at h.1
-sound_step s (Text text) h = tt
-sound_step s Whole h = tt
+same_state : (s t : State) → let one : Option State = Some s in one ≡ Some t → s ≡ t
+same_state s t e = cc
 
-on_next : (o : Option State) (ts : List Token) → ((next : State) → IsSound next → IfSome (steps next ts) IsSound) → IfSome o IsSound → IfSome (option_and_then (λ next. steps next ts) o) IsSound
-on_next None ts again h = tt
-on_next (Some next) ts again h = again next h
-
-pub sound_steps : (ts : List Token) (s : State) → IsSound s → IfSome (steps s ts) IsSound
+goes_steps : (rest ts : List Token) (s last : State) → IsStateWritten last.read.names ts s → steps s rest ≡ Some last → IsStateWritten last.read.names (ts ++ rest) last
 unfolding steps
-sound_steps [] s h = h
-sound_steps (t ∷ ts) s h = on_next (step s t) ts (λ next h. sound_steps ts next h) (sound_step s t h)
+goes_steps [] ts s last h e = subst (λ (l : List Token). IsStateWritten last.read.names l last) (sym (append-nil ts)) (subst (IsStateWritten last.read.names ts) (same_state s last e) h)
+goes_steps (t ∷ rest) ts s last h e = on (step s t) (goes_step last.read.names s t ts h) e (λ next n r. goes_steps rest (ts ++ t ∷ []) next last n r)
+  where
+    on : (o : Option State) → IfSome o (λ next. Reaches next.read.names last.read.names → IsStateWritten last.read.names (ts ++ t ∷ []) next) → option_and_then (λ next. steps next rest) o ≡ Some last
+        → ((next : State) → IsStateWritten last.read.names (ts ++ t ∷ []) next → steps next rest ≡ Some last → IsStateWritten last.read.names ((ts ++ t ∷ []) ++ rest) last)
+        → IsStateWritten last.read.names (ts ++ t ∷ rest) last
+    on None g r go = absurd (no_state last r)
+    on (Some next) g r go = subst (λ (l : List Token). IsStateWritten last.read.names l last) (append_assoc ts (t ∷ []) rest) (go next (g (reaches rest next last r)) r)
 
-sound_start : IsSound start
-sound_start = (
-  record {
-    names = All-nil (λ name. length name ≤ 1024);
-    distinct = λ i j d less within. absurd (omega arith);
-    queries = All-nil (IsQuery 0 0);
-    few = omega arith;
-  },
-  tt,
-)
+-- ---- so the tokens of a job are written
 
--- ---- so a job that is read is one
+-- written by the rules
+abbrev pub IsRightlyWritten : List Token → Type 0
+IsRightlyWritten ts = (written : WrittenJob) × (ts ≡ job_written written) × IsRight written
 
-shape_at : (n : ℕ) (place : At) → IsAtSound n place → IfSome (shape_of place) (IsShape n)
-shape_at n (at.Parts columns parts) h = h
-shape_at n (at.OrderColumns keys columns) h = h
-shape_at n (at.Sourced shape) h = h
-shape_at n _ h = tt
+query_end : (names : List (List ℕ)) (back : List Token) (place : At) → IsAtWritten names back place → IfSome (shape_of place) (λ _. IsQueryWhole names back)
+query_end names back (at.Parts columns parts) h = without_source names back (group_whole names back columns parts h)
+query_end names back (at.OrderColumns keys columns) h = without_source names back (order_whole names back keys columns h)
+query_end names back (at.Sourced shape) h = h
+query_end names back _ h = tt
 
--- a job without datasets
-abbrev pub IsPlainJob : Job → Type 0
-IsPlainJob job = IsJob job × (job.datasets ≡ [])
+job_end : (ts : List Token) (s : State) (job : Job) (o : Option Shape) → IsStateWritten s.read.names ts s → ((back : List Token) → IsAtWritten s.read.names back s.at → IfSome o (λ _. IsQueryWhole s.read.names back)) → job_with s.read o ≡ Some job → IsRightlyWritten ts
+job_end ts s job None h query e = absurd cc
+job_end ts s job (Some shape) h query e =
+    let before = h.3 in
+    let q = query h.1 h.4 in (
+      record { queries = before.written ++ q.0 ∷ [] },
+      h.2 ∙ ap (λ (l : List Token). l ++ h.1) before.tokens_are ∙ ap (λ (l : List Token). ended_by marks.Semicolon query_written before.written ++ l) q.1 ∙ sym (separated-last marks.Semicolon query_written before.written q.0),
+      record {
+        several = record { some = omega (arith, length-append before.written (q.0 ∷ [])); few = omega (arith, before.as_many, before.few, length-append before.written (q.0 ∷ [])) };
+        shapes = All-push (λ query. IsShapeRight query.shape) before.written q.0 before.right q.2;
+      },
+    )
 
-job_of_shape : (r : Read) (o : Option Shape) → IsReadSound r → IfSome o (IsShape (length r.names)) → IfSome (job_with r o) IsPlainJob
-job_of_shape r None h s = tt
-job_of_shape r (Some shape) h s = (
-  record {
-    names = h.names;
-    distinct = h.distinct;
-    datasets = omega arith;
-    several = record { some = omega (arith, length-append r.queries (query_of shape ∷ [])); few = omega (arith, h.few, length-append r.queries (query_of shape ∷ [])) };
-    queries = All-push (IsQuery (length r.names) 0) r.queries (query_of shape) h.queries (record { dataset = omega arith; shape = s });
-  },
-  refl,
-)
+start_written : (names : List (List ℕ)) → IsStateWritten names [] start
+start_written names = ([], [], refl, record { written = []; tokens_are = refl; as_many = refl; few = omega arith; right = All-nil (λ query. IsShapeRight query.shape) }, refl)
 
-job_of_state : (o : Option State) → IfSome o IsSound → IfSome (job_at o) IsPlainJob
-job_of_state None h = tt
-job_of_state (Some s) h = job_of_shape s.read (shape_of s.at) h.0 (shape_at _ s.at h.1)
-
-pub plain_job : (text : List ℕ) (job : Job) → IsJobText text job → IsPlainJob job
-plain_job text job h = rw h.is at (job_of_state (steps start (only_tokens (scan 0 0 text).tokens)) (sound_steps (only_tokens (scan 0 0 text).tokens) start sound_start))
-
--- ---- what a function returned
-
-plain_result : (text : List ℕ) (r : Result Job JobFault) → IfOk r (λ job. IsJobText text job) → IfOk r IsPlainJob
-plain_result text (Ok job) h = plain_job text job h
-plain_result text (Err fault) h = tt
-
-first_of : (r : Result Job JobFault) → IfOk r IsPlainJob → IfOk r IsJob × IfOk r (λ job. job.datasets ≡ [])
-first_of (Ok job) h = h
-first_of (Err fault) h = (tt, tt)
-
-pub sound_of : (text : List ℕ) (r : Result Job JobFault) → Gives r (read_of text) → IfOk r IsJob × IfOk r (λ job. job.datasets ≡ [])
-sound_of text r h = first_of r (plain_result text r (found_of text r h))
+pub read_written : (ts : List Token) (job : Job) → job_of ts ≡ Some job → IsRightlyWritten ts
+read_written ts job e = on (steps start ts) refl e
+  where
+    on : (o : Option State) → steps start ts ≡ o → job_at o ≡ Some job → IsRightlyWritten ts
+    on None es r = absurd cc
+    on (Some last) es r = job_end ts last job (shape_of last.at) (goes_steps ts [] start last (start_written last.read.names) es) (λ back h. query_end last.read.names back last.at h) r

@@ -6,7 +6,8 @@ use Rattle.job_text.specs.declared.mark.Mark.{Mark}
 use Rattle.job_text.specs.declared.token.Token.{Token}
 use Rattle.job_text.specs.declared.token.Token.TheVariants.{Fixed}
 use Rattle.job_text.specs.declared.job.KeyItem.{KeyItem}
-use Rattle.job_text.specs.Printing.{separated, sign_before, token_text, is_attached, is_opening, between, tokens_text}
+use Rattle.job_text.specs.Grammar.{separated}
+use Rattle.job_text.specs.Printing.{sign_before, token_text, is_attached, is_opening, between, tokens_text}
 use Rattle.job_text.specs.Sheets.{Sheet, blank_sheet, lead, with_token, with_tokens}
 
 pub with_tokens-one : (s : Sheet) (t : Token) → with_tokens s (t ∷ []) ≡ with_token s t

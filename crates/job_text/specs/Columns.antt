@@ -19,6 +19,11 @@ abbrev pub with_name : List (List ℕ) → List ℕ → List (List ℕ)
 with_name [] name = name ∷ []
 with_name (first ∷ names) name = if bytes_eq first name then first ∷ names else first ∷ with_name names name
 
+-- these names and then others, each where it stands first
+abbrev pub with_names : List (List ℕ) → List (List ℕ) → List (List ℕ)
+with_names names [] = names
+with_names names (name ∷ more) = with_names (with_name names name) more
+
 -- a column has at most 1,024 bytes
 abbrev pub is_short : List ℕ → Bool
 is_short name = nat_le (length name) 1024

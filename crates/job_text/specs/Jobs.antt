@@ -1,6 +1,7 @@
 -- What holds of each job that has a text: how long its lists are, and that a column is one of its names.
 -- This project's own.
-use Rattle.std.specs.Prelude.{◌≡◌, ◌≢◌, ℕ, ◌≤◌, ◌<◌, not, Bool, true, false, List, All, AllPairs, IfSome, is_some, length, map}
+use Rattle.std.specs.Prelude.{◌≡◌, ◌≢◌, ℕ, ◌≤◌, ◌<◌, not, Bool, true, false, List, [], ◌++◌, All, AllPairs, IfSome, is_some, length, map, flat_map, slice_index_or}
+use Rattle.std.specs.Option.{option_to_list}
 use Rattle.aggregate.specs.declared.agg_list.Agg.{Agg}
 use Rattle.aggregate.specs.declared.agg_list.Agg.TheVariants.{Count, Sum, Min, Max}
 use Rattle.job_text.specs.declared.job.Job.{Job}
@@ -8,6 +9,7 @@ use Rattle.job_text.specs.declared.job.Part.{Part}
 use Rattle.job_text.specs.declared.job.Query.{Query}
 use Rattle.job_text.specs.declared.job.Shape.{Shape}
 use Rattle.job_text.specs.declared.job.Shape.TheVariants.{Group, Order}
+use Rattle.job_text.specs.Columns.{with_names}
 
 -- one to eight items
 pub record IsShortList {A : Type 0} (items : List A) : Type 0 where
@@ -36,9 +38,10 @@ pub record IsColumns (names : ℕ) (columns : List ℕ) : Type 0 where
   pub named : All (λ column. column < names) columns
   pub distinct : IsDistinct columns
 
--- a shape's lists are short, and its columns are among so many names, in each list and among the keys none twice
+-- a shape's lists are short, and its columns are among so many names; in each list and among the keys none
+-- stands twice
 abbrev pub IsShape : ℕ → Shape → Type 0
-IsShape names (Group columns parts) = IsColumns names columns × IsShortList parts × All (IsPart names) parts
+IsShape names (Group columns parts) = IsColumns names columns × IsShortList parts × All (IsPart names) parts × IsDistinct parts
 IsShape names (Order keys columns) = IsColumns names (map (λ key. key.column) keys) × IsColumns names columns
 
 -- a query over one of so many datasets beside the input
@@ -46,9 +49,19 @@ pub record IsQuery (names datasets : ℕ) (query : Query) : Type 0 where
   pub dataset : query.dataset ≤ datasets
   pub shape : IsShape names query.shape
 
+-- the columns of a shape, in the order of its text
+abbrev pub shape_places : Shape → List ℕ
+shape_places (Group columns parts) = columns ++ flat_map (λ part. option_to_list part.column) parts
+shape_places (Order keys columns) = map (λ key. key.column) keys ++ columns
+
+-- the names of a job's columns, in the order of its text
+abbrev pub columns_named : Job → List (List ℕ)
+columns_named job = map (λ place. slice_index_or job.names place []) (flat_map (λ query. shape_places query.shape) job.queries)
+
 -- what each job has that was read from a text
 pub record IsJob (job : Job) : Type 0 where
   pub names : All (λ name. length name ≤ 1024) job.names
+  pub first : with_names [] (columns_named job) ≡ job.names
   pub distinct : IsDistinct job.names
   pub datasets : length job.datasets ≤ 8
   pub several : IsShortList job.queries

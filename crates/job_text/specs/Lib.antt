@@ -1,10 +1,12 @@
 pub mod Marks
 pub mod Scan
 pub mod Columns
+pub mod Jobs
+pub mod Grammar
 pub mod Step
 pub mod Begins
 pub mod Text
 pub mod Place
-pub mod Jobs
+pub mod Laws
 pub mod Printing
 pub mod Sheets

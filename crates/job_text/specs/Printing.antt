@@ -13,14 +13,9 @@ use Rattle.job_text.specs.declared.job.KeyItem.{KeyItem}
 use Rattle.job_text.specs.declared.job.Query.{Query}
 use Rattle.job_text.specs.declared.job.Shape.{Shape}
 use Rattle.job_text.specs.declared.job.Shape.TheVariants as shapes
+use Rattle.job_text.specs.Grammar.{separated, optional}
 use Rattle.job_text.specs.Marks.{mark_text}
 use Rattle.job_text.specs.Scan.{is_plain}
-
--- the tokens of each item, with a sign between two items
-abbrev pub separated : {A : Type 0} → Mark → (A → List Token) → List A → List Token
-separated sign tokens [] = []
-separated sign tokens (item ∷ []) = tokens item
-separated sign tokens (item ∷ next ∷ more) = tokens item ++ Fixed sign ∷ separated sign tokens (next ∷ more)
 
 -- the sign before an item, which the first one hasn't
 abbrev pub sign_before : ℕ → Mark → List Token
@@ -51,13 +46,9 @@ agg_column_tokens names (Some place) = place_tokens names place
 abbrev pub part_tokens : List (List ℕ) → Part → List Token
 part_tokens names part = Fixed (agg_mark part.agg) ∷ agg_column_tokens names part.column
 
--- a word that is written or left out
-abbrev pub word_where : Bool → Mark → List Token
-word_where written word = if written then Fixed word ∷ [] else []
-
 -- a key
 abbrev pub key_tokens : List (List ℕ) → KeyItem → List Token
-key_tokens names key = word_where key.number marks.Number ++ place_tokens names key.column ++ word_where key.down marks.Down
+key_tokens names key = optional key.number marks.Number ++ place_tokens names key.column ++ optional key.down marks.Down
 
 -- a query's shape
 abbrev pub shape_tokens : List (List ℕ) → Shape → List Token

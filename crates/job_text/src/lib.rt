@@ -3,6 +3,7 @@
 
 mod columns;
 mod fault;
+mod grammar;
 mod job;
 mod lists;
 mod mark;
@@ -15,6 +16,7 @@ mod token;
 mod tokens;
 
 pub use fault::JobFault;
+pub use grammar::{tokens_are_read_by_grammar, tokens_have_one_meaning};
 pub use job::{
     Dataset, DatasetList, Job, KeyItem, KeyList, NameList, Part, PartList, PlaceList, Query,
     QueryList, Shape,

@@ -3,7 +3,8 @@
 ghost use Rattle.std.specs.Prelude.{◌≡◌, ◌<◌, [], All, IfOk, IfSome, length, string_bytes};
 ghost use Rattle.job_text.specs.declared.mark.Mark.TheVariants as marks;
 ghost use Rattle.job_text.specs.Jobs.{IsJob, IsPart, IsShape};
-ghost use Rattle.job_text.specs.Printing.{agg_mark, agg_column_tokens, key_tokens, part_tokens, place_tokens, printed, query_tokens, separated, shape_tokens, sign_before, word_where};
+ghost use Rattle.job_text.specs.Grammar.{separated, optional};
+ghost use Rattle.job_text.specs.Printing.{agg_mark, agg_column_tokens, key_tokens, part_tokens, place_tokens, printed, query_tokens, shape_tokens, sign_before};
 ghost use Rattle.job_text.specs.Sheets.{Writes};
 
 use crate::job::{Job, KeyItem, Part, Shape};
@@ -37,7 +38,7 @@ fn print_sign(printer: &mut Printer, place: usize, sign: Mark) -> Result<(), All
 
 #[tactic(auto, unfolding(crate::specs::Sheets::with_tokens))]
 fn print_word(printer: &mut Printer, written: bool, word: Mark) -> Result<(), AllocError>
-    ensures { Writes printer.old printer.new result (word_where written word) }
+    ensures { Writes printer.old printer.new result (optional written word) }
 {
     if written {
         printer.mark(word)?;

@@ -2,7 +2,8 @@ use Rattle.std.proofs.Common.{◌≡◌, ◌∙◌, sym, ap, arith, length, take
 use Rattle.std.proofs.lemmas.List.{take_all}
 use Rattle.job_text.specs.declared.mark.Mark.TheVariants as marks
 use Rattle.job_text.specs.declared.job.Query.{Query}
-use Rattle.job_text.specs.Printing.{separated, query_tokens, printed, tokens_text}
+use Rattle.job_text.specs.Grammar.{separated}
+use Rattle.job_text.specs.Printing.{query_tokens, printed, tokens_text}
 use Rattle.job_text.specs.Sheets.{Sheet, blank_sheet}
 use Rattle.job_text.proofs.Texts.{item_written, text_of, with_tokens-nil}
 use Rattle.job_text.proofs.printing.print.Goals as goal

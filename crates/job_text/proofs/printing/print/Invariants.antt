@@ -1,6 +1,7 @@
 use Rattle.std.proofs.Common.{◌≡◌, take}
 use Rattle.job_text.specs.declared.mark.Mark.TheVariants as marks
-use Rattle.job_text.specs.Printing.{separated, query_tokens}
+use Rattle.job_text.specs.Grammar.{separated}
+use Rattle.job_text.specs.Printing.{query_tokens}
 use Rattle.job_text.specs.Sheets.{blank_sheet, with_tokens}
 use Rattle.job_text.proofs.printing.print.Given as goal
 

@@ -1,6 +1,7 @@
 use Rattle.std.proofs.Common.{◌≡◌, take}
 use Rattle.job_text.specs.declared.mark.Mark.TheVariants as marks
-use Rattle.job_text.specs.Printing.{separated, place_tokens}
+use Rattle.job_text.specs.Grammar.{separated}
+use Rattle.job_text.specs.Printing.{place_tokens}
 use Rattle.job_text.specs.Sheets.{with_tokens}
 use Rattle.job_text.proofs.printing.print_columns.Given as goal
 

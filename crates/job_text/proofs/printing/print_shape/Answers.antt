@@ -1,7 +1,8 @@
 use Rattle.std.proofs.Common.{length}
 use Rattle.job_text.specs.declared.mark.Mark.TheVariants as marks
 use Rattle.job_text.specs.declared.token.Token.TheVariants.{Fixed}
-use Rattle.job_text.specs.Printing.{separated, key_tokens, part_tokens, place_tokens}
+use Rattle.job_text.specs.Grammar.{separated}
+use Rattle.job_text.specs.Printing.{key_tokens, part_tokens, place_tokens}
 use Rattle.job_text.proofs.Texts.{keys_named, two_lists}
 use Rattle.job_text.proofs.printing.print_shape.Goals as goal
 

@@ -1,5 +1,5 @@
 use Rattle.job_text.proofs.Places.{found_of, only_of, refused_of}
-use Rattle.job_text.proofs.Sound.{sound_of}
+use Rattle.job_text.proofs.Grammars.{whole_of}
 use Rattle.job_text.proofs.reading.read.Goals as goal
 
 pub returns-clause-found : goal.returns-clause-found
@@ -12,7 +12,7 @@ pub returns-clause-refused : goal.returns-clause-refused
 returns-clause-refused c = refused_of c.args.text.now c.read_all.result c.read_all.ensures
 
 pub returns-clause-whole : goal.returns-clause-whole
-returns-clause-whole c = (sound_of c.args.text.now c.read_all.result c.read_all.ensures).0
+returns-clause-whole c = (whole_of c.args.text.now c.read_all.result c.read_all.ensures).0
 
 pub returns-clause-plain : goal.returns-clause-plain
-returns-clause-plain c = (sound_of c.args.text.now c.read_all.result c.read_all.ensures).1
+returns-clause-plain c = (whole_of c.args.text.now c.read_all.result c.read_all.ensures).1

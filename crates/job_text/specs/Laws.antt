@@ -1,0 +1,15 @@
+-- What holds of the language as a whole.
+-- This project's own.
+use Rattle.std.specs.Prelude.{◌≡◌, ◌↔◌, List, Some}
+use Rattle.job_text.specs.declared.token.Token.{Token}
+use Rattle.job_text.specs.declared.job.Job.{Job}
+use Rattle.job_text.specs.Begins.{job_of}
+use Rattle.job_text.specs.Grammar.{IsWritten}
+
+-- tokens are read as a job exactly where the grammar has them as that job
+abbrev pub ReadsTheGrammar : Type 0
+ReadsTheGrammar = (tokens : List Token) (job : Job) → (job_of tokens ≡ Some job) ↔ IsWritten tokens job
+
+-- the grammar has tokens as one job at most
+abbrev pub HasOneMeaning : Type 0
+HasOneMeaning = (tokens : List Token) (one other : Job) → IsWritten tokens one → IsWritten tokens other → one ≡ other

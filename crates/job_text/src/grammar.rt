@@ -1,0 +1,13 @@
+//! Laws of the language.
+
+ghost use Rattle.job_text.specs.Laws.{ReadsTheGrammar, HasOneMeaning};
+
+/// Tokens are read as a job exactly where the grammar has them as that job.
+pub fn tokens_are_read_by_grammar()
+    ensures { ReadsTheGrammar }
+{}
+
+/// The grammar has a list of tokens as one job at most.
+pub fn tokens_have_one_meaning()
+    ensures { HasOneMeaning }
+{}
