@@ -116,22 +116,22 @@ word_ends b bytes h =
     let len : length (take_while is_word_byte (b ∷ bytes)) ≡ suc (prefix_len is_word_byte bytes) = omega (arith, length-prefix_len is_word_byte (b ∷ bytes), is) in
     rw len (prefix_ends is_word_byte (b ∷ bytes) (prefix_len is_word_byte bytes) word_byte_ascii (omega (arith, is)))
 
-number_ends : (bytes : List ℕ) (digits : ℕ) → digits ≡ prefix_len is_digit bytes → EndsFound bytes (whole_of 0 digits)
-number_ends bytes zero is = tt
-number_ends bytes (suc more) is =
+number_ends : (bytes text : List ℕ) (digits : ℕ) → digits ≡ prefix_len is_digit bytes → EndsFound bytes (whole_of text 0 digits)
+number_ends bytes text zero is = tt
+number_ends bytes text (suc more) is =
     let ends = prefix_ends is_digit bytes more digit_ascii is in
     record { last = ends.last; is = omega (arith, ends.is); within = ends.within; ascii = ends.ascii }
 
-minus_ends : (b : ℕ) (bytes : List ℕ) (digits : ℕ) → digits ≡ prefix_len is_digit bytes → EndsFound (b ∷ bytes) (whole_of 1 digits)
-minus_ends b bytes zero is = tt
-minus_ends b bytes (suc more) is =
+minus_ends : (b : ℕ) (bytes text : List ℕ) (digits : ℕ) → digits ≡ prefix_len is_digit bytes → EndsFound (b ∷ bytes) (whole_of text 1 digits)
+minus_ends b bytes text zero is = tt
+minus_ends b bytes text (suc more) is =
     let ends = prefix_ends is_digit bytes more digit_ascii is in
     record { last = suc ends.last; is = omega (arith, ends.is); within = omega (arith, ends.within); ascii = ends.ascii }
 
 whole_ends : (b : ℕ) (bytes : List ℕ) → EndsFound (b ∷ bytes) (whole_at (b ∷ bytes))
-whole_ends b bytes = ends_cond (b ∷ bytes) (b == 45) (whole_of 1 (prefix_len is_digit bytes)) (whole_of 0 (prefix_len is_digit (b ∷ bytes)))
-    (λ _. minus_ends b bytes (prefix_len is_digit bytes) refl)
-    (λ _. number_ends (b ∷ bytes) (prefix_len is_digit (b ∷ bytes)) refl)
+whole_ends b bytes = ends_cond (b ∷ bytes) (b == 45) (whole_of (b ∷ bytes) 1 (prefix_len is_digit bytes)) (whole_of (b ∷ bytes) 0 (prefix_len is_digit (b ∷ bytes)))
+    (λ _. minus_ends b bytes (b ∷ bytes) (prefix_len is_digit bytes) refl)
+    (λ _. number_ends (b ∷ bytes) (b ∷ bytes) (prefix_len is_digit (b ∷ bytes)) refl)
 
 -- ---- signs
 

@@ -187,4 +187,4 @@ kept s (Fixed mark) h = kept_mark s.read s.at mark h
 kept s (Word name) h = kept_column s.read name s.at h
 kept s (Quoted name) h = kept_column s.read name s.at h
 kept s (Text text) h = tt
-kept s Whole h = tt
+kept s (Whole value) h = tt

@@ -126,7 +126,7 @@ one_step s (Fixed mark) = one_mark s.read s.at mark
 one_step s (Word name) = one_column s.read s.at name
 one_step s (Quoted name) = one_column s.read s.at name
 one_step s (Text text) = tt
-one_step s Whole = tt
+one_step s (Whole value) = tt
 
 length-with_some : (names : List (List ℕ)) (name : Option (List ℕ)) → length (with_some names name) ≤ length names + 1
 length-with_some names None = omega arith

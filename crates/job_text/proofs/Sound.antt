@@ -434,7 +434,7 @@ module _ (names : List (List ℕ)) where
   goes_step s (Word name) ts h = behind_all (after_column s.read s.at (Some name)) ts h.0 h.1 (Word name ∷ []) h.2 (goes_column names s.read h.0 h.3 h.1 (word name) s.at h.4)
   goes_step s (Quoted name) ts h = behind_all (after_column s.read s.at (Some name)) ts h.0 h.1 (Quoted name ∷ []) h.2 (goes_column names s.read h.0 h.3 h.1 (in_quotes name) s.at h.4)
   goes_step s (Text text) ts h = tt
-  goes_step s Whole ts h = tt
+  goes_step s (Whole value) ts h = tt
 
 no_state : (s : State) → let none : Option State = None in none ≡ Some s → ⊥
 no_state s e = cc

@@ -1,6 +1,7 @@
 -- How a job without datasets is printed: its tokens, and the text of tokens.
 -- This project's own.
 use Rattle.std.specs.Prelude.{ℕ, zero, suc, List, [], ◌∷◌, ◌++◌, Bool, true, false, ◌||◌, ◌==◌, if◌then◌else◌, Option, Some, None, slice_index_or}
+use Rattle.std.specs.Fmt.{signed_decimal}
 use Rattle.aggregate.specs.declared.agg_list.Agg.{Agg}
 use Rattle.aggregate.specs.declared.agg_list.Agg.TheVariants as aggs
 use Rattle.job_text.specs.declared.mark.Mark.{Mark}
@@ -70,13 +71,14 @@ abbrev pub doubled : ℕ → List ℕ → List ℕ
 doubled quote [] = []
 doubled quote (b ∷ bytes) = if b == quote then quote ∷ quote ∷ doubled quote bytes else b ∷ doubled quote bytes
 
--- how a token is written; no job without datasets has a whole number
+-- how a token is written; no job has a number that leaves 64 bits
 abbrev pub token_text : Token → List ℕ
 token_text (Fixed mark) = mark_text mark
 token_text (Word name) = name
 token_text (Quoted name) = 34 ∷ doubled 34 name ++ 34 ∷ []
 token_text (Text text) = 39 ∷ doubled 39 text ++ 39 ∷ []
-token_text Whole = []
+token_text (Whole None) = []
+token_text (Whole (Some value)) = signed_decimal value
 
 -- no blank stands before it: `,` `:` `;` `)`
 abbrev pub is_attached : Token → Bool

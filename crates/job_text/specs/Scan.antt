@@ -1,8 +1,10 @@
 -- The token at the front of bytes, and how many bytes it takes.
 -- This project's own.
-use Rattle.std.specs.Prelude.{⊤, ◌≡◌, ℕ, zero, suc, ◌+◌, List, [], ◌∷◌, length, find, Bool, true, ◌&&◌, ◌||◌, ◌==◌, not, is_some, slice_index, nat_le, nat_eq, if◌then◌else◌, Option, Some, None}
+use Rattle.std.specs.Prelude.{⊤, ◌≡◌, ℕ, zero, suc, ◌+◌, List, [], ◌∷◌, length, take, find, Bool, true, ◌&&◌, ◌||◌, ◌==◌, not, is_some, slice_index, nat_le, nat_eq, if◌then◌else◌, Option, Some, None}
 use Rattle.std.specs.Str.{bytes_eq, IsUtf8}
 use Rattle.std.specs.List.{list_all, prefix_len, starts_with, take_while}
+use Rattle.aggregate.specs.Partial.{fits_i64}
+use Rattle.run_file.specs.Numbers.{number}
 use Rattle.job_text.specs.declared.mark.Mark.{Mark}
 use Rattle.job_text.specs.declared.token.Token.{Token}
 use Rattle.job_text.specs.declared.token.Token.TheVariants.{Fixed, Word, Quoted, Text, Whole}
@@ -37,15 +39,18 @@ word_token word (Some mark) = Fixed mark
 unfoldable pub word_at : List ℕ → Option (Token × ℕ)
 word_at bytes = let word = take_while is_word_byte bytes in Some (word_token word (reserved_as word), length word)
 
--- a whole number of a sign and digits; there is none without a digit
-abbrev pub whole_of : ℕ → ℕ → Option (Token × ℕ)
-whole_of sign zero = None
-whole_of sign (suc more) = Some (Whole, sign + suc more)
+-- a whole number of a sign and digits, with its value where that is one of 64 bits; there is none without a digit
+abbrev pub whole_of : List ℕ → ℕ → ℕ → Option (Token × ℕ)
+whole_of bytes sign zero = None
+whole_of bytes sign (suc more) = Some (Whole (number (take (sign + suc more) bytes)), sign + suc more)
 
 -- the whole number at the front: digits, and a `-` before them or none
 abbrev pub whole_at : List ℕ → Option (Token × ℕ)
 whole_at [] = None
-whole_at (b ∷ bytes) = if b == 45 then whole_of 1 (prefix_len is_digit bytes) else whole_of 0 (prefix_len is_digit (b ∷ bytes))
+whole_at (b ∷ bytes) =
+    if b == 45
+    then whole_of (b ∷ bytes) 1 (prefix_len is_digit bytes)
+    else whole_of (b ∷ bytes) 0 (prefix_len is_digit (b ∷ bytes))
 
 -- a sign's token
 abbrev pub sign_token : Option Mark → Option (Token × ℕ)
@@ -105,4 +110,5 @@ IsSpelled (Fixed mark) = ⊤
 IsSpelled (Word name) = is_plain name ≡ true
 IsSpelled (Quoted name) = IsUtf8 name
 IsSpelled (Text text) = IsUtf8 text
-IsSpelled Whole = ⊤
+IsSpelled (Whole None) = ⊤
+IsSpelled (Whole (Some value)) = fits_i64 value ≡ true

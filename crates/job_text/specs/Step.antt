@@ -136,7 +136,7 @@ step s (Fixed mark) = after_mark s.read s.at mark
 step s (Word name) = after_column s.read s.at (Some name)
 step s (Quoted name) = after_column s.read s.at (Some name)
 step s (Text text) = None
-step s Whole = None
+step s (Whole value) = None
 
 -- the query at hand, where it may end here
 abbrev pub shape_of : At → Option Shape

@@ -244,6 +244,6 @@ pub(crate) fn take(alloc: Global, state: State, token: Token) -> Result<Option<S
         Token::Word(name) => after_column(state.read, state.at, name),
         Token::Quoted(name) => after_column(state.read, state.at, name),
         Token::Text(_) => Ok(None),
-        Token::Whole => Ok(None),
+        Token::Whole(_) => Ok(None),
     }
 }

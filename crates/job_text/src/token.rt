@@ -13,6 +13,6 @@ pub(crate) enum Token {
     Quoted(Name),
     /// What stands between single quotes.
     Text(Name),
-    /// A whole number.
-    Whole,
+    /// A whole number; None where it leaves 64 bits.
+    Whole(Option<i64>),
 }

@@ -8,6 +8,7 @@ ghost use Rattle.job_text.specs.Scan.{is_blank as blank_test, is_digit as digit_
 use crate::mark::Mark;
 use crate::token::Token;
 use item_lists::Name;
+use run_file::parse_number;
 use std::alloc::{AllocError, Global};
 
 fn is_digit(b: u8) -> bool
@@ -144,7 +145,8 @@ fn whole(bytes: &[u8]) -> Option<(Token, usize)>
     if digits == 0 {
         return None;
     }
-    Some((Token::Whole, sign + digits))
+    let length = sign + digits;
+    Some((Token::Whole(parse_number(&bytes[..length])), length))
 }
 
 #[tactic(auto, unfolding(crate::specs::Scan::sign_at))]
