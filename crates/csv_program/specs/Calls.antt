@@ -1,16 +1,17 @@
 -- What a call of `run` is for: its words, its job's text, and whether each worker has a post.
 -- This project's own.
-use Rattle.std.specs.Prelude.{ℕ, ◌&&◌, ◌==◌, Bool, List, Option, Some, None, Result, Ok, Err, length, nat_lt, if◌then◌else◌, ⊤}
+use Rattle.std.specs.Prelude.{ℕ, ◌&&◌, Bool, List, Option, Some, None, Result, Ok, Err, nat_lt, if◌then◌else◌, ⊤}
 use Rattle.std.specs.Str.{bytes_eq}
 use Rattle.pool_ledger.specs.Sizes.{Sizes}
+use Rattle.job_text.specs.Jobs.{is_plain_job}
 use Rattle.job_text.specs.Printing.{printed}
 use Rattle.job_text.specs.Text.{read_of}
 use Rattle.job_text.specs.declared.job.Job.{Job}
 use Rattle.csv_program.specs.Words.{Asked, NoWords, Asks, asked}
 
--- a job of one query that is printed as this text
+-- a job of one query over the input that is printed as this text
 abbrev pub is_printed : Job → List ℕ → Bool
-is_printed job text = length job.queries == 1 && bytes_eq (printed job) text
+is_printed job text = is_plain_job job && bytes_eq (printed job) text
 
 -- the job that was read, where its text is the printed form of one query
 abbrev pub only_printed : List ℕ → Result Job ℕ → Option Job

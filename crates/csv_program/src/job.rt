@@ -19,7 +19,7 @@ pub fn read_job(alloc: Global, text: &str) -> Result<Option<Job>, AllocError>
         Err(JobFault::BadJob { .. }) => return Ok(None),
         Err(JobFault::NoMemory) => return Err(AllocError),
     };
-    if job.queries.items().len() != 1 {
+    if !job.is_plain() {
         return Ok(None);
     }
     let printed = print(alloc, &job)?;

@@ -1,15 +1,17 @@
 -- A name that none of these columns is.
-use Rattle.std.proofs.Common.{◌≡◌, ℕ, suc, ◌+◌, ◌<◌, ◌≤◌, false, cond, List, [], ◌∷◌, ◌++◌, length, get_or, refl, ap, subst, ◌∙◌, arith, add-one, inl, inr}
+use Rattle.std.proofs.Common.{◌≡◌, ℕ, zero, suc, ◌+◌, ◌<◌, ◌≤◌, true, false, cond, List, [], ◌∷◌, ◌++◌, length, get_or, refl, sym, ap, subst, ◌∙◌, arith, add-one, inl, inr}
 use Rattle.std.specs.Prelude.{◌==◌}
 use Rattle.std.specs.Str.{bytes_eq}
-use Rattle.std.proofs.lemmas.Bool.{cases_lt, cases_Bool, or_from, eqb-true, eqb-false, ne_eqb}
+use Rattle.std.proofs.lemmas.Bool.{cases_lt, cases_Bool, or_from, or_left, or_right, and_from, le-ltb, eqb-true, eqb-false, ne_eqb, true≢false}
 use Rattle.std.proofs.lemmas.Slice.Eq.{bytes_eq-Decides}
 use Rattle.std.specs.Prelude.{All}
 use Rattle.std.specs.Str.{IsUtf8}
 use Rattle.std.proofs.lemmas.List.Elements.{All-nil, All-cons}
 use Rattle.std.proofs.lemmas.Str.{IsUtf8-from_ascii}
 use Rattle.std.proofs.lemmas.Str.Ascii.{IsAscii-from_all}
-use Rattle.job_text.specs.Columns.{place_of, with_name, has_column}
+use Rattle.std.specs.List.{list_all}
+use Rattle.job_text.specs.Columns.{place_of, is_among, with_name, has_column}
+use Rattle.job_text.specs.Scan.{is_plain, is_word_byte}
 
 abbrev pub AreBelow : ℕ → List ℕ → Type 0
 AreBelow n [] = Unit {0}
@@ -109,4 +111,53 @@ fresh names cs h =
           | inr le ↦ not_beyond cs (length names) (place_of names name) h le
         ];
       },
+    )
+
+-- ---- a word that is no dataset's name
+
+places : ℕ → ℕ → List ℕ
+places i zero = []
+places i (suc n) = i ∷ places (i + 1) n
+
+length-places : (n i : ℕ) → length (places i n) ≡ n
+unfolding places
+length-places zero i = refl
+length-places (suc n) i = ap suc (length-places n (i + 1))
+
+has_places : (n i p : ℕ) → i ≤ p → p < i + n → has_column (places i n) p ≡ true
+unfolding places
+has_places zero i p le lt = absurd (omega arith)
+has_places (suc n) i p le lt = elim (cases_Bool (i == p)) [
+  | inl e ↦ or_left (i == p) (has_column (places (i + 1) n) p) e
+  | inr e ↦ or_right (i == p) (has_column (places (i + 1) n) p) (has_places n (i + 1) p (omega (arith, le, eqb-false i p e)) (omega arith))
+]
+
+other_word : (b : ℕ) → is_word_byte (other b) ≡ true
+unfolding other
+other_word b = elim (cases_Bool (b == 97)) [
+  | inl t ↦ rw t refl
+  | inr t ↦ rw t refl
+]
+
+diagonal_word : (names : List (List ℕ)) (i : ℕ) (cs : List ℕ) → list_all is_word_byte (diagonal names i cs) ≡ true
+unfolding diagonal
+diagonal_word names i [] = refl
+diagonal_word names i (c ∷ cs) = and_from _ _ (other_word (get_or (get_or names c []) i 0)) (diagonal_word names (suc i) cs)
+
+-- no reserved word begins with `b`
+free_word : (bytes : List ℕ) → list_all is_word_byte bytes ≡ true → is_plain (98 ∷ bytes) ≡ true
+free_word bytes h = rw h refl
+
+pub fresh_word : (names : List (List ℕ)) → (name : List ℕ) × (length name ≡ length names + 1) × (is_among names name ≡ false) × (is_plain name ≡ true)
+fresh_word names =
+    let cs = places 0 (length names) in
+    let name : List ℕ = 98 ∷ diagonal names 1 cs in
+    let behind : (k : ℕ) → get_or name (1 + k) 0 ≡ get_or (diagonal names 1 cs) k 0 = λ k. let e : suc k ≡ 1 + k = omega arith in subst (λ (j : ℕ). get_or name j 0 ≡ get_or (diagonal names 1 cs) k 0) e refl in (
+      name,
+      omega (arith, length-diagonal names 1 cs, length-places (length names) 0),
+      le-ltb (place_of names name) (length names) (elim (cases_lt (place_of names name) (length names)) [
+        | inl lt ↦ absurd (true≢false (sym (has_places (length names) 0 (place_of names name) (omega arith) (omega (arith, lt))) ∙ none_is names cs 1 (place_of names name) name behind (name_at names name lt)))
+        | inr le ↦ le
+      ]),
+      free_word (diagonal names 1 cs) (diagonal_word names 1 cs),
     )

@@ -1,16 +1,19 @@
 -- What is written by the rules means a job that has what each job has.
-use Rattle.std.proofs.Common.{◌≡◌, ℕ, suc, ◌+◌, ◌<◌, ◌≤◌, List, [], ◌∷◌, ◌++◌, length, get_or, Option, Some, None, refl, sym, ap, subst, ◌∙◌, arith}
+use Rattle.std.proofs.Common.{◌≡◌, ◌≢◌, ℕ, zero, suc, ◌+◌, ◌<◌, ◌≤◌, List, [], ◌∷◌, ◌++◌, length, get_or, Option, Some, None, refl, sym, ap, subst, ◌∙◌, append_assoc, arith}
 use Rattle.std.specs.Prelude.{All, IfSome, map, flat_map}
 use Rattle.std.specs.Option.{option_map, option_to_list}
 use Rattle.std.proofs.lemmas.List.{length-map, get_or-map, map-append, length-append, get_or_append_left, get_or-append-add}
 use Rattle.std.proofs.lemmas.List.Elements.{All-nil, All-cons, All-append, All-map, All-weaker}
+use Rattle.std.proofs.lemmas.List.{append-nil}
+use Rattle.std.proofs.lemmas.List.Quantifiers.{all_pairs_push}
+use Rattle.job_text.specs.declared.job.Dataset.{Dataset}
 use Rattle.job_text.specs.declared.job.Part.{Part}
 use Rattle.job_text.specs.Columns.{with_names}
-use Rattle.job_text.specs.Jobs.{IsShortList, IsPart, IsDistinct, IsColumns, IsShape, IsQuery, IsJob, shape_places}
-use Rattle.job_text.specs.Grammar.{WrittenColumn, WrittenKey, WrittenAgg, WrittenShape, WrittenJob, name_of, IsShortColumn, IsShortAgg, AreColumns, AreAggs, IsShapeRight, IsRight, agg_of, agg_column, agg_named, column_names, agg_names, shape_names, query_names, job_names, column_meant, key_meant, agg_meant, shape_meant, query_meant, job_meant}
-use Rattle.job_text.specs.Grammar.{count, sum_of, min_of, max_of, group, order}
+use Rattle.job_text.specs.Jobs.{IsShortList, IsPart, IsDistinct, IsColumns, IsShape, IsQuery, AreMade, IsJob, shape_places}
+use Rattle.job_text.specs.Grammar.{WrittenColumn, WrittenKey, WrittenAgg, WrittenShape, WrittenJob, name_of, IsShortColumn, IsShortAgg, AreColumns, AreAggs, IsShapeRight, IsSourceRight, AreDatasets, IsQueryRight, IsRight, WrittenSource, WrittenDataset, names_written, source_meant, from_meant, dataset_meant, agg_of, agg_column, agg_named, column_names, agg_names, shape_names, query_names, job_names, column_meant, key_meant, agg_meant, shape_meant, query_meant, job_meant}
+use Rattle.job_text.specs.Grammar.{count, sum_of, min_of, max_of, group, order, input, by_name}
 use Rattle.job_text.proofs.Fresh.{name_at}
-use Rattle.job_text.proofs.Named.{Knows, all_known, same_name, All-with_names, distinct-with_names}
+use Rattle.job_text.proofs.Named.{Knows, place_of-append, not_among, among_is, all_known, same_name, All-with_names, distinct-with_names}
 
 -- ---- lists
 
@@ -185,19 +188,74 @@ shape_short (order keys columns) h =
     All-append (λ name. length name ≤ 1024) (flat_map (λ key. column_names key.column) keys) (flat_map column_names columns)
     (subst (All (λ name. length name ≤ 1024)) (sym (keys_named [] keys)) (columns_short (map (λ key. key.column) keys) h.0.short)) (columns_short columns h.1.short)
 
+-- ---- datasets
+
+all_short : (before : List (List ℕ)) (datasets : List WrittenDataset) → AreDatasets before datasets → All (λ dataset. length dataset.name ≤ 64) datasets
+all_short before [] h = All-nil (λ dataset. length dataset.name ≤ 64)
+all_short before (dataset ∷ datasets) h = All-cons (λ dataset. length dataset.name ≤ 64) dataset datasets h.0.short (all_short (before ++ dataset.name ∷ []) datasets h.1)
+
+all_new : (before : List (List ℕ)) (datasets : List WrittenDataset) → IsDistinct before → AreDatasets before datasets → IsDistinct (before ++ names_written datasets)
+all_new before [] d h = subst IsDistinct (sym (append-nil before)) d
+all_new before (dataset ∷ datasets) d h =
+    subst IsDistinct (append_assoc before (dataset.name ∷ []) (names_written datasets))
+    (all_new (before ++ dataset.name ∷ []) datasets (all_pairs_push (λ earlier later. earlier ≢ later) before dataset.name d (not_among before dataset.name h.0.new)) h.1)
+
+-- a source that is named keeps its number when more datasets follow
+pub source_same : (before more : List (List ℕ)) (source : WrittenSource) → IsSourceRight before source → source_meant (before ++ more) source ≡ source_meant before source
+source_same before more input h = refl
+source_same before more (by_name name) h = ap (λ (n : ℕ). n + 1) (place_of-append before more name (among_is before name h))
+
+source_before : (before : List (List ℕ)) (source : WrittenSource) → IsSourceRight before source → source_meant before source ≤ length before
+source_before before input h = omega arith
+source_before before (by_name name) h = omega (arith, among_is before name h)
+
+module _ (all : List (List ℕ)) where
+  pub names_meant : (datasets : List WrittenDataset) → map (λ dataset. dataset.name) (map (dataset_meant all) datasets) ≡ names_written datasets
+  names_meant [] = refl
+  names_meant (dataset ∷ datasets) = ap (λ (l : List (List ℕ)). dataset.name ∷ l) (names_meant datasets)
+
+  all_earlier : (before : List (List ℕ)) (datasets : List WrittenDataset) → AreDatasets before datasets → all ≡ before ++ names_written datasets → (place : ℕ) (d : Dataset) → place < length datasets → (get_or (map (dataset_meant all) datasets) place d).parent ≤ length before + place
+  all_earlier before [] h e place d lt = absurd (omega (arith, lt))
+  all_earlier before (dataset ∷ datasets) h e zero d lt =
+      omega (arith, source_before before dataset.source h.0.source, source_same before (names_written (dataset ∷ datasets)) dataset.source h.0.source, ap (λ (l : List (List ℕ)). source_meant l dataset.source) e)
+  all_earlier before (dataset ∷ datasets) h e (suc place) d lt =
+      let rest = all_earlier (before ++ dataset.name ∷ []) datasets h.1 (e ∙ sym (append_assoc before (dataset.name ∷ []) (names_written datasets))) place d (omega (arith, lt)) in
+      omega (arith, rest, length-append before (dataset.name ∷ []))
+
+datasets_made : (datasets : List WrittenDataset) → length datasets ≤ 8 → AreDatasets [] datasets → AreMade (map (dataset_meant (names_written datasets)) datasets)
+datasets_made datasets few h =
+    let all = names_written datasets in
+    record {
+      few = omega (arith, few, length-map datasets (dataset_meant all));
+      short = All-map (λ dataset. length dataset.name ≤ 64) (dataset_meant all) datasets (all_short [] datasets h);
+      new = subst IsDistinct (sym (names_meant all datasets)) (all_new [] datasets (λ i j d less within. absurd (omega arith)) h);
+      earlier = λ place d lt.
+        let le = all_earlier all [] datasets h refl place d (omega (arith, lt, length-map datasets (dataset_meant all))) in omega (arith, le);
+    }
+
+from_within : (all : List (List ℕ)) (source : Option WrittenSource) → IfSome source (IsSourceRight all) → from_meant all source ≤ length all
+from_within all None h = omega arith
+from_within all (Some source) h = source_before all source h
+
 -- ---- the whole job
 
 pub job_is : (job : WrittenJob) → IsRight job → IsJob (job_meant job)
 job_is job h =
     let names = with_names [] (job_names job) in
+    let all = names_written job.datasets in
     let k : All (Knows names) (job_names job) = all_known (job_names job) [] in
     let shapes = All-items (Knows names) query_names job.queries k in
     record {
       names = All-with_names (λ name. length name ≤ 1024) (job_names job) [] (All-nil (λ name. length name ≤ 1024))
-          (All-flat (λ name. length name ≤ 1024) query_names job.queries (All-weaker (λ query. IsShapeRight query.shape) (λ query. All (λ name. length name ≤ 1024) (query_names query)) (λ query s. shape_short query.shape s) job.queries h.shapes));
-      first = ap (with_names []) (flat_back names (query_meant names) (λ query. shape_places query.shape) query_names (λ query k. shape_back names query.shape k) job.queries k);
+          (All-flat (λ name. length name ≤ 1024) query_names job.queries (All-weaker (IsQueryRight all) (λ query. All (λ name. length name ≤ 1024) (query_names query)) (λ query s. shape_short query.shape s.shape) job.queries h.queries));
+      first = ap (with_names []) (flat_back names (query_meant names all) (λ query. shape_places query.shape) query_names (λ query k. shape_back names query.shape k) job.queries k);
       distinct = distinct-with_names (job_names job) [] (λ i j d less within. absurd (omega arith));
-      datasets = omega arith;
-      several = short_list (query_meant names) job.queries h.several;
-      queries = All-map (IsQuery (length names) 0) (query_meant names) job.queries (λ i d lt. record { dataset = omega arith; shape = shape_is names (get_or job.queries i d).shape (h.shapes i d lt) (shapes i d lt) });
+      datasets = datasets_made job.datasets h.few h.datasets;
+      several = short_list (query_meant names all) job.queries h.several;
+      queries = All-map (IsQuery (length names) (length (map (dataset_meant all) job.datasets))) (query_meant names all) job.queries (λ i d lt.
+        let query = get_or job.queries i d in
+        record {
+          dataset = omega (arith, from_within all query.source (h.queries i d lt).source, length-map job.datasets (λ dataset. dataset.name), length-map job.datasets (dataset_meant all));
+          shape = shape_is names query.shape (h.queries i d lt).shape (shapes i d lt);
+        });
     }

@@ -1,11 +1,11 @@
 -- A name keeps its place while names are added.
-use Rattle.std.proofs.Common.{◌≡◌, ℕ, suc, ◌+◌, ◌<◌, ◌≤◌, true, false, List, [], ◌∷◌, ◌++◌, length, get_or, refl, sym, ap, ◌∙◌, arith, inl, inr}
+use Rattle.std.proofs.Common.{◌≡◌, ◌≢◌, ℕ, suc, ◌+◌, ◌<◌, ◌≤◌, true, false, List, [], ◌∷◌, ◌++◌, length, get_or, refl, sym, ap, ◌∙◌, arith, inl, inr}
 use Rattle.std.specs.Prelude.{All}
 use Rattle.std.specs.Str.{bytes_eq}
-use Rattle.std.proofs.lemmas.Bool.{cases_Bool}
+use Rattle.std.proofs.lemmas.Bool.{cases_Bool, lt-ltb, le-ltb, ltb-true, ltb-false, true≢false}
 use Rattle.std.proofs.lemmas.List.Elements.{All-nil, All-cons}
 use Rattle.std.proofs.lemmas.Slice.Eq.{bytes_eq-Decides}
-use Rattle.job_text.specs.Columns.{place_of, with_name, with_names}
+use Rattle.job_text.specs.Columns.{place_of, is_among, with_name, with_names}
 use Rattle.job_text.specs.Jobs.{IsDistinct}
 use Rattle.job_text.proofs.Fresh.{length-with_name, place_below, name_at}
 use Rattle.job_text.proofs.Growing.{All-with_name, distinct-with_name}
@@ -26,6 +26,28 @@ module _ (first : List ℕ) (names : List (List ℕ)) (name : List ℕ) where
 
   with_later : bytes_eq first name ≡ false → with_name (first ∷ names) name ≡ first ∷ with_name names name
   with_later e = rw e refl
+
+-- a name that stands among some stands at its place whatever follows
+pub place_of-append : (names more : List (List ℕ)) (name : List ℕ) → Knows names name → place_of (names ++ more) name ≡ place_of names name
+place_of-append [] more name lt = absurd (omega arith)
+place_of-append (first ∷ names) more name lt = elim (cases_Bool (bytes_eq first name)) [
+  | inl e ↦ place_first first (names ++ more) name e ∙ sym (place_first first names name e)
+  | inr e ↦
+      place_later first (names ++ more) name e
+      ∙ ap (λ (n : ℕ). n + 1) (place_of-append names more name (omega (arith, lt, place_later first names name e))) ∙ sym (place_later first names name e)
+]
+
+-- what isn't among some isn't one of them
+pub not_among : (names : List (List ℕ)) (name : List ℕ) → is_among names name ≡ false → All (λ other. other ≢ name) names
+not_among [] name h = All-nil (λ other. other ≢ name)
+not_among (first ∷ names) name h = elim (cases_Bool (bytes_eq first name)) [
+  | inl e ↦ absurd (true≢false (sym (lt-ltb (place_of (first ∷ names) name) (length (first ∷ names)) (omega (arith, place_first first names name e))) ∙ h))
+  | inr e ↦ All-cons (λ other. other ≢ name) first names (λ same. true≢false (sym ((bytes_eq-Decides first name).1 same) ∙ e))
+      (not_among names name (le-ltb (place_of names name) (length names) (omega (arith, place_later first names name e, ltb-false (place_of (first ∷ names) name) (length (first ∷ names)) h))))
+]
+
+pub among_is : (names : List (List ℕ)) (name : List ℕ) → is_among names name ≡ true → Knows names name
+among_is names name h = ltb-true (place_of names name) (length names) h
 
 -- ---- one name more
 

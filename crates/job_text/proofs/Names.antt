@@ -1,8 +1,9 @@
--- A step adds one name at most, and names stay.
+-- A step adds one name and one dataset at most, and names stay.
 use Rattle.std.proofs.Common.{◌≡◌, ℕ, ◌+◌, ◌≤◌, Bool, true, false, cond, List, [], ◌∷◌, ◌++◌, length, Option, Some, None, refl, ap, subst, arith, inl, inr, ◌&&◌}
-use Rattle.std.specs.Prelude.{IfSome, if◌then◌else◌, nat_lt, option_and_then}
+use Rattle.std.specs.Prelude.{IfSome, if◌then◌else◌, nat_lt, nat_le, not, option_and_then}
 use Rattle.std.specs.Str.{bytes_eq}
 use Rattle.std.proofs.lemmas.Bool.{cases_Bool}
+use Rattle.std.proofs.lemmas.List.{length-append}
 use Rattle.job_text.specs.declared.mark.Mark.{Mark}
 use Rattle.job_text.specs.declared.mark.Mark.TheVariants as marks
 use Rattle.job_text.specs.declared.token.Token.{Token}
@@ -11,12 +12,14 @@ use Rattle.job_text.specs.declared.job.Part.{Part}
 use Rattle.job_text.specs.declared.job.KeyItem.{KeyItem}
 use Rattle.job_text.specs.declared.job.Shape.{Shape}
 use Rattle.job_text.specs.declared.job.Shape.TheVariants as shapes
+use Rattle.job_text.specs.declared.job.Query.{Query}
+use Rattle.job_text.specs.declared.job.Dataset.{Dataset}
 use Rattle.job_text.specs.declared.state.At.{At}
 use Rattle.job_text.specs.declared.state.At.TheVariants as at
 use Rattle.job_text.specs.declared.state.Read.{Read}
 use Rattle.job_text.specs.declared.state.State.{State}
-use Rattle.job_text.specs.Columns.{place_of, with_name, with_names, has_column, has_key, has_part, is_short}
-use Rattle.job_text.specs.Step.{step, query_of, counted, key, named, after_mark, after_query, after_group_columns, after_part, after_parts, after_keys, after_key_column, after_order_columns, after_source, ended, after_column, one_more}
+use Rattle.job_text.specs.Columns.{place_of, dataset_names, is_among, number_of, with_name, with_names, has_column, has_key, has_part, is_short}
+use Rattle.job_text.specs.Step.{step, query_of, counted, key, named, after_mark, after_query, after_group_columns, after_part, after_parts, after_keys, after_key_column, after_order_columns, after_source, after_start, after_name, after_equals, after_parent, after_made, after_keep, after_word, dataset_ended, input_as, ended, after_column, one_more}
 use Rattle.job_text.specs.Begins.{steps}
 
 abbrev pub with_some : List (List ℕ) → Option (List ℕ) → List (List ℕ)
@@ -24,7 +27,7 @@ with_some names None = names
 with_some names (Some name) = with_name names name
 
 abbrev pub OneMore : Read → State → Type 0
-OneMore r next = (name : Option (List ℕ)) × (next.read.names ≡ with_some r.names name)
+OneMore r next = (name : Option (List ℕ)) × (next.read.names ≡ with_some r.names name) × (length next.read.datasets ≤ length r.datasets + 1)
 
 length-with_name-one : (names : List (List ℕ)) (name : List ℕ) → length (with_name names name) ≤ length names + 1
 length-with_name-one [] name = omega arith
@@ -43,57 +46,92 @@ module _ (r : Read) where
   one_none false x h = h
 
   one_if : {A : Type 0} (items : List A) (next : At) → IfSome (one_more r items next) (OneMore r)
-  one_if items next = one_cond (nat_lt (length items) 8) (record { read = r; at = next }) ((None, refl))
+  one_if items next = one_cond (nat_lt (length items) 8) (record { read = r; at = next }) (None, refl, omega arith)
 
-  one_ended : (shape : Shape) (mark : Mark) → IfSome (ended r shape mark) (OneMore r)
-  one_ended shape marks.Semicolon = one_cond (nat_lt (length r.queries + 1) 8) (record { read = record r { queries = r.queries ++ query_of shape ∷ [] }; at = at.Query }) ((None, refl))
-  one_ended shape _ = tt
+  one_ended : (query : Query) (mark : Mark) → IfSome (ended r query mark) (OneMore r)
+  one_ended query marks.Semicolon = one_cond (nat_lt (length r.queries + 1) 8) (record { read = record r { queries = r.queries ++ query ∷ [] }; at = at.Query }) (None, refl, omega arith)
+  one_ended query _ = tt
 
   one_query : (mark : Mark) → IfSome (after_query r mark) (OneMore r)
-  one_query marks.Group = (None, refl)
-  one_query marks.Order = (None, refl)
+  one_query marks.Group = (None, refl, omega arith)
+  one_query marks.Order = (None, refl, omega arith)
   one_query _ = tt
 
   one_group_columns : (columns : List ℕ) (mark : Mark) → IfSome (after_group_columns r columns mark) (OneMore r)
   one_group_columns columns marks.Comma = one_if columns (at.GroupColumn columns)
-  one_group_columns columns marks.Colon = (None, refl)
+  one_group_columns columns marks.Colon = (None, refl, omega arith)
   one_group_columns columns _ = tt
 
   one_part : (columns : List ℕ) (parts : List Part) (mark : Mark) → IfSome (after_part r columns parts mark) (OneMore r)
-  one_part columns parts marks.Count = one_none (has_part parts counted) (record { read = r; at = at.Parts columns (parts ++ counted ∷ []) }) ((None, refl))
-  one_part columns parts marks.Sum = (None, refl)
-  one_part columns parts marks.Min = (None, refl)
-  one_part columns parts marks.Max = (None, refl)
+  one_part columns parts marks.Count = one_none (has_part parts counted) (record { read = r; at = at.Parts columns (parts ++ counted ∷ []) }) (None, refl, omega arith)
+  one_part columns parts marks.Sum = (None, refl, omega arith)
+  one_part columns parts marks.Min = (None, refl, omega arith)
+  one_part columns parts marks.Max = (None, refl, omega arith)
   one_part columns parts _ = tt
 
   one_parts : (columns : List ℕ) (parts : List Part) (mark : Mark) → IfSome (after_parts r columns parts mark) (OneMore r)
   one_parts columns parts marks.Comma = one_if parts (at.Part columns parts)
-  one_parts columns parts marks.From = (None, refl)
-  one_parts columns parts mark = one_ended (shapes.Group columns parts) mark
+  one_parts columns parts marks.From = (None, refl, omega arith)
+  one_parts columns parts mark = one_ended (query_of 0 (shapes.Group columns parts)) mark
 
   one_keys : (keys : List KeyItem) (mark : Mark) → IfSome (after_keys r keys mark) (OneMore r)
   one_keys keys marks.Comma = one_if keys (at.Key keys)
-  one_keys keys marks.Colon = (None, refl)
+  one_keys keys marks.Colon = (None, refl, omega arith)
   one_keys keys _ = tt
 
   one_key_column : (keys : List KeyItem) (column : ℕ) (number : Bool) (mark : Mark) → IfSome (after_key_column r keys column number mark) (OneMore r)
-  one_key_column keys column number marks.Down = (None, refl)
+  one_key_column keys column number marks.Down = (None, refl, omega arith)
   one_key_column keys column number mark = one_keys (key keys column number false) mark
 
   one_order_columns : (keys : List KeyItem) (columns : List ℕ) (mark : Mark) → IfSome (after_order_columns r keys columns mark) (OneMore r)
   one_order_columns keys columns marks.Comma = one_if columns (at.OrderColumn keys columns)
-  one_order_columns keys columns marks.From = (None, refl)
-  one_order_columns keys columns mark = one_ended (shapes.Order keys columns) mark
+  one_order_columns keys columns marks.From = (None, refl, omega arith)
+  one_order_columns keys columns mark = one_ended (query_of 0 (shapes.Order keys columns)) mark
 
-  one_source : (shape : Shape) (mark : Mark) → IfSome (after_source r shape mark) (OneMore r)
-  one_source shape marks.Input = (None, refl)
-  one_source shape _ = tt
+  one_source : (shape : Shape) (dataset : Option ℕ) → IfSome (after_source r shape dataset) (OneMore r)
+  one_source shape None = tt
+  one_source shape (Some dataset) = (None, refl, omega arith)
+
+  one_start : (mark : Mark) → IfSome (after_start r mark) (OneMore r)
+  one_start marks.Let = one_cond (nat_lt (length r.datasets) 8) (record { read = r; at = at.DatasetName }) (None, refl, omega arith)
+  one_start mark = one_query mark
+
+  one_name : (name : List ℕ) → IfSome (after_name r name) (OneMore r)
+  one_name name = one_cond (nat_le (length name) 64 && not (is_among (dataset_names r.datasets) name)) (record { read = r; at = at.DatasetEquals name }) (None, refl, omega arith)
+
+  one_equals : (name : List ℕ) (mark : Mark) → IfSome (after_equals r name mark) (OneMore r)
+  one_equals name marks.Equal = (None, refl, omega arith)
+  one_equals name _ = tt
+
+  one_parent : (name : List ℕ) (parent : Option ℕ) → IfSome (after_parent r name parent) (OneMore r)
+  one_parent name None = tt
+  one_parent name (Some parent) = (None, refl, omega arith)
+
+  one_dataset : (dataset : Dataset) (mark : Mark) → IfSome (dataset_ended r dataset mark) (OneMore r)
+  one_dataset dataset marks.Semicolon = (None, refl, omega (arith, length-append r.datasets (dataset ∷ [])))
+  one_dataset dataset _ = tt
+
+  one_made : (dataset : Dataset) (mark : Mark) → IfSome (after_made r dataset mark) (OneMore r)
+  one_made dataset marks.Keep = (None, refl, omega arith)
+  one_made dataset mark = one_dataset dataset mark
+
+  one_keep : (dataset : Dataset) (mark : Mark) → IfSome (after_keep r dataset mark) (OneMore r)
+  one_keep dataset marks.Memory = (None, refl, omega arith)
+  one_keep dataset marks.Disk = (None, refl, omega arith)
+  one_keep dataset _ = tt
 
   one_number : (keys : List KeyItem) (mark : Mark) → IfSome (after_mark r (at.Key keys) mark) (OneMore r)
-  one_number keys marks.Number = (None, refl)
+  one_number keys marks.Number = (None, refl, omega arith)
   one_number keys _ = tt
 
   one_mark : (place : At) (mark : Mark) → IfSome (after_mark r place mark) (OneMore r)
+  one_mark at.Start mark = one_start mark
+  one_mark at.DatasetName mark = tt
+  one_mark (at.DatasetEquals name) mark = one_equals name mark
+  one_mark (at.DatasetSource name) mark = one_parent name (input_as mark)
+  one_mark (at.Made dataset) mark = one_made dataset mark
+  one_mark (at.Level dataset) mark = one_keep dataset mark
+  one_mark (at.Kept dataset) mark = one_dataset dataset mark
   one_mark at.Query mark = one_query mark
   one_mark (at.GroupColumn columns) mark = tt
   one_mark (at.GroupColumns columns) mark = one_group_columns columns mark
@@ -106,11 +144,11 @@ module _ (r : Read) where
   one_mark (at.Keys keys) mark = one_keys keys mark
   one_mark (at.OrderColumn keys columns) mark = tt
   one_mark (at.OrderColumns keys columns) mark = one_order_columns keys columns mark
-  one_mark (at.Source shape) mark = one_source shape mark
-  one_mark (at.Sourced shape) mark = one_ended shape mark
+  one_mark (at.Source shape) mark = one_source shape (input_as mark)
+  one_mark (at.Sourced query) mark = one_ended query mark
 
   one_named : (is_taken : ℕ → Bool) (next : ℕ → At) (name : List ℕ) → IfSome (named r is_taken next (Some name)) (OneMore r)
-  one_named is_taken next name = one_cond (is_short name && (if is_taken (place_of r.names name) then false else true)) (record { read = record r { names = with_name r.names name }; at = next (place_of r.names name) }) (Some name, refl)
+  one_named is_taken next name = one_cond (is_short name && (if is_taken (place_of r.names name) then false else true)) (record { read = record r { names = with_name r.names name }; at = next (place_of r.names name) }) (Some name, refl, omega arith)
 
   one_column : (place : At) (name : List ℕ) → IfSome (after_column r place (Some name)) (OneMore r)
   one_column (at.GroupColumn columns) name = one_named (has_column columns) (λ c. at.GroupColumns (columns ++ c ∷ [])) name
@@ -120,10 +158,21 @@ module _ (r : Read) where
   one_column (at.OrderColumn keys columns) name = one_named (has_column columns) (λ c. at.OrderColumns keys (columns ++ c ∷ [])) name
   one_column _ name = tt
 
+  one_word : (place : At) (word : List ℕ) → IfSome (after_word r place word) (OneMore r)
+  one_word at.DatasetName word = one_name word
+  one_word (at.DatasetSource name) word = one_parent name (number_of r.datasets word)
+  one_word (at.Source shape) word = one_source shape (number_of r.datasets word)
+  one_word (at.GroupColumn columns) word = one_column (at.GroupColumn columns) word
+  one_word (at.PartColumn columns parts agg) word = one_column (at.PartColumn columns parts agg) word
+  one_word (at.Key keys) word = one_column (at.Key keys) word
+  one_word (at.NumberKey keys) word = one_column (at.NumberKey keys) word
+  one_word (at.OrderColumn keys columns) word = one_column (at.OrderColumn keys columns) word
+  one_word _ word = tt
+
 one_step : (s : State) (t : Token) → IfSome (step s t) (OneMore s.read)
 unfolding step
 one_step s (Fixed mark) = one_mark s.read s.at mark
-one_step s (Word name) = one_column s.read s.at name
+one_step s (Word name) = one_word s.read s.at name
 one_step s (Quoted name) = one_column s.read s.at name
 one_step s (Text text) = tt
 one_step s (Whole value) = tt
@@ -136,6 +185,9 @@ pub names_grow : (s next : State) (t : Token) → step s t ≡ Some next → len
 names_grow s next t e =
     let one = rw e at (one_step s t) in
     omega (arith, ap length one.1, length-with_some s.read.names one.0)
+
+pub datasets_grow : (s next : State) (t : Token) → step s t ≡ Some next → length next.read.datasets ≤ length s.read.datasets + 1
+datasets_grow s next t e = (rw e at (one_step s t)).2
 
 -- ---- so the names that are read stay, and others follow
 

@@ -1,9 +1,9 @@
 -- Tokens that are read as a job are written as the grammar has it.
-use Rattle.std.proofs.Common.{◌≡◌, ◌≢◌, ℕ, ◌+◌, ◌<◌, Bool, true, false, cond, List, [], ◌∷◌, ◌++◌, length, Option, Some, None, refl, sym, ap, subst, ◌∙◌, append_assoc, arith, ◌&&◌}
-use Rattle.std.specs.Prelude.{All, IfSome, map, option_and_then, if◌then◌else◌, nat_lt}
+use Rattle.std.proofs.Common.{◌≡◌, ◌≢◌, ℕ, ◌+◌, ◌<◌, ◌≤◌, Bool, true, false, cond, List, [], ◌∷◌, ◌++◌, length, Option, Some, None, refl, sym, ap, subst, ◌∙◌, append_assoc, arith, ◌&&◌}
+use Rattle.std.specs.Prelude.{All, IfSome, map, option_and_then, if◌then◌else◌, nat_lt, nat_le, not}
 use Rattle.std.specs.Option.{option_map}
-use Rattle.std.proofs.lemmas.Bool.{ltb-true, and_parts, leb-true, or_parts, eq-eqb, true≢false}
-use Rattle.std.proofs.lemmas.List.{append-nil, length-append, length-map}
+use Rattle.std.proofs.lemmas.Bool.{ltb-true, not-true, and_parts, leb-true, or_parts, eq-eqb, true≢false}
+use Rattle.std.proofs.lemmas.List.{append-nil, length-append, length-map, map-append}
 use Rattle.std.proofs.lemmas.List.Elements.{All-nil, All-cons, All-push, All-map}
 use Rattle.aggregate.specs.declared.agg_list.Agg.{Agg}
 use Rattle.aggregate.specs.declared.agg_list.Agg.TheVariants as aggs
@@ -17,22 +17,25 @@ use Rattle.job_text.specs.declared.job.Shape.{Shape}
 use Rattle.job_text.specs.declared.job.Shape.TheVariants as shapes
 use Rattle.job_text.specs.declared.job.Job.{Job}
 use Rattle.job_text.specs.declared.job.Query.{Query}
+use Rattle.job_text.specs.declared.job.Dataset.{Dataset}
+use Rattle.pool_ledger.specs.declared.entry.Level.{Level}
+use Rattle.pool_ledger.specs.declared.entry.Level.TheVariants as levels
 use Rattle.job_text.specs.declared.state.At.{At}
 use Rattle.job_text.specs.declared.state.At.TheVariants as at
 use Rattle.job_text.specs.declared.state.Read.{Read}
 use Rattle.job_text.specs.declared.state.State.{State}
-use Rattle.job_text.specs.Columns.{place_of, with_name, is_short, has_column, has_key, has_part, same_agg, same_column}
-use Rattle.job_text.specs.Step.{step, start, query_of, counted, key, named, after_mark, after_query, after_group_columns, after_part, after_parts, after_keys, after_key_column, after_order_columns, after_source, ended, after_column, one_more, shape_of}
+use Rattle.job_text.specs.Columns.{place_of, dataset_names, is_among, number_of, with_name, is_short, has_column, has_key, has_part, same_agg, same_column}
+use Rattle.job_text.specs.Step.{step, start, query_of, counted, key, named, after_mark, after_query, after_group_columns, after_part, after_parts, after_keys, after_key_column, after_order_columns, after_source, after_start, after_name, after_equals, after_parent, after_made, after_keep, after_word, dataset_ended, input_as, made_from, ended, after_column, one_more, last_query}
 use Rattle.job_text.specs.Begins.{steps, job_with, job_at, job_of}
 use Rattle.job_text.specs.Jobs.{IsDistinct, is_count}
-use Rattle.job_text.specs.Grammar.{WrittenColumn, WrittenKey, WrittenAgg, WrittenShape, WrittenQuery, WrittenJob, column_written, key_written, agg_written, shape_written, query_written, job_written, optional, separated, name_of, IsShortColumn, IsShortAgg, AreColumns, AreAggs, IsShapeRight, IsRight, agg_of, agg_column, agg_named, column_meant, key_meant, agg_meant}
-use Rattle.job_text.specs.Grammar.{word, in_quotes, count, sum_of, min_of, max_of, group, order, input}
+use Rattle.job_text.specs.Grammar.{WrittenColumn, WrittenKey, WrittenAgg, WrittenShape, WrittenSource, WrittenDataset, WrittenQuery, WrittenJob, IsSourceRight, IsDatasetRight, AreDatasets, IsQueryRight, names_written, ended_by, source_written, level_written, dataset_written, column_written, key_written, agg_written, shape_written, query_written, job_written, optional, separated, name_of, IsShortColumn, IsShortAgg, AreColumns, AreAggs, IsShapeRight, IsRight, agg_of, agg_column, agg_named, column_meant, key_meant, agg_meant}
+use Rattle.job_text.specs.Grammar.{word, in_quotes, count, sum_of, min_of, max_of, group, order, input, by_name}
 use Rattle.job_text.specs.Printing.{agg_mark}
 use Rattle.job_text.proofs.Fitting.{put}
 use Rattle.job_text.proofs.Growing.{other_columns}
 use Rattle.job_text.proofs.Named.{place_now}
 use Rattle.job_text.proofs.Names.{Reaches, reaches}
-use Rattle.job_text.proofs.Spelled.{ended_by, ended-push, separated-last, IsOpenList, IsWholeList, no_items, opened, added, new_by}
+use Rattle.job_text.proofs.Spelled.{ended-push, separated-last, IsOpenList, IsWholeList, no_items, opened, added, new_by}
 use Rattle.job_text.proofs.Viable.{has_key_is}
 
 -- ---- what isn't in a list
@@ -81,39 +84,59 @@ AreOpenParts names = IsOpenList agg_written (agg_meant names) agg_named IsShortA
 abbrev AreWholeParts : List (List ℕ) → List Part → List Token → Type 0
 AreWholeParts names = IsWholeList agg_written (agg_meant names) agg_named IsShortAgg
 
-abbrev IsAtWritten : List (List ℕ) → List Token → At → Type 0
-IsAtWritten names ts at.Query = ts ≡ []
-IsAtWritten names ts (at.GroupColumn columns) = (cs : List Token) × (ts ≡ Fixed marks.Group ∷ cs) × IsOpenColumns names columns cs
-IsAtWritten names ts (at.GroupColumns columns) = (cs : List Token) × (ts ≡ Fixed marks.Group ∷ cs) × AreWholeColumns names columns cs
-IsAtWritten names ts (at.Part columns parts) =
+-- a dataset that may have this name
+pub record IsDatasetBegun (r : Read) (title : List ℕ) : Type 0 where
+  pub none : length r.queries ≡ 0
+  pub few : length r.datasets < 8
+  pub short : length title ≤ 64
+  pub new : is_among (dataset_names r.datasets) title ≡ false
+
+abbrev IsAtWritten : List (List ℕ) → Read → List Token → At → Type 0
+IsAtWritten names r ts at.Start = (ts ≡ []) × (length r.queries ≡ 0)
+IsAtWritten names r ts at.DatasetName = (ts ≡ Fixed marks.Let ∷ []) × (length r.queries ≡ 0) × (length r.datasets < 8)
+IsAtWritten names r ts (at.DatasetEquals name) = (ts ≡ Fixed marks.Let ∷ Word name ∷ []) × IsDatasetBegun r name
+IsAtWritten names r ts (at.DatasetSource name) = (ts ≡ Fixed marks.Let ∷ Word name ∷ Fixed marks.Equal ∷ []) × IsDatasetBegun r name
+IsAtWritten names r ts (at.Made d) =
+    (source : WrittenSource) × (ts ≡ Fixed marks.Let ∷ Word d.name ∷ Fixed marks.Equal ∷ source_written source) × IsDatasetBegun r d.name × IsSourceRight (dataset_names r.datasets) source
+IsAtWritten names r ts (at.Level d) =
+    (source : WrittenSource) × (ts ≡ Fixed marks.Let ∷ Word d.name ∷ Fixed marks.Equal ∷ (source_written source ++ Fixed marks.Keep ∷ [])) × IsDatasetBegun r d.name × IsSourceRight (dataset_names r.datasets) source
+IsAtWritten names r ts (at.Kept d) = (w : WrittenDataset) × (ts ≡ dataset_written w) × IsDatasetRight (dataset_names r.datasets) w × (length r.queries ≡ 0) × (length r.datasets < 8) × (d.name ≡ w.name)
+IsAtWritten names r ts at.Query = ts ≡ []
+IsAtWritten names r ts (at.GroupColumn columns) = (cs : List Token) × (ts ≡ Fixed marks.Group ∷ cs) × IsOpenColumns names columns cs
+IsAtWritten names r ts (at.GroupColumns columns) = (cs : List Token) × (ts ≡ Fixed marks.Group ∷ cs) × AreWholeColumns names columns cs
+IsAtWritten names r ts (at.Part columns parts) =
     (cs : List Token) × (ps : List Token) × (ts ≡ Fixed marks.Group ∷ cs ++ Fixed marks.Colon ∷ ps) × AreWholeColumns names columns cs × AreOpenParts names parts ps
-IsAtWritten names ts (at.PartColumn columns parts agg) =
+IsAtWritten names r ts (at.PartColumn columns parts agg) =
     (cs : List Token) × (ps : List Token) × (ts ≡ Fixed marks.Group ∷ cs ++ Fixed marks.Colon ∷ (ps ++ Fixed (agg_mark agg) ∷ [])) × AreWholeColumns names columns cs × AreOpenParts names parts ps × (is_count agg ≡ false)
-IsAtWritten names ts (at.Parts columns parts) =
+IsAtWritten names r ts (at.Parts columns parts) =
     (cs : List Token) × (ps : List Token) × (ts ≡ Fixed marks.Group ∷ cs ++ Fixed marks.Colon ∷ ps) × AreWholeColumns names columns cs × AreWholeParts names parts ps
-IsAtWritten names ts (at.Key keys) = (ks : List Token) × (ts ≡ Fixed marks.Order ∷ ks) × AreOpenKeys names keys ks
-IsAtWritten names ts (at.NumberKey keys) = (ks : List Token) × (ts ≡ Fixed marks.Order ∷ (ks ++ Fixed marks.Number ∷ [])) × AreOpenKeys names keys ks
-IsAtWritten names ts (at.KeyColumn keys column number) =
+IsAtWritten names r ts (at.Key keys) = (ks : List Token) × (ts ≡ Fixed marks.Order ∷ ks) × AreOpenKeys names keys ks
+IsAtWritten names r ts (at.NumberKey keys) = (ks : List Token) × (ts ≡ Fixed marks.Order ∷ (ks ++ Fixed marks.Number ∷ [])) × AreOpenKeys names keys ks
+IsAtWritten names r ts (at.KeyColumn keys column number) =
     (ks : List Token) × (c : WrittenColumn) × (ts ≡ Fixed marks.Order ∷ (ks ++ (optional number marks.Number ++ column_written c)))
     × (column ≡ column_meant names c) × IsShortColumn c × (h : AreOpenKeys names keys ks) × All (λ x. x ≢ name_of c) (map key_name h.written)
-IsAtWritten names ts (at.Keys keys) = (ks : List Token) × (ts ≡ Fixed marks.Order ∷ ks) × AreWholeKeys names keys ks
-IsAtWritten names ts (at.OrderColumn keys columns) =
+IsAtWritten names r ts (at.Keys keys) = (ks : List Token) × (ts ≡ Fixed marks.Order ∷ ks) × AreWholeKeys names keys ks
+IsAtWritten names r ts (at.OrderColumn keys columns) =
     (ks : List Token) × (cs : List Token) × (ts ≡ Fixed marks.Order ∷ ks ++ Fixed marks.Colon ∷ cs) × AreWholeKeys names keys ks × IsOpenColumns names columns cs
-IsAtWritten names ts (at.OrderColumns keys columns) =
+IsAtWritten names r ts (at.OrderColumns keys columns) =
     (ks : List Token) × (cs : List Token) × (ts ≡ Fixed marks.Order ∷ ks ++ Fixed marks.Colon ∷ cs) × AreWholeKeys names keys ks × AreWholeColumns names columns cs
-IsAtWritten names ts (at.Source shape) = (w : WrittenShape) × (ts ≡ shape_written w ++ Fixed marks.From ∷ []) × IsShapeRight w
-IsAtWritten names ts (at.Sourced shape) = (q : WrittenQuery) × (ts ≡ query_written q) × IsShapeRight q.shape
+IsAtWritten names r ts (at.Source shape) = (w : WrittenShape) × (ts ≡ shape_written w ++ Fixed marks.From ∷ []) × IsShapeRight w
+IsAtWritten names r ts (at.Sourced query) = (q : WrittenQuery) × (ts ≡ query_written q) × IsQueryRight (dataset_names r.datasets) q
 
--- the queries before it, each with its semicolon
-pub record AreBefore (queries : List Query) (ts : List Token) : Type 0 where
+-- the datasets and queries before it, each with its semicolon
+pub record AreBefore (r : Read) (ts : List Token) : Type 0 where
+  pub made : List WrittenDataset
   pub written : List WrittenQuery
-  pub tokens_are : ts ≡ ended_by marks.Semicolon query_written written
-  pub as_many : length written ≡ length queries
-  pub few : length queries < 8
-  pub right : All (λ query. IsShapeRight query.shape) written
+  pub tokens_are : ts ≡ ended_by marks.Semicolon dataset_written made ++ ended_by marks.Semicolon query_written written
+  pub names_are : dataset_names r.datasets ≡ names_written made
+  pub made_right : AreDatasets [] made
+  pub made_few : length made ≤ 8
+  pub as_many : length written ≡ length r.queries
+  pub few : length r.queries < 8
+  pub right : All (IsQueryRight (dataset_names r.datasets)) written
 
 abbrev IsStateWritten : List (List ℕ) → List Token → State → Type 0
-IsStateWritten names ts s = (front : List Token) × (back : List Token) × (ts ≡ front ++ back) × AreBefore s.read.queries front × IsAtWritten names back s.at
+IsStateWritten names ts s = (front : List Token) × (back : List Token) × (ts ≡ front ++ back) × AreBefore s.read front × IsAtWritten names s.read back s.at
 
 -- ---- what whole lists are
 
@@ -127,7 +150,7 @@ names_of_keys : (keys : List WrittenKey) → map name_of (map (λ key. key.colum
 names_of_keys [] = refl
 names_of_keys (key ∷ keys) = ap (λ (l : List (List ℕ)). key_name key ∷ l) (names_of_keys keys)
 
-module _ (names : List (List ℕ)) where
+module _ (names : List (List ℕ)) (r : Read) where
   columns_right : (columns : List ℕ) (ts : List Token) (h : AreWholeColumns names columns ts) → AreColumns h.written
   columns_right columns ts h = record { several = h.several; short = h.fine; distinct = h.distinct }
 
@@ -145,14 +168,14 @@ module _ (names : List (List ℕ)) where
   abbrev IsShapeWhole : List Token → Type 0
   IsShapeWhole ts = (w : WrittenShape) × (ts ≡ shape_written w) × IsShapeRight w
 
-  group_whole : (ts : List Token) (columns : List ℕ) (parts : List Part) → IsAtWritten names ts (at.Parts columns parts) → IsShapeWhole ts
+  group_whole : (ts : List Token) (columns : List ℕ) (parts : List Part) → IsAtWritten names r ts (at.Parts columns parts) → IsShapeWhole ts
   group_whole ts columns parts h = (
     group h.3.written h.4.written,
     h.2 ∙ ap (λ (l : List Token). Fixed marks.Group ∷ l ++ Fixed marks.Colon ∷ h.1) h.3.tokens_are ∙ ap (λ (l : List Token). Fixed marks.Group ∷ separated marks.Comma column_written h.3.written ++ Fixed marks.Colon ∷ l) h.4.tokens_are,
     (columns_right columns h.0 h.3, parts_right parts h.1 h.4),
   )
 
-  order_whole : (ts : List Token) (keys : List KeyItem) (columns : List ℕ) → IsAtWritten names ts (at.OrderColumns keys columns) → IsShapeWhole ts
+  order_whole : (ts : List Token) (keys : List KeyItem) (columns : List ℕ) → IsAtWritten names r ts (at.OrderColumns keys columns) → IsShapeWhole ts
   order_whole ts keys columns h = (
     order h.3.written h.4.written,
     h.2 ∙ ap (λ (l : List Token). Fixed marks.Order ∷ l ++ Fixed marks.Colon ∷ h.1) h.3.tokens_are ∙ ap (λ (l : List Token). Fixed marks.Order ∷ separated marks.Comma key_written h.3.written ++ Fixed marks.Colon ∷ l) h.4.tokens_are,
@@ -161,10 +184,10 @@ module _ (names : List (List ℕ)) where
 
   -- a query that is whole
   abbrev IsQueryWhole : List Token → Type 0
-  IsQueryWhole ts = (q : WrittenQuery) × (ts ≡ query_written q) × IsShapeRight q.shape
+  IsQueryWhole ts = (q : WrittenQuery) × (ts ≡ query_written q) × IsQueryRight (dataset_names r.datasets) q
 
   without_source : (ts : List Token) → IsShapeWhole ts → IsQueryWhole ts
-  without_source ts h = (record { shape = h.0; source = None }, h.1 ∙ sym (append-nil (shape_written h.0)), h.2)
+  without_source ts h = (record { shape = h.0; source = None }, h.1 ∙ sym (append-nil (shape_written h.0)), record { shape = h.2; source = tt })
 
   -- ---- one item more
 
@@ -212,8 +235,8 @@ module _ (names : List (List ℕ)) where
       (subst (All (λ p. p ≢ column_meant names c)) (ap (map (λ key. key.column)) h.items_are ∙ columns_of_keys h.written)
       (subst (λ (p : ℕ). All (λ q. q ≢ p) (map (λ key. key.column) keys)) e (other_columns (map (λ key. key.column) keys) place (sym (has_key_is keys place) ∙ free))))
 
-  key_more : (ts : List Token) (keys : List KeyItem) (column : ℕ) (number down : Bool) (h : IsAtWritten names ts (at.KeyColumn keys column number))
-      → IsAtWritten names (ts ++ optional down marks.Down) (at.Keys (key keys column number down))
+  key_more : (ts : List Token) (keys : List KeyItem) (column : ℕ) (number down : Bool) (h : IsAtWritten names r ts (at.KeyColumn keys column number))
+      → IsAtWritten names r (ts ++ optional down marks.Down) (at.Keys (key keys column number down))
   key_more ts keys column number down h =
       let c = h.1 in
       let w : WrittenKey = record { number = number; column = c; down = down } in (
@@ -224,7 +247,7 @@ module _ (names : List (List ℕ)) where
 
 -- ---- each step keeps it
 
-module _ (names : List (List ℕ)) (r : Read) (front : List Token) (before : AreBefore r.queries front) where
+module _ (names : List (List ℕ)) (r : Read) (front : List Token) (before : AreBefore r front) where
   abbrev Goes : List Token → State → Type 0
   Goes back next = Reaches next.read.names names → IsStateWritten names (front ++ back) next
 
@@ -236,38 +259,157 @@ module _ (names : List (List ℕ)) (r : Read) (front : List Token) (before : Are
   goes_none back true x h = tt
   goes_none back false x h = h refl
 
-  stays : (back : List Token) (place : At) → IsAtWritten names back place → Goes back (record { read = r; at = place })
+  stays : (back : List Token) (place : At) → IsAtWritten names r back place → Goes back (record { read = r; at = place })
   stays back place h = λ _. (front, back, refl, before, h)
 
-  more : {A : Type 0} (back : List Token) (items : List A) (next : At) → (length items < 8 → IsAtWritten names back next) → IfSome (one_more r items next) (Goes back)
+  more : {A : Type 0} (back : List Token) (items : List A) (next : At) → (length items < 8 → IsAtWritten names r back next) → IfSome (one_more r items next) (Goes back)
   more back items next h = goes_cond back (nat_lt (length items) 8) (record { read = r; at = next }) (λ t. stays back next (h (ltb-true _ _ t)))
 
-  before_more : (shape : Shape) (q : WrittenQuery) → IsShapeRight q.shape → length r.queries + 1 < 8 → AreBefore (r.queries ++ query_of shape ∷ []) (front ++ (query_written q ++ Fixed marks.Semicolon ∷ []))
-  before_more shape q right lt = record {
+  front_more : (q : WrittenQuery) → front ++ (query_written q ++ Fixed marks.Semicolon ∷ []) ≡ ended_by marks.Semicolon dataset_written before.made ++ ended_by marks.Semicolon query_written (before.written ++ q ∷ [])
+  front_more q =
+      let made = ended_by marks.Semicolon dataset_written before.made in
+      let done = ended_by marks.Semicolon query_written before.written in
+      let one : List Token = query_written q ++ Fixed marks.Semicolon ∷ [] in
+      ap (λ (l : List Token). l ++ one) before.tokens_are ∙ append_assoc made done one
+      ∙ ap (λ (l : List Token). made ++ l) (sym (append_assoc done (query_written q) (Fixed marks.Semicolon ∷ [])) ∙ sym (ended-push marks.Semicolon query_written before.written q))
+
+  before_more : (query : Query) (q : WrittenQuery) → IsQueryRight (dataset_names r.datasets) q → length r.queries + 1 < 8 → AreBefore (record r { queries = r.queries ++ query ∷ [] }) (front ++ (query_written q ++ Fixed marks.Semicolon ∷ []))
+  before_more query q right lt = record {
+    made = before.made;
     written = before.written ++ q ∷ [];
-    tokens_are = sym (append_assoc front (query_written q) (Fixed marks.Semicolon ∷ [])) ∙ ap (λ (l : List Token). l ++ query_written q ++ Fixed marks.Semicolon ∷ []) before.tokens_are ∙ sym (ended-push marks.Semicolon query_written before.written q);
-    as_many = omega (arith, before.as_many, length-append before.written (q ∷ []), length-append r.queries (query_of shape ∷ []));
-    few = omega (arith, lt, length-append r.queries (query_of shape ∷ []));
-    right = All-push (λ query. IsShapeRight query.shape) before.written q before.right right;
+    tokens_are = front_more q;
+    names_are = before.names_are;
+    made_right = before.made_right;
+    made_few = before.made_few;
+    as_many = omega (arith, before.as_many, length-append before.written (q ∷ []), length-append r.queries (query ∷ []));
+    few = omega (arith, lt, length-append r.queries (query ∷ []));
+    right = All-push (IsQueryRight (dataset_names r.datasets)) before.written q before.right right;
   }
 
-  goes_ended : (back : List Token) (shape : Shape) (mark : Mark) → IsQueryWhole names back → IfSome (ended r shape mark) (Goes (back ++ Fixed mark ∷ []))
-  goes_ended back shape marks.Semicolon h =
-      goes_cond (back ++ Fixed marks.Semicolon ∷ []) (nat_lt (length r.queries + 1) 8) (put r.names (r.queries ++ query_of shape ∷ []) at.Query) (λ t. λ _. (
+  goes_ended : (back : List Token) (query : Query) (mark : Mark) → IsQueryWhole names r back → IfSome (ended r query mark) (Goes (back ++ Fixed mark ∷ []))
+  goes_ended back query marks.Semicolon h =
+      goes_cond (back ++ Fixed marks.Semicolon ∷ []) (nat_lt (length r.queries + 1) 8) (put r.names r.datasets (r.queries ++ query ∷ []) at.Query) (λ t. λ _. (
         front ++ (query_written h.0 ++ Fixed marks.Semicolon ∷ []),
         [],
         ap (λ (l : List Token). front ++ (l ++ Fixed marks.Semicolon ∷ [])) h.1 ∙ sym (append-nil (front ++ (query_written h.0 ++ Fixed marks.Semicolon ∷ []))),
-        before_more shape h.0 h.2 (ltb-true _ _ t),
+        before_more query h.0 h.2 (ltb-true _ _ t),
         refl,
       ))
-  goes_ended back shape _ h = tt
+  goes_ended back query _ h = tt
+
+  -- ---- datasets
+
+  none_written : (ws : List WrittenQuery) → length ws ≡ 0 → ended_by marks.Semicolon query_written ws ≡ []
+  none_written [] e = refl
+  none_written (w ∷ ws) e = absurd (omega (arith, e))
+
+  datasets_push : (names : List (List ℕ)) (made : List WrittenDataset) (w : WrittenDataset) → AreDatasets names made → IsDatasetRight (names ++ names_written made) w → AreDatasets names (made ++ w ∷ [])
+  datasets_push names [] w h right = (subst (λ (l : List (List ℕ)). IsDatasetRight l w) (append-nil names) right, tt)
+  datasets_push names (one ∷ made) w h right =
+      (h.0, datasets_push (names ++ one.name ∷ []) made w h.1 (subst (λ (l : List (List ℕ)). IsDatasetRight l w) (sym (append_assoc names (one.name ∷ []) (names_written made))) right))
+
+  dataset_front : (w : WrittenDataset) → length r.queries ≡ 0 → front ++ (dataset_written w ++ Fixed marks.Semicolon ∷ []) ≡ ended_by marks.Semicolon dataset_written (before.made ++ w ∷ []) ++ ended_by marks.Semicolon query_written before.written
+  dataset_front w none =
+      let made = ended_by marks.Semicolon dataset_written before.made in
+      let one : List Token = dataset_written w ++ Fixed marks.Semicolon ∷ [] in
+      let no = none_written before.written (before.as_many ∙ none) in
+      ap (λ (l : List Token). l ++ one) (before.tokens_are ∙ ap (λ (l : List Token). made ++ l) no ∙ append-nil made)
+      ∙ sym (append_assoc made (dataset_written w) (Fixed marks.Semicolon ∷ [])) ∙ sym (ended-push marks.Semicolon dataset_written before.made w)
+      ∙ sym (append-nil (ended_by marks.Semicolon dataset_written (before.made ++ w ∷ []))) ∙ ap (λ (l : List Token). ended_by marks.Semicolon dataset_written (before.made ++ w ∷ []) ++ l) (sym no)
+
+  dataset_before : (d : Dataset) (w : WrittenDataset) → d.name ≡ w.name → IsDatasetRight (dataset_names r.datasets) w → length r.queries ≡ 0 → length r.datasets < 8
+      → AreBefore (record r { datasets = r.datasets ++ d ∷ [] }) (front ++ (dataset_written w ++ Fixed marks.Semicolon ∷ []))
+  dataset_before d w same right none few = record {
+    made = before.made ++ w ∷ [];
+    written = before.written;
+    tokens_are = dataset_front w none;
+    names_are = map-append (λ dataset. dataset.name) r.datasets (d ∷ []) ∙ ap (λ (l : List (List ℕ)). l ++ d.name ∷ []) before.names_are ∙ ap (λ (n : List ℕ). names_written before.made ++ n ∷ []) same ∙ sym (map-append (λ dataset. dataset.name) before.made (w ∷ []));
+    made_right = datasets_push [] before.made w before.made_right (subst (λ (l : List (List ℕ)). IsDatasetRight l w) before.names_are right);
+    made_few = omega (arith, few, length-append before.made (w ∷ []), ap length before.names_are, length-map r.datasets (λ dataset. dataset.name), length-map before.made (λ dataset. dataset.name));
+    as_many = before.as_many;
+    few = before.few;
+    right = λ k d lt. absurd (omega (arith, lt, before.as_many, none));
+  }
+
+  goes_dataset : (back : List Token) (d : Dataset) (mark : Mark) → IsAtWritten names r back (at.Kept d) → IfSome (dataset_ended r d mark) (Goes (back ++ Fixed mark ∷ []))
+  goes_dataset back d marks.Semicolon h = λ _. (
+    front ++ (dataset_written h.0 ++ Fixed marks.Semicolon ∷ []),
+    [],
+    ap (λ (l : List Token). front ++ (l ++ Fixed marks.Semicolon ∷ [])) h.1 ∙ sym (append-nil (front ++ (dataset_written h.0 ++ Fixed marks.Semicolon ∷ []))),
+    dataset_before d h.0 h.5 h.2 h.3 h.4,
+    (refl, h.3),
+  )
+  goes_dataset back d _ h = tt
+
+  -- a dataset with no level
+  made_whole : (back : List Token) (d : Dataset) → IsAtWritten names r back (at.Made d) → IsAtWritten names r back (at.Kept d)
+  made_whole back d h = (
+    record { name = d.name; source = h.0; level = None },
+    h.1 ∙ ap (λ (l : List Token). Fixed marks.Let ∷ Word d.name ∷ Fixed marks.Equal ∷ l) (sym (append-nil (source_written h.0))),
+    record { short = h.2.short; new = h.2.new; source = h.3 },
+    h.2.none,
+    h.2.few,
+    refl,
+  )
+
+  goes_made : (back : List Token) (d : Dataset) (mark : Mark) → IsAtWritten names r back (at.Made d) → IfSome (after_made r d mark) (Goes (back ++ Fixed mark ∷ []))
+  goes_made back d marks.Keep h = stays (back ++ Fixed marks.Keep ∷ []) (at.Level d) (h.0, ap (λ (l : List Token). l ++ Fixed marks.Keep ∷ []) h.1, h.2, h.3)
+  goes_made back d mark h = goes_dataset back d mark (made_whole back d h)
+
+  level_whole : (back : List Token) (d : Dataset) (level : Level) → IsAtWritten names r back (at.Level d) → IsAtWritten names r (back ++ level_written level) (at.Kept (record d { level = Some level }))
+  level_whole back d level h = (
+    record { name = d.name; source = h.0; level = Some level },
+    ap (λ (l : List Token). l ++ level_written level) h.1 ∙ ap (λ (l : List Token). Fixed marks.Let ∷ Word d.name ∷ Fixed marks.Equal ∷ l) (append_assoc (source_written h.0) (Fixed marks.Keep ∷ []) (level_written level)),
+    record { short = h.2.short; new = h.2.new; source = h.3 },
+    h.2.none,
+    h.2.few,
+    refl,
+  )
+
+  goes_keep : (back : List Token) (d : Dataset) (mark : Mark) → IsAtWritten names r back (at.Level d) → IfSome (after_keep r d mark) (Goes (back ++ Fixed mark ∷ []))
+  goes_keep back d marks.Memory h = stays (back ++ Fixed marks.Memory ∷ []) (at.Kept (record d { level = Some levels.Memory })) (level_whole back d levels.Memory h)
+  goes_keep back d marks.Disk h = stays (back ++ Fixed marks.Disk ∷ []) (at.Kept (record d { level = Some levels.Disk })) (level_whole back d levels.Disk h)
+  goes_keep back d _ h = tt
+
+  -- a source that is known
+  goes_parent : (back : List Token) (name : List ℕ) (source : WrittenSource) (parent : ℕ) → IsSourceRight (dataset_names r.datasets) source → IsAtWritten names r back (at.DatasetSource name)
+      → IfSome (after_parent r name (Some parent)) (Goes (back ++ source_written source))
+  goes_parent back name source parent right h = stays (back ++ source_written source) (at.Made (made_from name parent)) (source, ap (λ (l : List Token). l ++ source_written source) h.0, h.1, right)
+
+  goes_parent_mark : (back : List Token) (name : List ℕ) (mark : Mark) → IsAtWritten names r back (at.DatasetSource name) → IfSome (after_parent r name (input_as mark)) (Goes (back ++ Fixed mark ∷ []))
+  goes_parent_mark back name marks.Input h = goes_parent back name input 0 tt h
+  goes_parent_mark back name _ h = tt
+
+  goes_parent_word : (back : List Token) (name title : List ℕ) → IsAtWritten names r back (at.DatasetSource name) → IfSome (after_parent r name (number_of r.datasets title)) (Goes (back ++ Word title ∷ []))
+  goes_parent_word back name title h = by (is_among (dataset_names r.datasets) title) refl
+    where
+      by : (b : Bool) → is_among (dataset_names r.datasets) title ≡ b → IfSome (after_parent r name (cond b (Some (place_of (dataset_names r.datasets) title + 1)) None)) (Goes (back ++ Word title ∷ []))
+      by true e = goes_parent back name (by_name title) (place_of (dataset_names r.datasets) title + 1) e h
+      by false e = tt
+
+  goes_equals : (back : List Token) (name : List ℕ) (mark : Mark) → IsAtWritten names r back (at.DatasetEquals name) → IfSome (after_equals r name mark) (Goes (back ++ Fixed mark ∷ []))
+  goes_equals back name marks.Equal h = stays (back ++ Fixed marks.Equal ∷ []) (at.DatasetSource name) (ap (λ (l : List Token). l ++ Fixed marks.Equal ∷ []) h.0, h.1)
+  goes_equals back name _ h = tt
+
+  goes_name : (back : List Token) (title : List ℕ) → IsAtWritten names r back at.DatasetName → IfSome (after_name r title) (Goes (back ++ Word title ∷ []))
+  goes_name back title h =
+      goes_cond (back ++ Word title ∷ []) (nat_le (length title) 64 && not (is_among (dataset_names r.datasets) title)) (record { read = r; at = at.DatasetEquals title }) (λ t.
+        let both = and_parts (nat_le (length title) 64) (not (is_among (dataset_names r.datasets) title)) t in
+        stays (back ++ Word title ∷ []) (at.DatasetEquals title) (
+          ap (λ (l : List Token). l ++ Word title ∷ []) h.0,
+          record { none = h.1; few = h.2; short = leb-true (length title) 64 both.0; new = not-true (is_among (dataset_names r.datasets) title) both.1 },
+        ))
 
   goes_query : (back : List Token) (mark : Mark) → back ≡ [] → IfSome (after_query r mark) (Goes (back ++ Fixed mark ∷ []))
   goes_query back marks.Group h = stays (back ++ Fixed marks.Group ∷ []) (at.GroupColumn []) ([], ap (λ (l : List Token). l ++ Fixed marks.Group ∷ []) h, no_items column_written (column_meant names) name_of IsShortColumn)
   goes_query back marks.Order h = stays (back ++ Fixed marks.Order ∷ []) (at.Key []) ([], ap (λ (l : List Token). l ++ Fixed marks.Order ∷ []) h, no_items key_written (key_meant names) key_name IsShortKey)
   goes_query back _ h = tt
 
-  goes_group_columns : (back : List Token) (columns : List ℕ) (mark : Mark) → IsAtWritten names back (at.GroupColumns columns) → IfSome (after_group_columns r columns mark) (Goes (back ++ Fixed mark ∷ []))
+  goes_start : (back : List Token) (mark : Mark) → IsAtWritten names r back at.Start → IfSome (after_start r mark) (Goes (back ++ Fixed mark ∷ []))
+  goes_start back marks.Let h = goes_cond (back ++ Fixed marks.Let ∷ []) (nat_lt (length r.datasets) 8) (record { read = r; at = at.DatasetName }) (λ t. stays (back ++ Fixed marks.Let ∷ []) at.DatasetName (ap (λ (l : List Token). l ++ Fixed marks.Let ∷ []) h.0, h.1, ltb-true _ _ t))
+  goes_start back mark h = goes_query back mark h.0
+
+  goes_group_columns : (back : List Token) (columns : List ℕ) (mark : Mark) → IsAtWritten names r back (at.GroupColumns columns) → IfSome (after_group_columns r columns mark) (Goes (back ++ Fixed mark ∷ []))
   goes_group_columns back columns marks.Comma h = more (back ++ Fixed marks.Comma ∷ []) columns (at.GroupColumn columns) (λ lt. (
     h.0 ++ Fixed marks.Comma ∷ [],
     on_one (Fixed marks.Group) h.0 back (Fixed marks.Comma ∷ []) h.1,
@@ -282,23 +424,23 @@ module _ (names : List (List ℕ)) (r : Read) (front : List Token) (before : Are
   )
   goes_group_columns back columns _ h = tt
 
-  goes_part : (back : List Token) (columns : List ℕ) (parts : List Part) (mark : Mark) → IsAtWritten names back (at.Part columns parts) → IfSome (after_part r columns parts mark) (Goes (back ++ Fixed mark ∷ []))
+  goes_part : (back : List Token) (columns : List ℕ) (parts : List Part) (mark : Mark) → IsAtWritten names r back (at.Part columns parts) → IfSome (after_part r columns parts mark) (Goes (back ++ Fixed mark ∷ []))
   goes_part back columns parts marks.Count h = goes_none (back ++ Fixed marks.Count ∷ []) (has_part parts counted) (record { read = r; at = at.Parts columns (parts ++ counted ∷ []) }) (λ free. stays (back ++ Fixed marks.Count ∷ []) (at.Parts columns (parts ++ counted ∷ [])) (
     h.0,
     h.1 ++ Fixed marks.Count ∷ [],
     on_two (Fixed marks.Group) (Fixed marks.Colon) h.0 h.1 back (Fixed marks.Count ∷ []) h.2,
     h.3,
-    part_is names parts h.1 h.4 count counted (Fixed marks.Count ∷ []) refl refl tt free,
+    part_is names r parts h.1 h.4 count counted (Fixed marks.Count ∷ []) refl refl tt free,
   ))
   goes_part back columns parts marks.Sum h = stays (back ++ Fixed marks.Sum ∷ []) (at.PartColumn columns parts aggs.Sum) (h.0, h.1, on_two (Fixed marks.Group) (Fixed marks.Colon) h.0 h.1 back (Fixed marks.Sum ∷ []) h.2, h.3, h.4, refl)
   goes_part back columns parts marks.Min h = stays (back ++ Fixed marks.Min ∷ []) (at.PartColumn columns parts aggs.Min) (h.0, h.1, on_two (Fixed marks.Group) (Fixed marks.Colon) h.0 h.1 back (Fixed marks.Min ∷ []) h.2, h.3, h.4, refl)
   goes_part back columns parts marks.Max h = stays (back ++ Fixed marks.Max ∷ []) (at.PartColumn columns parts aggs.Max) (h.0, h.1, on_two (Fixed marks.Group) (Fixed marks.Colon) h.0 h.1 back (Fixed marks.Max ∷ []) h.2, h.3, h.4, refl)
   goes_part back columns parts _ h = tt
 
-  goes_source_word : (back : List Token) (shape : Shape) → IsShapeWhole names back → Goes (back ++ Fixed marks.From ∷ []) (record { read = r; at = at.Source shape })
+  goes_source_word : (back : List Token) (shape : Shape) → IsShapeWhole names r back → Goes (back ++ Fixed marks.From ∷ []) (record { read = r; at = at.Source shape })
   goes_source_word back shape h = stays (back ++ Fixed marks.From ∷ []) (at.Source shape) (h.0, ap (λ (l : List Token). l ++ Fixed marks.From ∷ []) h.1, h.2)
 
-  goes_parts : (back : List Token) (columns : List ℕ) (parts : List Part) (mark : Mark) → IsAtWritten names back (at.Parts columns parts) → IfSome (after_parts r columns parts mark) (Goes (back ++ Fixed mark ∷ []))
+  goes_parts : (back : List Token) (columns : List ℕ) (parts : List Part) (mark : Mark) → IsAtWritten names r back (at.Parts columns parts) → IfSome (after_parts r columns parts mark) (Goes (back ++ Fixed mark ∷ []))
   goes_parts back columns parts marks.Comma h = more (back ++ Fixed marks.Comma ∷ []) parts (at.Part columns parts) (λ lt. (
     h.0,
     h.1 ++ Fixed marks.Comma ∷ [],
@@ -306,10 +448,10 @@ module _ (names : List (List ℕ)) (r : Read) (front : List Token) (before : Are
     h.3,
     opened agg_written (agg_meant names) agg_named IsShortAgg parts h.1 h.4 lt,
   ))
-  goes_parts back columns parts marks.From h = goes_source_word back (shapes.Group columns parts) (group_whole names back columns parts h)
-  goes_parts back columns parts mark h = goes_ended back (shapes.Group columns parts) mark (without_source names back (group_whole names back columns parts h))
+  goes_parts back columns parts marks.From h = goes_source_word back (shapes.Group columns parts) (group_whole names r back columns parts h)
+  goes_parts back columns parts mark h = goes_ended back (query_of 0 (shapes.Group columns parts)) mark (without_source names r back (group_whole names r back columns parts h))
 
-  goes_keys : (back : List Token) (keys : List KeyItem) (mark : Mark) → IsAtWritten names back (at.Keys keys) → IfSome (after_keys r keys mark) (Goes (back ++ Fixed mark ∷ []))
+  goes_keys : (back : List Token) (keys : List KeyItem) (mark : Mark) → IsAtWritten names r back (at.Keys keys) → IfSome (after_keys r keys mark) (Goes (back ++ Fixed mark ∷ []))
   goes_keys back keys marks.Comma h = more (back ++ Fixed marks.Comma ∷ []) keys (at.Key keys) (λ lt. (
     h.0 ++ Fixed marks.Comma ∷ [],
     on_one (Fixed marks.Order) h.0 back (Fixed marks.Comma ∷ []) h.1,
@@ -324,12 +466,12 @@ module _ (names : List (List ℕ)) (r : Read) (front : List Token) (before : Are
   )
   goes_keys back keys _ h = tt
 
-  goes_key_column : (back : List Token) (keys : List KeyItem) (column : ℕ) (number : Bool) (mark : Mark) → IsAtWritten names back (at.KeyColumn keys column number) → IfSome (after_key_column r keys column number mark) (Goes (back ++ Fixed mark ∷ []))
-  goes_key_column back keys column number marks.Down h = stays (back ++ Fixed marks.Down ∷ []) (at.Keys (key keys column number true)) (key_more names back keys column number true h)
+  goes_key_column : (back : List Token) (keys : List KeyItem) (column : ℕ) (number : Bool) (mark : Mark) → IsAtWritten names r back (at.KeyColumn keys column number) → IfSome (after_key_column r keys column number mark) (Goes (back ++ Fixed mark ∷ []))
+  goes_key_column back keys column number marks.Down h = stays (back ++ Fixed marks.Down ∷ []) (at.Keys (key keys column number true)) (key_more names r back keys column number true h)
   goes_key_column back keys column number mark h =
-      goes_keys back (key keys column number false) mark (subst (λ (l : List Token). IsAtWritten names l (at.Keys (key keys column number false))) (append-nil back) (key_more names back keys column number false h))
+      goes_keys back (key keys column number false) mark (subst (λ (l : List Token). IsAtWritten names r l (at.Keys (key keys column number false))) (append-nil back) (key_more names r back keys column number false h))
 
-  goes_order_columns : (back : List Token) (keys : List KeyItem) (columns : List ℕ) (mark : Mark) → IsAtWritten names back (at.OrderColumns keys columns) → IfSome (after_order_columns r keys columns mark) (Goes (back ++ Fixed mark ∷ []))
+  goes_order_columns : (back : List Token) (keys : List KeyItem) (columns : List ℕ) (mark : Mark) → IsAtWritten names r back (at.OrderColumns keys columns) → IfSome (after_order_columns r keys columns mark) (Goes (back ++ Fixed mark ∷ []))
   goes_order_columns back keys columns marks.Comma h = more (back ++ Fixed marks.Comma ∷ []) columns (at.OrderColumn keys columns) (λ lt. (
     h.0,
     h.1 ++ Fixed marks.Comma ∷ [],
@@ -337,22 +479,40 @@ module _ (names : List (List ℕ)) (r : Read) (front : List Token) (before : Are
     h.3,
     opened column_written (column_meant names) name_of IsShortColumn columns h.1 h.4 lt,
   ))
-  goes_order_columns back keys columns marks.From h = goes_source_word back (shapes.Order keys columns) (order_whole names back keys columns h)
-  goes_order_columns back keys columns mark h = goes_ended back (shapes.Order keys columns) mark (without_source names back (order_whole names back keys columns h))
+  goes_order_columns back keys columns marks.From h = goes_source_word back (shapes.Order keys columns) (order_whole names r back keys columns h)
+  goes_order_columns back keys columns mark h = goes_ended back (query_of 0 (shapes.Order keys columns)) mark (without_source names r back (order_whole names r back keys columns h))
 
-  goes_source : (back : List Token) (shape : Shape) (mark : Mark) → IsAtWritten names back (at.Source shape) → IfSome (after_source r shape mark) (Goes (back ++ Fixed mark ∷ []))
-  goes_source back shape marks.Input h = stays (back ++ Fixed marks.Input ∷ []) (at.Sourced shape) (
-    record { shape = h.0; source = Some input },
-    ap (λ (l : List Token). l ++ Fixed marks.Input ∷ []) h.1 ∙ append_assoc (shape_written h.0) (Fixed marks.From ∷ []) (Fixed marks.Input ∷ []),
-    h.2,
+  goes_source : (back : List Token) (shape : Shape) (source : WrittenSource) (dataset : ℕ) → IsSourceRight (dataset_names r.datasets) source → IsAtWritten names r back (at.Source shape)
+      → IfSome (after_source r shape (Some dataset)) (Goes (back ++ source_written source))
+  goes_source back shape source dataset right h = stays (back ++ source_written source) (at.Sourced (query_of dataset shape)) (
+    record { shape = h.0; source = Some source },
+    ap (λ (l : List Token). l ++ source_written source) h.1 ∙ append_assoc (shape_written h.0) (Fixed marks.From ∷ []) (source_written source),
+    record { shape = h.2; source = right },
   )
-  goes_source back shape _ h = tt
 
-  goes_number : (back : List Token) (keys : List KeyItem) (mark : Mark) → IsAtWritten names back (at.Key keys) → IfSome (after_mark r (at.Key keys) mark) (Goes (back ++ Fixed mark ∷ []))
+  goes_source_mark : (back : List Token) (shape : Shape) (mark : Mark) → IsAtWritten names r back (at.Source shape) → IfSome (after_source r shape (input_as mark)) (Goes (back ++ Fixed mark ∷ []))
+  goes_source_mark back shape marks.Input h = goes_source back shape input 0 tt h
+  goes_source_mark back shape _ h = tt
+
+  goes_source_name : (back : List Token) (shape : Shape) (title : List ℕ) → IsAtWritten names r back (at.Source shape) → IfSome (after_source r shape (number_of r.datasets title)) (Goes (back ++ Word title ∷ []))
+  goes_source_name back shape title h = by (is_among (dataset_names r.datasets) title) refl
+    where
+      by : (b : Bool) → is_among (dataset_names r.datasets) title ≡ b → IfSome (after_source r shape (cond b (Some (place_of (dataset_names r.datasets) title + 1)) None)) (Goes (back ++ Word title ∷ []))
+      by true e = goes_source back shape (by_name title) (place_of (dataset_names r.datasets) title + 1) e h
+      by false e = tt
+
+  goes_number : (back : List Token) (keys : List KeyItem) (mark : Mark) → IsAtWritten names r back (at.Key keys) → IfSome (after_mark r (at.Key keys) mark) (Goes (back ++ Fixed mark ∷ []))
   goes_number back keys marks.Number h = stays (back ++ Fixed marks.Number ∷ []) (at.NumberKey keys) (h.0, on_one (Fixed marks.Order) h.0 back (Fixed marks.Number ∷ []) h.1, h.2)
   goes_number back keys _ h = tt
 
-  goes_mark : (back : List Token) (place : At) (mark : Mark) → IsAtWritten names back place → IfSome (after_mark r place mark) (Goes (back ++ Fixed mark ∷ []))
+  goes_mark : (back : List Token) (place : At) (mark : Mark) → IsAtWritten names r back place → IfSome (after_mark r place mark) (Goes (back ++ Fixed mark ∷ []))
+  goes_mark back at.Start mark h = goes_start back mark h
+  goes_mark back at.DatasetName mark h = tt
+  goes_mark back (at.DatasetEquals name) mark h = goes_equals back name mark h
+  goes_mark back (at.DatasetSource name) mark h = goes_parent_mark back name mark h
+  goes_mark back (at.Made dataset) mark h = goes_made back dataset mark h
+  goes_mark back (at.Level dataset) mark h = goes_keep back dataset mark h
+  goes_mark back (at.Kept dataset) mark h = goes_dataset back dataset mark h
   goes_mark back at.Query mark h = goes_query back mark h
   goes_mark back (at.GroupColumn columns) mark h = tt
   goes_mark back (at.GroupColumns columns) mark h = goes_group_columns back columns mark h
@@ -365,8 +525,8 @@ module _ (names : List (List ℕ)) (r : Read) (front : List Token) (before : Are
   goes_mark back (at.Keys keys) mark h = goes_keys back keys mark h
   goes_mark back (at.OrderColumn keys columns) mark h = tt
   goes_mark back (at.OrderColumns keys columns) mark h = goes_order_columns back keys columns mark h
-  goes_mark back (at.Source shape) mark h = goes_source back shape mark h
-  goes_mark back (at.Sourced shape) mark h = goes_ended back shape mark h
+  goes_mark back (at.Source shape) mark h = goes_source_mark back shape mark h
+  goes_mark back (at.Sourced query) mark h = goes_ended back query mark h
 
   -- ---- columns
 
@@ -374,25 +534,38 @@ module _ (names : List (List ℕ)) (r : Read) (front : List Token) (before : Are
   free_of true h = sym h
   free_of false h = refl
 
-  goes_named : (back : List Token) (c : WrittenColumn) (is_taken : ℕ → Bool) (next : ℕ → At) → ((place : ℕ) → place ≡ column_meant names c → IsShortColumn c → is_taken place ≡ false → IsAtWritten names back (next place))
+  named_before : (name : List ℕ) → AreBefore (record r { names = with_name r.names name }) front
+  named_before name = record {
+    made = before.made;
+    written = before.written;
+    tokens_are = before.tokens_are;
+    names_are = before.names_are;
+    made_right = before.made_right;
+    made_few = before.made_few;
+    as_many = before.as_many;
+    few = before.few;
+    right = before.right;
+  }
+
+  goes_named : (back : List Token) (c : WrittenColumn) (is_taken : ℕ → Bool) (next : ℕ → At) → ((place : ℕ) → place ≡ column_meant names c → IsShortColumn c → is_taken place ≡ false → IsAtWritten names (record r { names = with_name r.names (name_of c) }) back (next place))
       → IfSome (named r is_taken next (Some (name_of c))) (Goes back)
-  goes_named back c is_taken next h = goes_cond back (is_short (name_of c) && (if is_taken (place_of r.names (name_of c)) then false else true)) (put (with_name r.names (name_of c)) r.queries (next (place_of r.names (name_of c)))) (λ t. λ reach.
+  goes_named back c is_taken next h = goes_cond back (is_short (name_of c) && (if is_taken (place_of r.names (name_of c)) then false else true)) (put (with_name r.names (name_of c)) r.datasets r.queries (next (place_of r.names (name_of c)))) (λ t. λ reach.
       let both = and_parts (is_short (name_of c)) (if is_taken (place_of r.names (name_of c)) then false else true) t in
       let there = place_now r.names (name_of c) reach.0 ∙ ap (λ (l : List (List ℕ)). place_of l (name_of c)) reach.1 in
-      (front, back, refl, before, h (place_of r.names (name_of c)) there (leb-true (length (name_of c)) 1024 both.0) (free_of (is_taken (place_of r.names (name_of c))) both.1)))
+      (front, back, refl, named_before (name_of c), h (place_of r.names (name_of c)) there (leb-true (length (name_of c)) 1024 both.0) (free_of (is_taken (place_of r.names (name_of c))) both.1)))
 
-  goes_column : (back : List Token) (c : WrittenColumn) (place : At) → IsAtWritten names back place → IfSome (after_column r place (Some (name_of c))) (Goes (back ++ column_written c))
+  goes_column : (back : List Token) (c : WrittenColumn) (place : At) → IsAtWritten names r back place → IfSome (after_column r place (Some (name_of c))) (Goes (back ++ column_written c))
   goes_column back c (at.GroupColumn columns) h = goes_named (back ++ column_written c) c (has_column columns) (λ p. at.GroupColumns (columns ++ p ∷ [])) (λ place e short free. (
     h.0 ++ column_written c,
     on_one (Fixed marks.Group) h.0 back (column_written c) h.1,
-    column_more names columns h.0 h.2 c place e short free,
+    column_more names r columns h.0 h.2 c place e short free,
   ))
   goes_column back c (at.PartColumn columns parts agg) h = goes_named (back ++ column_written c) c (λ p. has_part parts (record { agg = agg; column = Some p })) (λ p. at.Parts columns (parts ++ record { agg = agg; column = Some p } ∷ [])) (λ place e short free. (
     h.0,
     h.1 ++ Fixed (agg_mark agg) ∷ column_written c,
     on_two (Fixed marks.Group) (Fixed marks.Colon) h.0 (h.1 ++ Fixed (agg_mark agg) ∷ []) back (column_written c) h.2 ∙ ap (λ (l : List Token). Fixed marks.Group ∷ h.0 ++ Fixed marks.Colon ∷ l) (append_assoc h.1 (Fixed (agg_mark agg) ∷ []) (column_written c)),
     h.3,
-    part_more names parts h.1 h.4 agg c place h.5 e short free,
+    part_more names r parts h.1 h.4 agg c place h.5 e short free,
   ))
   goes_column back c (at.Key keys) h = goes_named (back ++ column_written c) c (has_key keys) (λ p. at.KeyColumn keys p false) (λ place e short free. (
     h.0,
@@ -401,7 +574,7 @@ module _ (names : List (List ℕ)) (r : Read) (front : List Token) (before : Are
     e,
     short,
     h.2,
-    new_key names keys h.0 h.2 c place e free,
+    new_key names r keys h.0 h.2 c place e free,
   ))
   goes_column back c (at.NumberKey keys) h = goes_named (back ++ column_written c) c (has_key keys) (λ p. at.KeyColumn keys p true) (λ place e short free. (
     h.0,
@@ -410,16 +583,27 @@ module _ (names : List (List ℕ)) (r : Read) (front : List Token) (before : Are
     e,
     short,
     h.2,
-    new_key names keys h.0 h.2 c place e free,
+    new_key names r keys h.0 h.2 c place e free,
   ))
   goes_column back c (at.OrderColumn keys columns) h = goes_named (back ++ column_written c) c (has_column columns) (λ p. at.OrderColumns keys (columns ++ p ∷ [])) (λ place e short free. (
     h.0,
     h.1 ++ column_written c,
     on_two (Fixed marks.Order) (Fixed marks.Colon) h.0 h.1 back (column_written c) h.2,
     h.3,
-    column_more names columns h.1 h.4 c place e short free,
+    column_more names r columns h.1 h.4 c place e short free,
   ))
   goes_column back c _ h = tt
+
+  goes_word : (back : List Token) (name : List ℕ) (place : At) → IsAtWritten names r back place → IfSome (after_word r place name) (Goes (back ++ Word name ∷ []))
+  goes_word back name at.DatasetName h = goes_name back name h
+  goes_word back name (at.DatasetSource dataset) h = goes_parent_word back dataset name h
+  goes_word back name (at.Source shape) h = goes_source_name back shape name h
+  goes_word back name (at.GroupColumn columns) h = goes_column back (word name) (at.GroupColumn columns) h
+  goes_word back name (at.PartColumn columns parts agg) h = goes_column back (word name) (at.PartColumn columns parts agg) h
+  goes_word back name (at.Key keys) h = goes_column back (word name) (at.Key keys) h
+  goes_word back name (at.NumberKey keys) h = goes_column back (word name) (at.NumberKey keys) h
+  goes_word back name (at.OrderColumn keys columns) h = goes_column back (word name) (at.OrderColumn keys columns) h
+  goes_word back name _ h = tt
 
 module _ (names : List (List ℕ)) where
   -- the same behind all tokens before it
@@ -431,7 +615,7 @@ module _ (names : List (List ℕ)) where
   goes_step : (s : State) (t : Token) (ts : List Token) → IsStateWritten names ts s → IfSome (step s t) (λ next. Reaches next.read.names names → IsStateWritten names (ts ++ t ∷ []) next)
   unfolding step
   goes_step s (Fixed mark) ts h = behind_all (after_mark s.read s.at mark) ts h.0 h.1 (Fixed mark ∷ []) h.2 (goes_mark names s.read h.0 h.3 h.1 s.at mark h.4)
-  goes_step s (Word name) ts h = behind_all (after_column s.read s.at (Some name)) ts h.0 h.1 (Word name ∷ []) h.2 (goes_column names s.read h.0 h.3 h.1 (word name) s.at h.4)
+  goes_step s (Word name) ts h = behind_all (after_word s.read s.at name) ts h.0 h.1 (Word name ∷ []) h.2 (goes_word names s.read h.0 h.3 h.1 name s.at h.4)
   goes_step s (Quoted name) ts h = behind_all (after_column s.read s.at (Some name)) ts h.0 h.1 (Quoted name ∷ []) h.2 (goes_column names s.read h.0 h.3 h.1 (in_quotes name) s.at h.4)
   goes_step s (Text text) ts h = tt
   goes_step s (Whole value) ts h = tt
@@ -459,31 +643,52 @@ goes_steps (t ∷ rest) ts s last h e = on (step s t) (goes_step last.read.names
 abbrev pub IsRightlyWritten : List Token → Type 0
 IsRightlyWritten ts = (written : WrittenJob) × (ts ≡ job_written written) × IsRight written
 
-query_end : (names : List (List ℕ)) (back : List Token) (place : At) → IsAtWritten names back place → IfSome (shape_of place) (λ _. IsQueryWhole names back)
-query_end names back (at.Parts columns parts) h = without_source names back (group_whole names back columns parts h)
-query_end names back (at.OrderColumns keys columns) h = without_source names back (order_whole names back keys columns h)
-query_end names back (at.Sourced shape) h = h
-query_end names back _ h = tt
+query_end : (names : List (List ℕ)) (r : Read) (back : List Token) (place : At) → IsAtWritten names r back place → IfSome (last_query place) (λ _. IsQueryWhole names r back)
+query_end names r back (at.Parts columns parts) h = without_source names r back (group_whole names r back columns parts h)
+query_end names r back (at.OrderColumns keys columns) h = without_source names r back (order_whole names r back keys columns h)
+query_end names r back (at.Sourced query) h = h
+query_end names r back _ h = tt
 
-job_end : (ts : List Token) (s : State) (job : Job) (o : Option Shape) → IsStateWritten s.read.names ts s → ((back : List Token) → IsAtWritten s.read.names back s.at → IfSome o (λ _. IsQueryWhole s.read.names back)) → job_with s.read o ≡ Some job → IsRightlyWritten ts
+job_end : (ts : List Token) (s : State) (job : Job) (o : Option Query) → IsStateWritten s.read.names ts s → ((back : List Token) → IsAtWritten s.read.names s.read back s.at → IfSome o (λ _. IsQueryWhole s.read.names s.read back)) → job_with s.read o ≡ Some job → IsRightlyWritten ts
 job_end ts s job None h query e = absurd cc
-job_end ts s job (Some shape) h query e =
+job_end ts s job (Some last) h query e =
     let before = h.3 in
-    let q = query h.1 h.4 in (
-      record { queries = before.written ++ q.0 ∷ [] },
-      h.2 ∙ ap (λ (l : List Token). l ++ h.1) before.tokens_are ∙ ap (λ (l : List Token). ended_by marks.Semicolon query_written before.written ++ l) q.1 ∙ sym (separated-last marks.Semicolon query_written before.written q.0),
+    let q = query h.1 h.4 in
+    let made = ended_by marks.Semicolon dataset_written before.made in
+    let done = ended_by marks.Semicolon query_written before.written in (
+      record { datasets = before.made; queries = before.written ++ q.0 ∷ [] },
+      h.2 ∙ ap (λ (l : List Token). l ++ h.1) before.tokens_are ∙ append_assoc made done h.1 ∙ ap (λ (l : List Token). made ++ (done ++ l)) q.1
+          ∙ ap (λ (l : List Token). made ++ l) (sym (separated-last marks.Semicolon query_written before.written q.0)),
       record {
+        few = before.made_few;
+        datasets = before.made_right;
         several = record { some = omega (arith, length-append before.written (q.0 ∷ [])); few = omega (arith, before.as_many, before.few, length-append before.written (q.0 ∷ [])) };
-        shapes = All-push (λ query. IsShapeRight query.shape) before.written q.0 before.right q.2;
+        queries = subst (λ (l : List (List ℕ)). All (IsQueryRight l) (before.written ++ q.0 ∷ [])) before.names_are (All-push (IsQueryRight (dataset_names s.read.datasets)) before.written q.0 before.right q.2);
       },
     )
 
 start_written : (names : List (List ℕ)) → IsStateWritten names [] start
-start_written names = ([], [], refl, record { written = []; tokens_are = refl; as_many = refl; few = omega arith; right = All-nil (λ query. IsShapeRight query.shape) }, refl)
+start_written names = (
+  [],
+  [],
+  refl,
+  record {
+    made = [];
+    written = [];
+    tokens_are = refl;
+    names_are = refl;
+    made_right = tt;
+    made_few = omega arith;
+    as_many = refl;
+    few = omega arith;
+    right = All-nil (IsQueryRight []);
+  },
+  (refl, refl),
+)
 
 pub read_written : (ts : List Token) (job : Job) → job_of ts ≡ Some job → IsRightlyWritten ts
 read_written ts job e = on (steps start ts) refl e
   where
     on : (o : Option State) → steps start ts ≡ o → job_at o ≡ Some job → IsRightlyWritten ts
     on None es r = absurd cc
-    on (Some last) es r = job_end ts last job (shape_of last.at) (goes_steps ts [] start last (start_written last.read.names) es) (λ back h. query_end last.read.names back last.at h) r
+    on (Some last) es r = job_end ts last job (last_query last.at) (goes_steps ts [] start last (start_written last.read.names) es) (λ back h. query_end last.read.names last.read back last.at h) r

@@ -8,13 +8,8 @@ use Rattle.job_text.specs.declared.mark.Mark.{Mark}
 use Rattle.job_text.specs.declared.mark.Mark.TheVariants as marks
 use Rattle.job_text.specs.declared.token.Token.{Token}
 use Rattle.job_text.specs.declared.token.Token.TheVariants.{Fixed}
-use Rattle.job_text.specs.Grammar.{separated}
+use Rattle.job_text.specs.Grammar.{separated, ended_by}
 use Rattle.job_text.specs.Jobs.{IsShortList, IsDistinct}
-
--- each item with a sign behind it
-abbrev pub ended_by : {A : Type 0} → Mark → (A → List Token) → List A → List Token
-ended_by sign tokens [] = []
-ended_by sign tokens (item ∷ more) = tokens item ++ Fixed sign ∷ ended_by sign tokens more
 
 module _ {A : Type 0} (sign : Mark) (tokens : A → List Token) where
   pub ended-push : (items : List A) (item : A) → ended_by sign tokens (items ++ item ∷ []) ≡ ended_by sign tokens items ++ tokens item ++ Fixed sign ∷ []

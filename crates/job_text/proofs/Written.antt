@@ -1,8 +1,8 @@
 -- What is written as the grammar has it is read.
 use Rattle.std.proofs.Common.{◌≡◌, ◌≢◌, ℕ, suc, ◌+◌, ◌<◌, ◌≤◌, Bool, true, false, List, [], ◌∷◌, ◌++◌, length, Option, Some, None, refl, sym, ap, subst, ◌∙◌, append_assoc, arith}
-use Rattle.std.specs.Prelude.{All, map, flat_map}
+use Rattle.std.specs.Prelude.{All, IfSome, map, flat_map}
 use Rattle.std.proofs.lemmas.Bool.{lt-ltb, le-leb, ne_eqb, or_from, and_parts, false_from_ne_true, eqb-true}
-use Rattle.std.proofs.lemmas.List.{append-nil, length-append, length-map, get_or_at, get_or_append_left, map-append}
+use Rattle.std.proofs.lemmas.List.{append-nil, length-append, length-map, get_or_at, get_or_append_left, get_or-map, map-append}
 use Rattle.aggregate.specs.declared.agg_list.Agg.{Agg}
 use Rattle.aggregate.specs.declared.agg_list.Agg.TheVariants as aggs
 use Rattle.job_text.specs.declared.mark.Mark.{Mark}
@@ -14,16 +14,20 @@ use Rattle.job_text.specs.declared.job.KeyItem.{KeyItem}
 use Rattle.job_text.specs.declared.job.Shape.{Shape}
 use Rattle.job_text.specs.declared.job.Shape.TheVariants as shapes
 use Rattle.job_text.specs.declared.job.Query.{Query}
+use Rattle.job_text.specs.declared.job.Dataset.{Dataset}
+use Rattle.pool_ledger.specs.declared.entry.Level.{Level}
+use Rattle.pool_ledger.specs.declared.entry.Level.TheVariants as levels
 use Rattle.job_text.specs.declared.state.At.{At}
 use Rattle.job_text.specs.declared.state.At.TheVariants as at
 use Rattle.job_text.specs.declared.state.State.{State}
-use Rattle.job_text.specs.Columns.{place_of, with_name, with_names, has_column, has_key, has_part, same_agg, same_column}
-use Rattle.job_text.specs.Step.{step, start, query_of, counted, key, named, after_mark, after_column, one_more}
+use Rattle.job_text.specs.Columns.{place_of, dataset_names, with_name, with_names, has_column, has_key, has_part, same_agg, same_column}
+use Rattle.job_text.specs.Step.{step, start, query_of, made_from, after_word, counted, key, named, after_mark, after_column, one_more}
 use Rattle.job_text.specs.Begins.{steps, job_at, job_of}
 use Rattle.job_text.specs.Jobs.{IsShortList, IsDistinct, IsColumns, IsShape, IsQuery, IsJob}
-use Rattle.job_text.specs.Grammar.{WrittenColumn, WrittenKey, WrittenAgg, WrittenShape, WrittenSource, WrittenQuery, WrittenJob, column_written, key_written, agg_written, shape_written, from_written, query_written, job_written, optional, separated, name_of, column_names, agg_names, shape_names, query_names, job_names, column_meant, key_meant, agg_meant, shape_meant, query_meant, job_meant}
-use Rattle.job_text.specs.Grammar.{word, in_quotes, count, sum_of, min_of, max_of, group, order, input}
+use Rattle.job_text.specs.Grammar.{WrittenColumn, WrittenKey, WrittenAgg, WrittenShape, WrittenSource, WrittenDataset, WrittenQuery, WrittenJob, IsSourceRight, IsDatasetRight, AreDatasets, IsQueryRight, IsRight, names_written, ended_by, source_written, keep_written, dataset_written, source_meant, from_meant, dataset_meant, column_written, key_written, agg_written, shape_written, from_written, query_written, job_written, optional, separated, name_of, column_names, agg_names, shape_names, query_names, job_names, column_meant, key_meant, agg_meant, shape_meant, query_meant, job_meant}
+use Rattle.job_text.specs.Grammar.{word, in_quotes, count, sum_of, min_of, max_of, group, order, input, by_name}
 use Rattle.job_text.proofs.Fresh.{name_at}
+use Rattle.job_text.proofs.Meant.{names_meant, source_same}
 use Rattle.job_text.proofs.Named.{place_now, known, with_names-append}
 use Rattle.job_text.proofs.Fitting.{put}
 use Rattle.job_text.proofs.Viable.{has_key_is}
@@ -68,11 +72,11 @@ not_part (p ∷ parts) part h =
     or_from _ _ (false_from_ne_true _ (λ e. let both = and_parts (same_agg p.agg part.agg) (same_column p.column part.column) e in h 0 part (omega arith) (same_part p part both.0 both.1)))
     (not_part parts part (λ k d lt. h (suc k) d (omega (arith, lt))))
 
-module _ (names : List (List ℕ)) (short : All (λ name. length name ≤ 1024) names) (queries : List Query) where
+module _ (names : List (List ℕ)) (short : All (λ name. length name ≤ 1024) names) (datasets : List Dataset) (queries : List Query) where
   -- a name is read, and stands at its place from then on
   named_taken : (now : List (List ℕ)) (name : List ℕ) (later : List (List ℕ)) (is_taken : ℕ → Bool) (next : ℕ → At) → with_names (with_name now name) later ≡ names
       → is_taken (place_of names name) ≡ false
-      → named (record { names = now; queries = queries }) is_taken next (Some name) ≡ Some (put (with_name now name) queries (next (place_of names name)))
+      → named (record { names = now; datasets = datasets; queries = queries }) is_taken next (Some name) ≡ Some (put (with_name now name) datasets queries (next (place_of names name)))
   named_taken now name later is_taken next e free =
       let here : place_of now name ≡ place_of names name = place_now now name later ∙ ap (λ (l : List (List ℕ)). place_of l name) e in
       let there = subst (λ (l : List (List ℕ)). place_of l name < length l) e (known now name later) in
@@ -80,19 +84,26 @@ module _ (names : List (List ℕ)) (short : All (λ name. length name ≤ 1024) 
       rw (le-leb (length name) 1024 few, here, free) refl
 
   column_taken : (place : At) (now : List (List ℕ)) (column : WrittenColumn) (next : State) (rest : List Token)
-      → after_column (record { names = now; queries = queries }) place (Some (name_of column)) ≡ Some next
-      → steps (put now queries place) (column_written column ++ rest) ≡ steps next rest
+      → ((name : List ℕ) → after_word (record { names = now; datasets = datasets; queries = queries }) place name ≡ after_column (record { names = now; datasets = datasets; queries = queries }) place (Some name))
+      → after_column (record { names = now; datasets = datasets; queries = queries }) place (Some (name_of column)) ≡ Some next
+      → steps (put now datasets queries place) (column_written column ++ rest) ≡ steps next rest
   unfolding step
-  column_taken place now (word name) next rest e = step_then _ _ (Word name) rest e
-  column_taken place now (in_quotes name) next rest e = step_then _ _ (Quoted name) rest e
+  column_taken place now (word name) next rest same e = step_then _ _ (Word name) rest (same name ∙ e)
+  column_taken place now (in_quotes name) next rest same e = step_then _ _ (Quoted name) rest e
+
+  word_taken : (place : At) (now : List (List ℕ)) (name : List ℕ) (next : State) (rest : List Token)
+      → after_word (record { names = now; datasets = datasets; queries = queries }) place name ≡ Some next
+      → steps (put now datasets queries place) (Word name ∷ rest) ≡ steps next rest
+  unfolding step
+  word_taken place now name next rest e = step_then _ _ (Word name) rest e
 
   mark_taken : (place : At) (now : List (List ℕ)) (mark : Mark) (next : State) (rest : List Token)
-      → after_mark (record { names = now; queries = queries }) place mark ≡ Some next
-      → steps (put now queries place) (Fixed mark ∷ rest) ≡ steps next rest
+      → after_mark (record { names = now; datasets = datasets; queries = queries }) place mark ≡ Some next
+      → steps (put now datasets queries place) (Fixed mark ∷ rest) ≡ steps next rest
   unfolding step
   mark_taken place now mark next rest e = step_then _ _ (Fixed mark) rest e
 
-  more_taken : {A : Type 0} (now : List (List ℕ)) (items : List A) (next : At) → length items < 8 → one_more (record { names = now; queries = queries }) items next ≡ Some (put now queries next)
+  more_taken : {A : Type 0} (now : List (List ℕ)) (items : List A) (next : At) → length items < 8 → one_more (record { names = now; datasets = datasets; queries = queries }) items next ≡ Some (put now datasets queries next)
   more_taken now items next lt = rw (lt-ltb (length items) 8 lt) refl
 
   -- ---- items with commas: each is read behind those before it
@@ -101,76 +112,76 @@ module _ (names : List (List ℕ)) (short : All (λ name. length name ≤ 1024) 
       (split : (before after : List V) (v : V) → all (before ++ v ∷ after) ≡ all before ++ mark v ∷ all after)
       (behind_comma : (rest : List Token) → Follows (Fixed marks.Comma ∷ rest))
       (one : (now : List (List ℕ)) (before : List V) (w : W) (later : List (List ℕ)) (rest : List Token) → with_names now (named w ++ later) ≡ names → All (λ x. x ≢ mark (meant w)) (all before) → Follows rest
-      → steps (put now queries (must before)) (tokens w ++ rest) ≡ steps (put (with_names now (named w)) queries (may (before ++ meant w ∷ []))) rest)
-      (comma : (now : List (List ℕ)) (before : List V) (rest : List Token) → length before < 8 → steps (put now queries (may before)) (Fixed marks.Comma ∷ rest) ≡ steps (put now queries (must before)) rest) where
+      → steps (put now datasets queries (must before)) (tokens w ++ rest) ≡ steps (put (with_names now (named w)) datasets queries (may (before ++ meant w ∷ []))) rest)
+      (comma : (now : List (List ℕ)) (before : List V) (rest : List Token) → length before < 8 → steps (put now datasets queries (may before)) (Fixed marks.Comma ∷ rest) ≡ steps (put now datasets queries (must before)) rest) where
     items_read : (now : List (List ℕ)) (before : List V) (w : W) (ws : List W) (later : List (List ℕ)) (rest : List Token) → with_names now (flat_map named (w ∷ ws) ++ later) ≡ names
         → IsDistinct (all (before ++ map meant (w ∷ ws))) → length before + length (w ∷ ws) ≤ 8 → Follows rest
-        → steps (put now queries (must before)) (separated marks.Comma tokens (w ∷ ws) ++ rest) ≡ steps (put (with_names now (flat_map named (w ∷ ws))) queries (may (before ++ map meant (w ∷ ws)))) rest
+        → steps (put now datasets queries (must before)) (separated marks.Comma tokens (w ∷ ws) ++ rest) ≡ steps (put (with_names now (flat_map named (w ∷ ws))) datasets queries (may (before ++ map meant (w ∷ ws)))) rest
     items_read now before w [] later rest e d few follows =
         one now before w later rest (ap (λ (l : List (List ℕ)). with_names now (l ++ later)) (sym (append-nil (named w))) ∙ e) (before_is (all before) (all []) (mark (meant w)) (subst IsDistinct (split before [] (meant w)) d)) follows
-        ∙ ap (λ (l : List (List ℕ)). steps (put (with_names now l) queries (may (before ++ meant w ∷ []))) rest) (sym (append-nil (named w)))
+        ∙ ap (λ (l : List (List ℕ)). steps (put (with_names now l) datasets queries (may (before ++ meant w ∷ []))) rest) (sym (append-nil (named w)))
     items_read now before w (x ∷ ws) later rest e d few follows =
         let more = separated marks.Comma tokens (x ∷ ws) in
         let next = with_names now (named w) in
         let done : List V = before ++ meant w ∷ [] in
         let items = map meant (x ∷ ws) in
         let here : with_names now (named w ++ (flat_map named (x ∷ ws) ++ later)) ≡ names = ap (with_names now) (sym (append_assoc (named w) (flat_map named (x ∷ ws)) later)) ∙ e in
-        ap (steps (put now queries (must before))) (append_assoc (tokens w) (Fixed marks.Comma ∷ more) rest)
+        ap (steps (put now datasets queries (must before))) (append_assoc (tokens w) (Fixed marks.Comma ∷ more) rest)
         ∙ one now before w (flat_map named (x ∷ ws) ++ later) (Fixed marks.Comma ∷ (more ++ rest)) here (before_is (all before) (all items) (mark (meant w)) (subst IsDistinct (split before items (meant w)) d)) (behind_comma (more ++ rest))
         ∙ comma next done (more ++ rest) (omega (arith, few, length-append before (meant w ∷ [])))
         ∙ items_read next done x ws later rest (sym (with_names-append (named w) (flat_map named (x ∷ ws) ++ later) now) ∙ here) (subst (λ (l : List V). IsDistinct (all l)) (sym (append_assoc before (meant w ∷ []) items)) d) (omega (arith, few, length-append before (meant w ∷ []))) follows
-        ∙ ap (λ (l : List (List ℕ)). steps (put l queries (may (done ++ items))) rest) (sym (with_names-append (named w) (flat_map named (x ∷ ws)) now))
-        ∙ ap (λ (l : List V). steps (put (with_names now (flat_map named (w ∷ x ∷ ws))) queries (may l)) rest) (append_assoc before (meant w ∷ []) items)
+        ∙ ap (λ (l : List (List ℕ)). steps (put l datasets queries (may (done ++ items))) rest) (sym (with_names-append (named w) (flat_map named (x ∷ ws)) now))
+        ∙ ap (λ (l : List V). steps (put (with_names now (flat_map named (w ∷ x ∷ ws))) datasets queries (may l)) rest) (append_assoc before (meant w ∷ []) items)
 
   -- ---- columns
 
   group_column : (now : List (List ℕ)) (before : List ℕ) (column : WrittenColumn) (later : List (List ℕ)) (rest : List Token) → with_names now (column_names column ++ later) ≡ names → All (λ c. c ≢ column_meant names column) before → Unit {0}
-      → steps (put now queries (at.GroupColumn before)) (column_written column ++ rest) ≡ steps (put (with_names now (column_names column)) queries (at.GroupColumns (before ++ column_meant names column ∷ []))) rest
+      → steps (put now datasets queries (at.GroupColumn before)) (column_written column ++ rest) ≡ steps (put (with_names now (column_names column)) datasets queries (at.GroupColumns (before ++ column_meant names column ∷ []))) rest
   group_column now before column later rest e new follows =
-      column_taken (at.GroupColumn before) now column (put (with_name now (name_of column)) queries (at.GroupColumns (before ++ column_meant names column ∷ []))) rest
-      (named_taken now (name_of column) later (has_column before) (λ c. at.GroupColumns (before ++ c ∷ [])) e (not_column before (column_meant names column) new))
+      column_taken (at.GroupColumn before) now column (put (with_name now (name_of column)) datasets queries (at.GroupColumns (before ++ column_meant names column ∷ []))) rest
+      (λ _. refl) (named_taken now (name_of column) later (has_column before) (λ c. at.GroupColumns (before ++ c ∷ [])) e (not_column before (column_meant names column) new))
 
-  group_comma : (now : List (List ℕ)) (before : List ℕ) (rest : List Token) → length before < 8 → steps (put now queries (at.GroupColumns before)) (Fixed marks.Comma ∷ rest) ≡ steps (put now queries (at.GroupColumn before)) rest
-  group_comma now before rest lt = mark_taken (at.GroupColumns before) now marks.Comma (put now queries (at.GroupColumn before)) rest (more_taken now before (at.GroupColumn before) lt)
+  group_comma : (now : List (List ℕ)) (before : List ℕ) (rest : List Token) → length before < 8 → steps (put now datasets queries (at.GroupColumns before)) (Fixed marks.Comma ∷ rest) ≡ steps (put now datasets queries (at.GroupColumn before)) rest
+  group_comma now before rest lt = mark_taken (at.GroupColumns before) now marks.Comma (put now datasets queries (at.GroupColumn before)) rest (more_taken now before (at.GroupColumn before) lt)
 
   order_column : (keys : List KeyItem) (now : List (List ℕ)) (before : List ℕ) (column : WrittenColumn) (later : List (List ℕ)) (rest : List Token) → with_names now (column_names column ++ later) ≡ names → All (λ c. c ≢ column_meant names column) before → Unit {0}
-      → steps (put now queries (at.OrderColumn keys before)) (column_written column ++ rest) ≡ steps (put (with_names now (column_names column)) queries (at.OrderColumns keys (before ++ column_meant names column ∷ []))) rest
+      → steps (put now datasets queries (at.OrderColumn keys before)) (column_written column ++ rest) ≡ steps (put (with_names now (column_names column)) datasets queries (at.OrderColumns keys (before ++ column_meant names column ∷ []))) rest
   order_column keys now before column later rest e new follows =
-      column_taken (at.OrderColumn keys before) now column (put (with_name now (name_of column)) queries (at.OrderColumns keys (before ++ column_meant names column ∷ []))) rest
-      (named_taken now (name_of column) later (has_column before) (λ c. at.OrderColumns keys (before ++ c ∷ [])) e (not_column before (column_meant names column) new))
+      column_taken (at.OrderColumn keys before) now column (put (with_name now (name_of column)) datasets queries (at.OrderColumns keys (before ++ column_meant names column ∷ []))) rest
+      (λ _. refl) (named_taken now (name_of column) later (has_column before) (λ c. at.OrderColumns keys (before ++ c ∷ [])) e (not_column before (column_meant names column) new))
 
-  order_comma : (keys : List KeyItem) (now : List (List ℕ)) (before : List ℕ) (rest : List Token) → length before < 8 → steps (put now queries (at.OrderColumns keys before)) (Fixed marks.Comma ∷ rest) ≡ steps (put now queries (at.OrderColumn keys before)) rest
-  order_comma keys now before rest lt = mark_taken (at.OrderColumns keys before) now marks.Comma (put now queries (at.OrderColumn keys before)) rest (more_taken now before (at.OrderColumn keys before) lt)
+  order_comma : (keys : List KeyItem) (now : List (List ℕ)) (before : List ℕ) (rest : List Token) → length before < 8 → steps (put now datasets queries (at.OrderColumns keys before)) (Fixed marks.Comma ∷ rest) ≡ steps (put now datasets queries (at.OrderColumn keys before)) rest
+  order_comma keys now before rest lt = mark_taken (at.OrderColumns keys before) now marks.Comma (put now datasets queries (at.OrderColumn keys before)) rest (more_taken now before (at.OrderColumn keys before) lt)
 
   -- ---- aggregates
 
   agg_with_column : (columns : List ℕ) (now : List (List ℕ)) (before : List Part) (agg : Agg) (column : WrittenColumn) (later : List (List ℕ)) (rest : List Token) → with_names now (column_names column ++ later) ≡ names
       → All (λ p. p ≢ record { agg = agg; column = Some (column_meant names column) }) before
-      → steps (put now queries (at.PartColumn columns before agg)) (column_written column ++ rest) ≡ steps (put (with_names now (column_names column)) queries (at.Parts columns (before ++ record { agg = agg; column = Some (column_meant names column) } ∷ []))) rest
+      → steps (put now datasets queries (at.PartColumn columns before agg)) (column_written column ++ rest) ≡ steps (put (with_names now (column_names column)) datasets queries (at.Parts columns (before ++ record { agg = agg; column = Some (column_meant names column) } ∷ []))) rest
   agg_with_column columns now before agg column later rest e new =
-      column_taken (at.PartColumn columns before agg) now column (put (with_name now (name_of column)) queries (at.Parts columns (before ++ record { agg = agg; column = Some (column_meant names column) } ∷ []))) rest
-      (named_taken now (name_of column) later (λ c. has_part before (record { agg = agg; column = Some c })) (λ c. at.Parts columns (before ++ record { agg = agg; column = Some c } ∷ [])) e
+      column_taken (at.PartColumn columns before agg) now column (put (with_name now (name_of column)) datasets queries (at.Parts columns (before ++ record { agg = agg; column = Some (column_meant names column) } ∷ []))) rest
+      (λ _. refl) (named_taken now (name_of column) later (λ c. has_part before (record { agg = agg; column = Some c })) (λ c. at.Parts columns (before ++ record { agg = agg; column = Some c } ∷ [])) e
       (not_part before (record { agg = agg; column = Some (column_meant names column) }) new))
 
   part : (columns : List ℕ) (now : List (List ℕ)) (before : List Part) (agg : WrittenAgg) (later : List (List ℕ)) (rest : List Token) → with_names now (agg_names agg ++ later) ≡ names → All (λ p. p ≢ agg_meant names agg) before → Unit {0}
-      → steps (put now queries (at.Part columns before)) (agg_written agg ++ rest) ≡ steps (put (with_names now (agg_names agg)) queries (at.Parts columns (before ++ agg_meant names agg ∷ []))) rest
+      → steps (put now datasets queries (at.Part columns before)) (agg_written agg ++ rest) ≡ steps (put (with_names now (agg_names agg)) datasets queries (at.Parts columns (before ++ agg_meant names agg ∷ []))) rest
   part columns now before count later rest e new follows =
-      mark_taken (at.Part columns before) now marks.Count (put now queries (at.Parts columns (before ++ counted ∷ []))) rest (rw (not_part before counted new) refl)
+      mark_taken (at.Part columns before) now marks.Count (put now datasets queries (at.Parts columns (before ++ counted ∷ []))) rest (rw (not_part before counted new) refl)
   part columns now before (sum_of column) later rest e new follows =
-      mark_taken (at.Part columns before) now marks.Sum (put now queries (at.PartColumn columns before aggs.Sum)) (column_written column ++ rest) refl ∙ agg_with_column columns now before aggs.Sum column later rest e new
+      mark_taken (at.Part columns before) now marks.Sum (put now datasets queries (at.PartColumn columns before aggs.Sum)) (column_written column ++ rest) refl ∙ agg_with_column columns now before aggs.Sum column later rest e new
   part columns now before (min_of column) later rest e new follows =
-      mark_taken (at.Part columns before) now marks.Min (put now queries (at.PartColumn columns before aggs.Min)) (column_written column ++ rest) refl ∙ agg_with_column columns now before aggs.Min column later rest e new
+      mark_taken (at.Part columns before) now marks.Min (put now datasets queries (at.PartColumn columns before aggs.Min)) (column_written column ++ rest) refl ∙ agg_with_column columns now before aggs.Min column later rest e new
   part columns now before (max_of column) later rest e new follows =
-      mark_taken (at.Part columns before) now marks.Max (put now queries (at.PartColumn columns before aggs.Max)) (column_written column ++ rest) refl ∙ agg_with_column columns now before aggs.Max column later rest e new
+      mark_taken (at.Part columns before) now marks.Max (put now datasets queries (at.PartColumn columns before aggs.Max)) (column_written column ++ rest) refl ∙ agg_with_column columns now before aggs.Max column later rest e new
 
-  part_comma : (columns : List ℕ) (now : List (List ℕ)) (before : List Part) (rest : List Token) → length before < 8 → steps (put now queries (at.Parts columns before)) (Fixed marks.Comma ∷ rest) ≡ steps (put now queries (at.Part columns before)) rest
-  part_comma columns now before rest lt = mark_taken (at.Parts columns before) now marks.Comma (put now queries (at.Part columns before)) rest (more_taken now before (at.Part columns before) lt)
+  part_comma : (columns : List ℕ) (now : List (List ℕ)) (before : List Part) (rest : List Token) → length before < 8 → steps (put now datasets queries (at.Parts columns before)) (Fixed marks.Comma ∷ rest) ≡ steps (put now datasets queries (at.Part columns before)) rest
+  part_comma columns now before rest lt = mark_taken (at.Parts columns before) now marks.Comma (put now datasets queries (at.Part columns before)) rest (more_taken now before (at.Part columns before) lt)
 
   -- ---- keys
 
   -- what follows shows that the key isn't ordered downwards
   abbrev EndsKey : List Token → Type 0
-  EndsKey rest = (now : List (List ℕ)) (keys : List KeyItem) (column : ℕ) (number : Bool) → steps (put now queries (at.KeyColumn keys column number)) rest ≡ steps (put now queries (at.Keys (key keys column number false))) rest
+  EndsKey rest = (now : List (List ℕ)) (keys : List KeyItem) (column : ℕ) (number : Bool) → steps (put now datasets queries (at.KeyColumn keys column number)) rest ≡ steps (put now datasets queries (at.Keys (key keys column number false))) rest
 
   comma_ends : (rest : List Token) → EndsKey (Fixed marks.Comma ∷ rest)
   unfolding steps step
@@ -184,64 +195,64 @@ module _ (names : List (List ℕ)) (short : All (λ name. length name ≤ 1024) 
   new_key before column new = has_key_is before column ∙ not_column (map (λ key. key.column) before) column new
 
   key_read : (now : List (List ℕ)) (before : List KeyItem) (written : WrittenKey) (later : List (List ℕ)) (rest : List Token) → with_names now (column_names written.column ++ later) ≡ names → All (λ c. c ≢ column_meant names written.column) (map (λ key. key.column) before) → EndsKey rest
-      → steps (put now queries (at.Key before)) (key_written written ++ rest) ≡ steps (put (with_names now (column_names written.column)) queries (at.Keys (before ++ key_meant names written ∷ []))) rest
+      → steps (put now datasets queries (at.Key before)) (key_written written ++ rest) ≡ steps (put (with_names now (column_names written.column)) datasets queries (at.Keys (before ++ key_meant names written ∷ []))) rest
   key_read now before written later rest e new follows = by written.number written.down
     where
-      by : (number down : Bool) → steps (put now queries (at.Key before)) ((optional number marks.Number ++ column_written written.column ++ optional down marks.Down) ++ rest)
-          ≡ steps (put (with_names now (column_names written.column)) queries (at.Keys (key before (column_meant names written.column) number down))) rest
+      by : (number down : Bool) → steps (put now datasets queries (at.Key before)) ((optional number marks.Number ++ column_written written.column ++ optional down marks.Down) ++ rest)
+          ≡ steps (put (with_names now (column_names written.column)) datasets queries (at.Keys (key before (column_meant names written.column) number down))) rest
       by false false =
           let c = written.column in
           let p = column_meant names c in
-          ap (λ (l : List Token). steps (put now queries (at.Key before)) (l ++ rest)) (append-nil (column_written c))
-          ∙ column_taken (at.Key before) now c (put (with_name now (name_of c)) queries (at.KeyColumn before p false)) rest (named_taken now (name_of c) later (has_key before) (λ p. at.KeyColumn before p false) e (new_key before p new))
+          ap (λ (l : List Token). steps (put now datasets queries (at.Key before)) (l ++ rest)) (append-nil (column_written c))
+          ∙ column_taken (at.Key before) now c (put (with_name now (name_of c)) datasets queries (at.KeyColumn before p false)) rest (λ _. refl) (named_taken now (name_of c) later (has_key before) (λ p. at.KeyColumn before p false) e (new_key before p new))
           ∙ follows (with_name now (name_of c)) before p false
       by false true =
           let c = written.column in
           let p = column_meant names c in
-          ap (steps (put now queries (at.Key before))) (append_assoc (column_written c) (Fixed marks.Down ∷ []) rest)
-          ∙ column_taken (at.Key before) now c (put (with_name now (name_of c)) queries (at.KeyColumn before p false)) (Fixed marks.Down ∷ rest) (named_taken now (name_of c) later (has_key before) (λ p. at.KeyColumn before p false) e (new_key before p new))
-          ∙ mark_taken (at.KeyColumn before p false) (with_name now (name_of c)) marks.Down (put (with_name now (name_of c)) queries (at.Keys (key before p false true))) rest refl
+          ap (steps (put now datasets queries (at.Key before))) (append_assoc (column_written c) (Fixed marks.Down ∷ []) rest)
+          ∙ column_taken (at.Key before) now c (put (with_name now (name_of c)) datasets queries (at.KeyColumn before p false)) (Fixed marks.Down ∷ rest) (λ _. refl) (named_taken now (name_of c) later (has_key before) (λ p. at.KeyColumn before p false) e (new_key before p new))
+          ∙ mark_taken (at.KeyColumn before p false) (with_name now (name_of c)) marks.Down (put (with_name now (name_of c)) datasets queries (at.Keys (key before p false true))) rest refl
       by true false =
           let c = written.column in
           let p = column_meant names c in
-          ap (λ (l : List Token). steps (put now queries (at.Key before)) (Fixed marks.Number ∷ (l ++ rest))) (append-nil (column_written c))
-          ∙ mark_taken (at.Key before) now marks.Number (put now queries (at.NumberKey before)) (column_written c ++ rest) refl
-          ∙ column_taken (at.NumberKey before) now c (put (with_name now (name_of c)) queries (at.KeyColumn before p true)) rest (named_taken now (name_of c) later (has_key before) (λ p. at.KeyColumn before p true) e (new_key before p new))
+          ap (λ (l : List Token). steps (put now datasets queries (at.Key before)) (Fixed marks.Number ∷ (l ++ rest))) (append-nil (column_written c))
+          ∙ mark_taken (at.Key before) now marks.Number (put now datasets queries (at.NumberKey before)) (column_written c ++ rest) refl
+          ∙ column_taken (at.NumberKey before) now c (put (with_name now (name_of c)) datasets queries (at.KeyColumn before p true)) rest (λ _. refl) (named_taken now (name_of c) later (has_key before) (λ p. at.KeyColumn before p true) e (new_key before p new))
           ∙ follows (with_name now (name_of c)) before p true
       by true true =
           let c = written.column in
           let p = column_meant names c in
-          ap (λ (l : List Token). steps (put now queries (at.Key before)) (Fixed marks.Number ∷ l)) (append_assoc (column_written c) (Fixed marks.Down ∷ []) rest)
-          ∙ mark_taken (at.Key before) now marks.Number (put now queries (at.NumberKey before)) (column_written c ++ Fixed marks.Down ∷ rest) refl
-          ∙ column_taken (at.NumberKey before) now c (put (with_name now (name_of c)) queries (at.KeyColumn before p true)) (Fixed marks.Down ∷ rest) (named_taken now (name_of c) later (has_key before) (λ p. at.KeyColumn before p true) e (new_key before p new))
-          ∙ mark_taken (at.KeyColumn before p true) (with_name now (name_of c)) marks.Down (put (with_name now (name_of c)) queries (at.Keys (key before p true true))) rest refl
+          ap (λ (l : List Token). steps (put now datasets queries (at.Key before)) (Fixed marks.Number ∷ l)) (append_assoc (column_written c) (Fixed marks.Down ∷ []) rest)
+          ∙ mark_taken (at.Key before) now marks.Number (put now datasets queries (at.NumberKey before)) (column_written c ++ Fixed marks.Down ∷ rest) refl
+          ∙ column_taken (at.NumberKey before) now c (put (with_name now (name_of c)) datasets queries (at.KeyColumn before p true)) (Fixed marks.Down ∷ rest) (λ _. refl) (named_taken now (name_of c) later (has_key before) (λ p. at.KeyColumn before p true) e (new_key before p new))
+          ∙ mark_taken (at.KeyColumn before p true) (with_name now (name_of c)) marks.Down (put (with_name now (name_of c)) datasets queries (at.Keys (key before p true true))) rest refl
 
-  key_comma : (now : List (List ℕ)) (before : List KeyItem) (rest : List Token) → length before < 8 → steps (put now queries (at.Keys before)) (Fixed marks.Comma ∷ rest) ≡ steps (put now queries (at.Key before)) rest
-  key_comma now before rest lt = mark_taken (at.Keys before) now marks.Comma (put now queries (at.Key before)) rest (more_taken now before (at.Key before) lt)
+  key_comma : (now : List (List ℕ)) (before : List KeyItem) (rest : List Token) → length before < 8 → steps (put now datasets queries (at.Keys before)) (Fixed marks.Comma ∷ rest) ≡ steps (put now datasets queries (at.Key before)) rest
+  key_comma now before rest lt = mark_taken (at.Keys before) now marks.Comma (put now datasets queries (at.Key before)) rest (more_taken now before (at.Key before) lt)
 
   -- ---- shapes
 
   group_columns_read : (now : List (List ℕ)) (column : WrittenColumn) (columns : List WrittenColumn) (later : List (List ℕ)) (rest : List Token) → with_names now (flat_map column_names (column ∷ columns) ++ later) ≡ names
       → IsColumns (length names) (map (column_meant names) (column ∷ columns))
-      → steps (put now queries (at.GroupColumn [])) (separated marks.Comma column_written (column ∷ columns) ++ rest) ≡ steps (put (with_names now (flat_map column_names (column ∷ columns))) queries (at.GroupColumns (map (column_meant names) (column ∷ columns)))) rest
+      → steps (put now datasets queries (at.GroupColumn [])) (separated marks.Comma column_written (column ∷ columns) ++ rest) ≡ steps (put (with_names now (flat_map column_names (column ∷ columns))) datasets queries (at.GroupColumns (map (column_meant names) (column ∷ columns)))) rest
   group_columns_read now column columns later rest e h =
       items_read column_written (column_meant names) column_names (λ l. at.GroupColumn l) (λ l. at.GroupColumns l) (λ l. l) (λ c. c) (λ _. Unit {0}) (λ before after v. refl) (λ rest. tt) group_column group_comma now [] column columns later rest e h.distinct (omega (arith, h.short.few, length-map (column ∷ columns) (column_meant names))) tt
 
   order_columns_read : (keys : List KeyItem) (now : List (List ℕ)) (column : WrittenColumn) (columns : List WrittenColumn) (later : List (List ℕ)) (rest : List Token) → with_names now (flat_map column_names (column ∷ columns) ++ later) ≡ names
       → IsColumns (length names) (map (column_meant names) (column ∷ columns))
-      → steps (put now queries (at.OrderColumn keys [])) (separated marks.Comma column_written (column ∷ columns) ++ rest) ≡ steps (put (with_names now (flat_map column_names (column ∷ columns))) queries (at.OrderColumns keys (map (column_meant names) (column ∷ columns)))) rest
+      → steps (put now datasets queries (at.OrderColumn keys [])) (separated marks.Comma column_written (column ∷ columns) ++ rest) ≡ steps (put (with_names now (flat_map column_names (column ∷ columns))) datasets queries (at.OrderColumns keys (map (column_meant names) (column ∷ columns)))) rest
   order_columns_read keys now column columns later rest e h =
       items_read column_written (column_meant names) column_names (λ l. at.OrderColumn keys l) (λ l. at.OrderColumns keys l) (λ l. l) (λ c. c) (λ _. Unit {0}) (λ before after v. refl) (λ rest. tt) (order_column keys) (order_comma keys) now [] column columns later rest e h.distinct (omega (arith, h.short.few, length-map (column ∷ columns) (column_meant names))) tt
 
   parts_read : (columns : List ℕ) (now : List (List ℕ)) (agg : WrittenAgg) (aggs : List WrittenAgg) (later : List (List ℕ)) (rest : List Token) → with_names now (flat_map agg_names (agg ∷ aggs) ++ later) ≡ names
       → IsShortList (map (agg_meant names) (agg ∷ aggs)) → IsDistinct (map (agg_meant names) (agg ∷ aggs))
-      → steps (put now queries (at.Part columns [])) (separated marks.Comma agg_written (agg ∷ aggs) ++ rest) ≡ steps (put (with_names now (flat_map agg_names (agg ∷ aggs))) queries (at.Parts columns (map (agg_meant names) (agg ∷ aggs)))) rest
+      → steps (put now datasets queries (at.Part columns [])) (separated marks.Comma agg_written (agg ∷ aggs) ++ rest) ≡ steps (put (with_names now (flat_map agg_names (agg ∷ aggs))) datasets queries (at.Parts columns (map (agg_meant names) (agg ∷ aggs)))) rest
   parts_read columns now agg aggs later rest e h d =
       items_read agg_written (agg_meant names) agg_names (λ l. at.Part columns l) (λ l. at.Parts columns l) (λ l. l) (λ p. p) (λ _. Unit {0}) (λ before after v. refl) (λ rest. tt) (part columns) (part_comma columns) now [] agg aggs later rest e d (omega (arith, h.few, length-map (agg ∷ aggs) (agg_meant names))) tt
 
   keys_read : (now : List (List ℕ)) (one : WrittenKey) (keys : List WrittenKey) (later : List (List ℕ)) (rest : List Token) → with_names now (flat_map (λ key. column_names key.column) (one ∷ keys) ++ later) ≡ names
       → IsColumns (length names) (map (λ key. key.column) (map (key_meant names) (one ∷ keys))) → EndsKey rest
-      → steps (put now queries (at.Key [])) (separated marks.Comma key_written (one ∷ keys) ++ rest) ≡ steps (put (with_names now (flat_map (λ key. column_names key.column) (one ∷ keys))) queries (at.Keys (map (key_meant names) (one ∷ keys)))) rest
+      → steps (put now datasets queries (at.Key [])) (separated marks.Comma key_written (one ∷ keys) ++ rest) ≡ steps (put (with_names now (flat_map (λ key. column_names key.column) (one ∷ keys))) datasets queries (at.Keys (map (key_meant names) (one ∷ keys)))) rest
   keys_read now one keys later rest e h follows =
       items_read key_written (key_meant names) (λ key. column_names key.column) (λ l. at.Key l) (λ l. at.Keys l) (map (λ key. key.column)) (λ key. key.column) EndsKey (λ before after v. map-append (λ key. key.column) before (v ∷ after)) comma_ends key_read key_comma now [] one keys later rest e h.distinct (omega (arith, h.short.few, length-map (map (key_meant names) (one ∷ keys)) (λ key. key.column), length-map (one ∷ keys) (key_meant names))) follows
 
@@ -257,7 +268,7 @@ module _ (names : List (List ℕ)) (short : All (λ name. length name ≤ 1024) 
   second now one two later e = sym (with_names-append one (two ++ later) now) ∙ joined now one two later e
 
   shape_read : (now : List (List ℕ)) (shape : WrittenShape) (later : List (List ℕ)) (rest : List Token) → with_names now (shape_names shape ++ later) ≡ names → IsShape (length names) (shape_meant names shape)
-      → steps (put now queries at.Query) (shape_written shape ++ rest) ≡ steps (put (with_names now (shape_names shape)) queries (behind (shape_meant names shape))) rest
+      → steps (put now datasets queries at.Query) (shape_written shape ++ rest) ≡ steps (put (with_names now (shape_names shape)) datasets queries (behind (shape_meant names shape))) rest
   shape_read now (group [] aggs) later rest e h = absurd (omega (arith, h.0.short.some))
   shape_read now (group (column ∷ columns) []) later rest e h = absurd (omega (arith, h.1.some))
   shape_read now (group (column ∷ columns) (agg ∷ aggs)) later rest e h =
@@ -266,12 +277,12 @@ module _ (names : List (List ℕ)) (short : All (λ name. length name ≤ 1024) 
       let one = flat_map column_names (column ∷ columns) in
       let two = flat_map agg_names (agg ∷ aggs) in
       let places = map (column_meant names) (column ∷ columns) in
-      ap (λ (l : List Token). steps (put now queries at.Query) (Fixed marks.Group ∷ l)) (append_assoc front (Fixed marks.Colon ∷ back) rest)
-      ∙ mark_taken at.Query now marks.Group (put now queries (at.GroupColumn [])) (front ++ Fixed marks.Colon ∷ (back ++ rest)) refl
+      ap (λ (l : List Token). steps (put now datasets queries at.Query) (Fixed marks.Group ∷ l)) (append_assoc front (Fixed marks.Colon ∷ back) rest)
+      ∙ mark_taken at.Query now marks.Group (put now datasets queries (at.GroupColumn [])) (front ++ Fixed marks.Colon ∷ (back ++ rest)) refl
       ∙ group_columns_read now column columns (two ++ later) (Fixed marks.Colon ∷ (back ++ rest)) (joined now one two later e) h.0
-      ∙ mark_taken (at.GroupColumns places) (with_names now one) marks.Colon (put (with_names now one) queries (at.Part places [])) (back ++ rest) refl
+      ∙ mark_taken (at.GroupColumns places) (with_names now one) marks.Colon (put (with_names now one) datasets queries (at.Part places [])) (back ++ rest) refl
       ∙ parts_read places (with_names now one) agg aggs later rest (second now one two later e) h.1 h.3
-      ∙ ap (λ (l : List (List ℕ)). steps (put l queries (at.Parts places (map (agg_meant names) (agg ∷ aggs)))) rest) (sym (with_names-append one two now))
+      ∙ ap (λ (l : List (List ℕ)). steps (put l datasets queries (at.Parts places (map (agg_meant names) (agg ∷ aggs)))) rest) (sym (with_names-append one two now))
   shape_read now (order [] columns) later rest e h = absurd (omega (arith, h.0.short.some))
   shape_read now (order (key ∷ keys) []) later rest e h = absurd (omega (arith, h.1.short.some))
   shape_read now (order (one ∷ keys) (column ∷ columns)) later rest e h =
@@ -280,81 +291,178 @@ module _ (names : List (List ℕ)) (short : All (λ name. length name ≤ 1024) 
       let first = flat_map (λ key. column_names key.column) (one ∷ keys) in
       let two = flat_map column_names (column ∷ columns) in
       let items = map (key_meant names) (one ∷ keys) in
-      ap (λ (l : List Token). steps (put now queries at.Query) (Fixed marks.Order ∷ l)) (append_assoc front (Fixed marks.Colon ∷ back) rest)
-      ∙ mark_taken at.Query now marks.Order (put now queries (at.Key [])) (front ++ Fixed marks.Colon ∷ (back ++ rest)) refl
+      ap (λ (l : List Token). steps (put now datasets queries at.Query) (Fixed marks.Order ∷ l)) (append_assoc front (Fixed marks.Colon ∷ back) rest)
+      ∙ mark_taken at.Query now marks.Order (put now datasets queries (at.Key [])) (front ++ Fixed marks.Colon ∷ (back ++ rest)) refl
       ∙ keys_read now one keys (two ++ later) (Fixed marks.Colon ∷ (back ++ rest)) (joined now first two later e) h.0 (colon_ends (back ++ rest))
-      ∙ mark_taken (at.Keys items) (with_names now first) marks.Colon (put (with_names now first) queries (at.OrderColumn items [])) (back ++ rest) refl
+      ∙ mark_taken (at.Keys items) (with_names now first) marks.Colon (put (with_names now first) datasets queries (at.OrderColumn items [])) (back ++ rest) refl
       ∙ order_columns_read items (with_names now first) column columns later rest (second now first two later e) h.1
-      ∙ ap (λ (l : List (List ℕ)). steps (put l queries (at.OrderColumns items (map (column_meant names) (column ∷ columns)))) rest) (sym (with_names-append first two now))
+      ∙ ap (λ (l : List (List ℕ)). steps (put l datasets queries (at.OrderColumns items (map (column_meant names) (column ∷ columns)))) rest) (sym (with_names-append first two now))
 
   -- ---- queries
 
   -- behind a whole query
   abbrev behind_query : Shape → Option WrittenSource → At
   behind_query shape None = behind shape
-  behind_query shape (Some input) = at.Sourced shape
+  behind_query shape (Some source) = at.Sourced (query_of (source_meant (dataset_names datasets) source) shape)
 
-  from_taken : (shape : Shape) (now : List (List ℕ)) (rest : List Token) → steps (put now queries (behind shape)) (Fixed marks.From ∷ rest) ≡ steps (put now queries (at.Source shape)) rest
-  from_taken (shapes.Group columns parts) now rest = mark_taken (at.Parts columns parts) now marks.From (put now queries (at.Source (shapes.Group columns parts))) rest refl
-  from_taken (shapes.Order keys columns) now rest = mark_taken (at.OrderColumns keys columns) now marks.From (put now queries (at.Source (shapes.Order keys columns))) rest refl
+  from_taken : (shape : Shape) (now : List (List ℕ)) (rest : List Token) → steps (put now datasets queries (behind shape)) (Fixed marks.From ∷ rest) ≡ steps (put now datasets queries (at.Source shape)) rest
+  from_taken (shapes.Group columns parts) now rest = mark_taken (at.Parts columns parts) now marks.From (put now datasets queries (at.Source (shapes.Group columns parts))) rest refl
+  from_taken (shapes.Order keys columns) now rest = mark_taken (at.OrderColumns keys columns) now marks.From (put now datasets queries (at.Source (shapes.Order keys columns))) rest refl
 
-  query_read : (now : List (List ℕ)) (query : WrittenQuery) (later : List (List ℕ)) (rest : List Token) → with_names now (query_names query ++ later) ≡ names → IsShape (length names) (shape_meant names query.shape)
-      → steps (put now queries at.Query) (query_written query ++ rest) ≡ steps (put (with_names now (query_names query)) queries (behind_query (shape_meant names query.shape) query.source)) rest
-  query_read now query later rest e h = by query.source
+  source_taken : (shape : Shape) (source : WrittenSource) (now : List (List ℕ)) (rest : List Token) → IsSourceRight (dataset_names datasets) source
+      → steps (put now datasets queries (at.Source shape)) (source_written source ++ rest) ≡ steps (put now datasets queries (at.Sourced (query_of (source_meant (dataset_names datasets) source) shape))) rest
+  source_taken shape input now rest h = mark_taken (at.Source shape) now marks.Input (put now datasets queries (at.Sourced (query_of 0 shape))) rest refl
+  source_taken shape (by_name name) now rest h =
+      word_taken (at.Source shape) now name (put now datasets queries (at.Sourced (query_of (place_of (dataset_names datasets) name + 1) shape))) rest (rw h refl)
+
+  query_read : (now : List (List ℕ)) (query : WrittenQuery) (later : List (List ℕ)) (rest : List Token) → with_names now (query_names query ++ later) ≡ names → IsShape (length names) (shape_meant names query.shape) → IfSome query.source (IsSourceRight (dataset_names datasets))
+      → steps (put now datasets queries at.Query) (query_written query ++ rest) ≡ steps (put (with_names now (query_names query)) datasets queries (behind_query (shape_meant names query.shape) query.source)) rest
+  query_read now query later rest e h right = by query.source right
     where
-      by : (source : Option WrittenSource) → steps (put now queries at.Query) ((shape_written query.shape ++ from_written source) ++ rest) ≡ steps (put (with_names now (shape_names query.shape)) queries (behind_query (shape_meant names query.shape) source)) rest
-      by None = ap (λ (l : List Token). steps (put now queries at.Query) (l ++ rest)) (append-nil (shape_written query.shape)) ∙ shape_read now query.shape later rest e h
-      by (Some input) =
+      by : (source : Option WrittenSource) → IfSome source (IsSourceRight (dataset_names datasets))
+          → steps (put now datasets queries at.Query) ((shape_written query.shape ++ from_written source) ++ rest) ≡ steps (put (with_names now (shape_names query.shape)) datasets queries (behind_query (shape_meant names query.shape) source)) rest
+      by None right = ap (λ (l : List Token). steps (put now datasets queries at.Query) (l ++ rest)) (append-nil (shape_written query.shape)) ∙ shape_read now query.shape later rest e h
+      by (Some source) right =
           let next = with_names now (shape_names query.shape) in
           let shape = shape_meant names query.shape in
-          ap (steps (put now queries at.Query)) (append_assoc (shape_written query.shape) (Fixed marks.From ∷ Fixed marks.Input ∷ []) rest)
-          ∙ shape_read now query.shape later (Fixed marks.From ∷ Fixed marks.Input ∷ rest) e h
-          ∙ from_taken shape next (Fixed marks.Input ∷ rest)
-          ∙ mark_taken (at.Source shape) next marks.Input (put next queries (at.Sourced shape)) rest refl
+          ap (steps (put now datasets queries at.Query)) (append_assoc (shape_written query.shape) (Fixed marks.From ∷ source_written source) rest)
+          ∙ shape_read now query.shape later (Fixed marks.From ∷ (source_written source ++ rest)) e h
+          ∙ from_taken shape next (source_written source ++ rest)
+          ∙ source_taken shape source next rest right
+
+  abbrev query_at : Shape → Option WrittenSource → Query
+  query_at shape source = query_of (from_meant (dataset_names datasets) source) shape
 
   semicolon_taken : (shape : Shape) (source : Option WrittenSource) (now : List (List ℕ)) (rest : List Token) → length queries + 1 < 8
-      → steps (put now queries (behind_query shape source)) (Fixed marks.Semicolon ∷ rest) ≡ steps (put now (queries ++ query_of shape ∷ []) at.Query) rest
-  semicolon_taken (shapes.Group columns parts) None now rest lt = mark_taken (at.Parts columns parts) now marks.Semicolon (put now (queries ++ query_of (shapes.Group columns parts) ∷ []) at.Query) rest (rw (lt-ltb (length queries + 1) 8 lt) refl)
-  semicolon_taken (shapes.Order keys columns) None now rest lt = mark_taken (at.OrderColumns keys columns) now marks.Semicolon (put now (queries ++ query_of (shapes.Order keys columns) ∷ []) at.Query) rest (rw (lt-ltb (length queries + 1) 8 lt) refl)
-  semicolon_taken shape (Some input) now rest lt = mark_taken (at.Sourced shape) now marks.Semicolon (put now (queries ++ query_of shape ∷ []) at.Query) rest (rw (lt-ltb (length queries + 1) 8 lt) refl)
+      → steps (put now datasets queries (behind_query shape source)) (Fixed marks.Semicolon ∷ rest) ≡ steps (put now datasets (queries ++ query_at shape source ∷ []) at.Query) rest
+  semicolon_taken (shapes.Group columns parts) None now rest lt = mark_taken (at.Parts columns parts) now marks.Semicolon (put now datasets (queries ++ query_of 0 (shapes.Group columns parts) ∷ []) at.Query) rest (rw (lt-ltb (length queries + 1) 8 lt) refl)
+  semicolon_taken (shapes.Order keys columns) None now rest lt = mark_taken (at.OrderColumns keys columns) now marks.Semicolon (put now datasets (queries ++ query_of 0 (shapes.Order keys columns) ∷ []) at.Query) rest (rw (lt-ltb (length queries + 1) 8 lt) refl)
+  semicolon_taken shape (Some source) now rest lt = mark_taken (at.Sourced (query_at shape (Some source))) now marks.Semicolon (put now datasets (queries ++ query_at shape (Some source) ∷ []) at.Query) rest (rw (lt-ltb (length queries + 1) 8 lt) refl)
 
-  ends : (shape : Shape) (source : Option WrittenSource) (now : List (List ℕ)) → job_at (steps (put now queries (behind_query shape source)) []) ≡ Some (record { names = now; datasets = []; queries = queries ++ query_of shape ∷ [] })
+  ends : (shape : Shape) (source : Option WrittenSource) (now : List (List ℕ)) → job_at (steps (put now datasets queries (behind_query shape source)) []) ≡ Some (record { names = now; datasets = datasets; queries = queries ++ query_at shape source ∷ [] })
   unfolding steps
   ends (shapes.Group columns parts) None now = refl
   ends (shapes.Order keys columns) None now = refl
-  ends shape (Some input) now = refl
+  ends shape (Some source) now = refl
 
-module _ (names : List (List ℕ)) (short : All (λ name. length name ≤ 1024) names) where
+module _ (names : List (List ℕ)) (short : All (λ name. length name ≤ 1024) names) (datasets : List Dataset) where
   queries_read : (now : List (List ℕ)) (done : List Query) (query : WrittenQuery) (queries : List WrittenQuery) → with_names now (flat_map query_names (query ∷ queries)) ≡ names
-      → All (IsQuery (length names) 0) (map (query_meant names) (query ∷ queries)) → length done + length (query ∷ queries) ≤ 8
-      → job_at (steps (put now done at.Query) (separated marks.Semicolon query_written (query ∷ queries))) ≡ Some (record { names = names; datasets = []; queries = done ++ map (query_meant names) (query ∷ queries) })
-  queries_read now done query [] e h few =
+      → All (λ query. IsShape (length names) (shape_meant names query.shape)) (query ∷ queries) → All (IsQueryRight (dataset_names datasets)) (query ∷ queries) → length done + length (query ∷ queries) ≤ 8
+      → job_at (steps (put now datasets done at.Query) (separated marks.Semicolon query_written (query ∷ queries))) ≡ Some (record { names = names; datasets = datasets; queries = done ++ map (query_meant names (dataset_names datasets)) (query ∷ queries) })
+  queries_read now done query [] e h right few =
       let shape = shape_meant names query.shape in
       let next = with_names now (query_names query) in
       let is : next ≡ names = ap (with_names now) (sym (append-nil (query_names query))) ∙ e in
-      ap (λ (l : List Token). job_at (steps (put now done at.Query) l)) (sym (append-nil (query_written query)))
-      ∙ ap job_at (query_read names short done now query [] [] e (h 0 (query_meant names query) (omega arith)).shape)
-      ∙ ends names short done shape query.source next
-      ∙ ap (λ (l : List (List ℕ)). Some (record { names = l; datasets = []; queries = done ++ query_of shape ∷ [] })) is
-  queries_read now done query (other ∷ queries) e h few =
+      ap (λ (l : List Token). job_at (steps (put now datasets done at.Query) l)) (sym (append-nil (query_written query)))
+      ∙ ap job_at (query_read names short datasets done now query [] [] e (h 0 query (omega arith)) (right 0 query (omega arith)).source)
+      ∙ ends names short datasets done shape query.source next
+      ∙ ap (λ (l : List (List ℕ)). Some (record { names = l; datasets = datasets; queries = done ++ query_meant names (dataset_names datasets) query ∷ [] })) is
+  queries_read now done query (other ∷ queries) e h right few =
       let shape = shape_meant names query.shape in
       let next = with_names now (query_names query) in
       let more = separated marks.Semicolon query_written (other ∷ queries) in
-      let all : List Query = done ++ query_of shape ∷ [] in
-      ap job_at (query_read names short done now query (flat_map query_names (other ∷ queries)) (Fixed marks.Semicolon ∷ more) e (h 0 (query_meant names query) (omega arith)).shape)
-      ∙ ap job_at (semicolon_taken names short done shape query.source next more (omega (arith, few)))
-      ∙ queries_read next all other queries (sym (with_names-append (query_names query) (flat_map query_names (other ∷ queries)) now) ∙ e) (λ k d lt. h (suc k) d (omega (arith, lt))) (omega (arith, few, length-append done (query_of shape ∷ [])))
-      ∙ ap (λ (l : List Query). Some (record { names = names; datasets = []; queries = l })) (append_assoc done (query_of shape ∷ []) (map (query_meant names) (other ∷ queries)))
+      let one = query_meant names (dataset_names datasets) query in
+      let all : List Query = done ++ one ∷ [] in
+      ap job_at (query_read names short datasets done now query (flat_map query_names (other ∷ queries)) (Fixed marks.Semicolon ∷ more) e (h 0 query (omega arith)) (right 0 query (omega arith)).source)
+      ∙ ap job_at (semicolon_taken names short datasets done shape query.source next more (omega (arith, few)))
+      ∙ queries_read next all other queries (sym (with_names-append (query_names query) (flat_map query_names (other ∷ queries)) now) ∙ e) (λ k d lt. h (suc k) d (omega (arith, lt))) (λ k d lt. right (suc k) d (omega (arith, lt))) (omega (arith, few, length-append done (one ∷ [])))
+      ∙ ap (λ (l : List Query). Some (record { names = names; datasets = datasets; queries = l })) (append_assoc done (one ∷ []) (map (query_meant names (dataset_names datasets)) (other ∷ queries)))
 
-pub written_read : (job : WrittenJob) → IsJob (job_meant job) → job_of (job_written job) ≡ Some (job_meant job)
-written_read job h = by job.queries refl
+-- ---- datasets
+
+-- where a dataset may come a query may come
+query_starts : (now : List (List ℕ)) (datasets : List Dataset) (queries : List Query) (shape : WrittenShape) (rest : List Token) → steps (put now datasets queries at.Start) (shape_written shape ++ rest) ≡ steps (put now datasets queries at.Query) (shape_written shape ++ rest)
+unfolding steps step
+query_starts now datasets queries (group columns aggs) rest = refl
+query_starts now datasets queries (order keys columns) rest = refl
+
+queries_start : (now : List (List ℕ)) (datasets : List Dataset) (done : List Query) (query : WrittenQuery) (queries : List WrittenQuery)
+    → steps (put now datasets done at.Start) (separated marks.Semicolon query_written (query ∷ queries)) ≡ steps (put now datasets done at.Query) (separated marks.Semicolon query_written (query ∷ queries))
+queries_start now datasets done query [] = query_starts now datasets done query.shape (from_written query.source)
+queries_start now datasets done query (other ∷ queries) =
+    let more = Fixed marks.Semicolon ∷ separated marks.Semicolon query_written (other ∷ queries) in
+    ap (steps (put now datasets done at.Start)) (append_assoc (shape_written query.shape) (from_written query.source) more)
+    ∙ query_starts now datasets done query.shape (from_written query.source ++ more)
+    ∙ ap (steps (put now datasets done at.Query)) (sym (append_assoc (shape_written query.shape) (from_written query.source) more))
+
+module _ (now : List (List ℕ)) (done : List Dataset) where
+  mark_read : (place : At) (mark : Mark) (next : State) (rest : List Token) → after_mark (record { names = now; datasets = done; queries = [] }) place mark ≡ Some next → steps (put now done [] place) (Fixed mark ∷ rest) ≡ steps next rest
+  unfolding step
+  mark_read place mark next rest e = step_then _ _ (Fixed mark) rest e
+
+  word_read : (place : At) (name : List ℕ) (next : State) (rest : List Token) → after_word (record { names = now; datasets = done; queries = [] }) place name ≡ Some next → steps (put now done [] place) (Word name ∷ rest) ≡ steps next rest
+  unfolding step
+  word_read place name next rest e = step_then _ _ (Word name) rest e
+
+  parent_read : (name : List ℕ) (source : WrittenSource) (rest : List Token) → IsSourceRight (dataset_names done) source
+      → steps (put now done [] (at.DatasetSource name)) (source_written source ++ rest) ≡ steps (put now done [] (at.Made (made_from name (source_meant (dataset_names done) source)))) rest
+  parent_read name input rest h = mark_read (at.DatasetSource name) marks.Input (put now done [] (at.Made (made_from name 0))) rest refl
+  parent_read name (by_name source) rest h = word_read (at.DatasetSource name) source (put now done [] (at.Made (made_from name (place_of (dataset_names done) source + 1)))) rest (rw h refl)
+
+  level_read : (name : List ℕ) (parent : ℕ) (level : Option Level) (rest : List Token)
+      → steps (put now done [] (at.Made (made_from name parent))) (keep_written level ++ Fixed marks.Semicolon ∷ rest) ≡ steps (put now (done ++ record { name = name; parent = parent; filter = None; level = level } ∷ []) [] at.Start) rest
+  level_read name parent None rest = mark_read (at.Made (made_from name parent)) marks.Semicolon (put now (done ++ made_from name parent ∷ []) [] at.Start) rest refl
+  level_read name parent (Some levels.Memory) rest =
+      let dataset = made_from name parent in
+      mark_read (at.Made dataset) marks.Keep (put now done [] (at.Level dataset)) (Fixed marks.Memory ∷ Fixed marks.Semicolon ∷ rest) refl
+      ∙ mark_read (at.Level dataset) marks.Memory (put now done [] (at.Kept (record dataset { level = Some levels.Memory }))) (Fixed marks.Semicolon ∷ rest) refl
+      ∙ mark_read (at.Kept (record dataset { level = Some levels.Memory })) marks.Semicolon (put now (done ++ record dataset { level = Some levels.Memory } ∷ []) [] at.Start) rest refl
+  level_read name parent (Some levels.Disk) rest =
+      let dataset = made_from name parent in
+      mark_read (at.Made dataset) marks.Keep (put now done [] (at.Level dataset)) (Fixed marks.Disk ∷ Fixed marks.Semicolon ∷ rest) refl
+      ∙ mark_read (at.Level dataset) marks.Disk (put now done [] (at.Kept (record dataset { level = Some levels.Disk }))) (Fixed marks.Semicolon ∷ rest) refl
+      ∙ mark_read (at.Kept (record dataset { level = Some levels.Disk })) marks.Semicolon (put now (done ++ record dataset { level = Some levels.Disk } ∷ []) [] at.Start) rest refl
+
+  dataset_read : (dataset : WrittenDataset) (rest : List Token) → IsDatasetRight (dataset_names done) dataset → length done < 8
+      → steps (put now done [] at.Start) (dataset_written dataset ++ Fixed marks.Semicolon ∷ rest) ≡ steps (put now (done ++ dataset_meant (dataset_names done) dataset ∷ []) [] at.Start) rest
+  dataset_read dataset rest h few =
+      let name = dataset.name in
+      let source = source_written dataset.source in
+      let level = keep_written dataset.level in
+      let parent = source_meant (dataset_names done) dataset.source in
+      let back : List Token = (source ++ level) ++ Fixed marks.Semicolon ∷ rest in
+      mark_read at.Start marks.Let (put now done [] at.DatasetName) (Word name ∷ Fixed marks.Equal ∷ back) (rw (lt-ltb (length done) 8 few) refl)
+      ∙ word_read at.DatasetName name (put now done [] (at.DatasetEquals name)) (Fixed marks.Equal ∷ back) (rw (le-leb (length name) 64 h.short, h.new) refl)
+      ∙ mark_read (at.DatasetEquals name) marks.Equal (put now done [] (at.DatasetSource name)) back refl
+      ∙ ap (steps (put now done [] (at.DatasetSource name))) (append_assoc source level (Fixed marks.Semicolon ∷ rest))
+      ∙ parent_read name dataset.source (level ++ Fixed marks.Semicolon ∷ rest) h.source
+      ∙ level_read name parent dataset.level rest
+
+datasets_read : (now : List (List ℕ)) (all : List (List ℕ)) (done : List Dataset) (datasets : List WrittenDataset) (rest : List Token) → all ≡ dataset_names done ++ names_written datasets
+    → AreDatasets (dataset_names done) datasets → length done + length datasets ≤ 8
+    → steps (put now done [] at.Start) (ended_by marks.Semicolon dataset_written datasets ++ rest) ≡ steps (put now (done ++ map (dataset_meant all) datasets) [] at.Start) rest
+datasets_read now all done [] rest e h few = ap (λ (l : List Dataset). steps (put now l [] at.Start) rest) (sym (append-nil done))
+datasets_read now all done (dataset ∷ datasets) rest e h few =
+    let more = ended_by marks.Semicolon dataset_written datasets in
+    let one = dataset_meant all dataset in
+    let next : List Dataset = done ++ one ∷ [] in
+    let names : dataset_names next ≡ dataset_names done ++ dataset.name ∷ [] = map-append (λ dataset. dataset.name) done (one ∷ []) in
+    let parent : source_meant (dataset_names done) dataset.source ≡ source_meant all dataset.source =
+      sym (source_same (dataset_names done) (names_written (dataset ∷ datasets)) dataset.source h.0.source) ∙ ap (λ (l : List (List ℕ)). source_meant l dataset.source) (sym e) in
+    ap (steps (put now done [] at.Start)) (append_assoc (dataset_written dataset) (Fixed marks.Semicolon ∷ more) rest)
+    ∙ dataset_read now done dataset (more ++ rest) h.0 (omega (arith, few))
+    ∙ ap (λ (n : ℕ). steps (put now (done ++ record { name = dataset.name; parent = n; filter = None; level = dataset.level } ∷ []) [] at.Start) (more ++ rest)) parent
+    ∙ datasets_read now all next datasets rest (e ∙ sym (append_assoc (dataset_names done) (dataset.name ∷ []) (names_written datasets)) ∙ ap (λ (l : List (List ℕ)). l ++ names_written datasets) (sym names))
+    (subst (λ (l : List (List ℕ)). AreDatasets l datasets) (sym names) h.1) (omega (arith, few, length-append done (one ∷ [])))
+    ∙ ap (λ (l : List Dataset). steps (put now l [] at.Start) rest) (append_assoc done (one ∷ []) (map (dataset_meant all) datasets))
+
+pub written_read : (job : WrittenJob) → IsRight job → IsJob (job_meant job) → job_of (job_written job) ≡ Some (job_meant job)
+written_read job right h = by job.queries refl
   where
     by : (queries : List WrittenQuery) → job.queries ≡ queries → job_of (job_written job) ≡ Some (job_meant job)
-    by [] e = absurd (omega (arith, h.several.some, length-map job.queries (query_meant (with_names [] (job_names job))), ap length e))
+    by [] e = absurd (omega (arith, right.several.some, ap length e))
     by (query ∷ queries) e =
         let names = with_names [] (job_names job) in
-        ap (λ (l : List WrittenQuery). job_at (steps start (separated marks.Semicolon query_written l))) e
-        ∙ queries_read names h.names [] [] query queries (ap (λ (l : List WrittenQuery). with_names [] (flat_map query_names l)) (sym e))
-        (subst (λ (l : List WrittenQuery). All (IsQuery (length names) 0) (map (query_meant names) l)) e h.queries)
-        (omega (arith, h.several.few, length-map job.queries (query_meant names), ap length e))
-        ∙ ap (λ (l : List WrittenQuery). Some (record { names = names; datasets = []; queries = map (query_meant names) l })) (sym e)
+        let all = names_written job.datasets in
+        let datasets = map (dataset_meant all) job.datasets in
+        let same : dataset_names datasets ≡ all = names_meant all job.datasets in
+        let shapes : All (λ query. IsShape (length names) (shape_meant names query.shape)) job.queries = λ k d lt. (subst (IsQuery (length names) (length datasets)) (get_or-map (query_meant names all) job.queries k d (query_meant names all d) lt) (h.queries k (query_meant names all d) (omega (arith, lt, length-map job.queries (query_meant names all))))).shape in
+        ap (λ (l : List WrittenQuery). job_at (steps start (ended_by marks.Semicolon dataset_written job.datasets ++ separated marks.Semicolon query_written l))) e
+        ∙ ap job_at (datasets_read [] all [] job.datasets (separated marks.Semicolon query_written (query ∷ queries)) refl right.datasets (omega (arith, right.few)))
+        ∙ ap job_at (queries_start [] datasets [] query queries)
+        ∙ queries_read names h.names datasets [] [] query queries (ap (λ (l : List WrittenQuery). with_names [] (flat_map query_names l)) (sym e))
+        (subst (All (λ query. IsShape (length names) (shape_meant names query.shape))) e shapes)
+        (subst (λ (l : List WrittenQuery). All (IsQueryRight (dataset_names datasets)) l) e (subst (λ (l : List (List ℕ)). All (IsQueryRight l) job.queries) (sym same) right.queries))
+        (omega (arith, right.several.few, ap length e))
+        ∙ ap (λ (l : List WrittenQuery). Some (record { names = names; datasets = datasets; queries = map (query_meant names (dataset_names datasets)) l })) (sym e)
+        ∙ ap (λ (l : List (List ℕ)). Some (record { names = names; datasets = datasets; queries = map (query_meant names l) job.queries })) same

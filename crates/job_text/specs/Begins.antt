@@ -3,11 +3,11 @@
 use Rattle.std.specs.Prelude.{List, [], ◌∷◌, ◌++◌, Option, Some, None, All, IsSome, option_and_then}
 use Rattle.job_text.specs.declared.token.Token.{Token}
 use Rattle.job_text.specs.declared.job.Job.{Job}
-use Rattle.job_text.specs.declared.job.Shape.{Shape}
+use Rattle.job_text.specs.declared.job.Query.{Query}
 use Rattle.job_text.specs.declared.state.Read.{Read}
 use Rattle.job_text.specs.declared.state.State.{State}
 use Rattle.job_text.specs.Scan.{IsSpelled}
-use Rattle.job_text.specs.Step.{step, shape_of, query_of, start}
+use Rattle.job_text.specs.Step.{step, last_query, start}
 
 -- what the tokens lead to
 unfoldable pub steps : State → List Token → Option State
@@ -15,14 +15,14 @@ steps s [] = Some s
 steps s (t ∷ ts) = option_and_then (λ next. steps next ts) (step s t)
 
 -- the job, with the query at hand as its last
-abbrev pub job_with : Read → Option Shape → Option Job
+abbrev pub job_with : Read → Option Query → Option Job
 job_with r None = None
-job_with r (Some shape) = Some (record { names = r.names; datasets = []; queries = r.queries ++ query_of shape ∷ [] })
+job_with r (Some query) = Some (record { names = r.names; datasets = r.datasets; queries = r.queries ++ query ∷ [] })
 
 -- the job that ends here, where one may
 abbrev pub job_at : Option State → Option Job
 job_at None = None
-job_at (Some s) = job_with s.read (shape_of s.at)
+job_at (Some s) = job_with s.read (last_query s.at)
 
 -- the job of these tokens, where they are one
 abbrev pub job_of : List Token → Option Job

@@ -1,10 +1,11 @@
 -- Columns as places among a job's names, and what stands in a list already.
 -- This project's own.
-use Rattle.std.specs.Prelude.{ℕ, ◌+◌, List, [], ◌∷◌, length, Bool, true, false, ◌&&◌, ◌==◌, nat_le, if◌then◌else◌, Option, Some, None}
+use Rattle.std.specs.Prelude.{ℕ, ◌+◌, List, [], ◌∷◌, length, map, Bool, true, false, ◌&&◌, ◌==◌, nat_le, nat_lt, if◌then◌else◌, Option, Some, None}
 use Rattle.std.specs.Str.{bytes_eq}
 use Rattle.std.specs.List.{list_any}
 use Rattle.aggregate.specs.declared.agg_list.Agg.{Agg}
 use Rattle.aggregate.specs.declared.agg_list.Agg.TheVariants as aggs
+use Rattle.job_text.specs.declared.job.Dataset.{Dataset}
 use Rattle.job_text.specs.declared.job.Part.{Part}
 use Rattle.job_text.specs.declared.job.KeyItem.{KeyItem}
 use Rattle.job_text.specs.declared.state.Read.{Read}
@@ -13,6 +14,19 @@ use Rattle.job_text.specs.declared.state.Read.{Read}
 abbrev pub place_of : List (List ℕ) → List ℕ → ℕ
 place_of [] name = 0
 place_of (first ∷ names) name = if bytes_eq first name then 0 else place_of names name + 1
+
+-- the name is one of these
+abbrev pub is_among : List (List ℕ) → List ℕ → Bool
+is_among names name = nat_lt (place_of names name) (length names)
+
+-- the names of datasets
+abbrev pub dataset_names : List Dataset → List (List ℕ)
+dataset_names datasets = map (λ dataset. dataset.name) datasets
+
+-- the number of a dataset, from 1 on, where there is one of this name
+abbrev pub number_of : List Dataset → List ℕ → Option ℕ
+number_of datasets name =
+    if is_among (dataset_names datasets) name then Some (place_of (dataset_names datasets) name + 1) else None
 
 -- the names with this one, at the end where it is new
 abbrev pub with_name : List (List ℕ) → List ℕ → List (List ℕ)

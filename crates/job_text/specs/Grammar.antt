@@ -1,20 +1,23 @@
 -- The grammar of jobs: how a job may be written, by its tokens, and which job that is.
 -- This project's own.
-use Rattle.std.specs.Prelude.{◌≡◌, ℕ, ◌≤◌, List, [], ◌∷◌, ◌++◌, length, map, flat_map, All, IfSome, Bool, if◌then◌else◌, Option, Some, None}
+use Rattle.std.specs.Prelude.{⊤, ◌≡◌, ℕ, ◌+◌, ◌≤◌, List, [], ◌∷◌, ◌++◌, length, map, flat_map, All, IfSome, Bool, true, false, if◌then◌else◌, Option, Some, None}
 use Rattle.std.specs.Option.{option_map}
+use Rattle.pool_ledger.specs.declared.entry.Level.{Level}
+use Rattle.pool_ledger.specs.declared.entry.Level.TheVariants as levels
 use Rattle.aggregate.specs.declared.agg_list.Agg.{Agg}
 use Rattle.aggregate.specs.declared.agg_list.Agg.TheVariants as aggs
 use Rattle.job_text.specs.declared.mark.Mark.{Mark}
 use Rattle.job_text.specs.declared.mark.Mark.TheVariants as marks
 use Rattle.job_text.specs.declared.token.Token.{Token}
 use Rattle.job_text.specs.declared.token.Token.TheVariants.{Fixed, Word, Quoted}
+use Rattle.job_text.specs.declared.job.Dataset.{Dataset}
 use Rattle.job_text.specs.declared.job.Job.{Job}
 use Rattle.job_text.specs.declared.job.KeyItem.{KeyItem}
 use Rattle.job_text.specs.declared.job.Part.{Part}
 use Rattle.job_text.specs.declared.job.Query.{Query}
 use Rattle.job_text.specs.declared.job.Shape.{Shape}
 use Rattle.job_text.specs.declared.job.Shape.TheVariants as shapes
-use Rattle.job_text.specs.Columns.{place_of, with_names}
+use Rattle.job_text.specs.Columns.{place_of, is_among, with_names}
 use Rattle.job_text.specs.Jobs.{IsShortList, IsDistinct}
 
 -- ---- what may be written, each choice a case or a part
@@ -72,12 +75,14 @@ shape_written (group columns aggs) =
 shape_written (order keys columns) =
     Fixed marks.Order ∷ separated marks.Comma key_written keys ++ Fixed marks.Colon ∷ separated marks.Comma column_written columns
 
--- source = "input"
+-- source = "input" | name
 pub data WrittenSource : Type 0 where
   input : WrittenSource
+  by_name : List ℕ → WrittenSource
 
 abbrev pub source_written : WrittenSource → List Token
 source_written input = Fixed marks.Input ∷ []
+source_written (by_name name) = Word name ∷ []
 
 -- [ "from" source ]
 abbrev pub from_written : Option WrittenSource → List Token
@@ -92,12 +97,38 @@ pub record WrittenQuery : Type 0 where
 abbrev pub query_written : WrittenQuery → List Token
 query_written query = shape_written query.shape ++ from_written query.source
 
--- job = query { ";" query }
+-- level = "memory" | "disk"
+abbrev pub level_written : Level → List Token
+level_written levels.Memory = Fixed marks.Memory ∷ []
+level_written levels.Disk = Fixed marks.Disk ∷ []
+
+-- [ "keep" level ]
+abbrev pub keep_written : Option Level → List Token
+keep_written None = []
+keep_written (Some level) = Fixed marks.Keep ∷ level_written level
+
+-- dataset = "let" name "=" source [ "keep" level ]
+pub record WrittenDataset : Type 0 where
+  pub name : List ℕ
+  pub source : WrittenSource
+  pub level : Option Level
+
+abbrev pub dataset_written : WrittenDataset → List Token
+dataset_written dataset =
+    Fixed marks.Let ∷ Word dataset.name ∷ Fixed marks.Equal ∷ source_written dataset.source ++ keep_written dataset.level
+
+-- { item sign }
+abbrev pub ended_by : {A : Type 0} → Mark → (A → List Token) → List A → List Token
+ended_by sign tokens [] = []
+ended_by sign tokens (item ∷ more) = tokens item ++ Fixed sign ∷ ended_by sign tokens more
+
+-- job = { dataset ";" } query { ";" query }
 pub record WrittenJob : Type 0 where
+  pub datasets : List WrittenDataset
   pub queries : List WrittenQuery
 
 abbrev pub job_written : WrittenJob → List Token
-job_written job = separated marks.Semicolon query_written job.queries
+job_written job = ended_by marks.Semicolon dataset_written job.datasets ++ separated marks.Semicolon query_written job.queries
 
 -- ---- the further rules, on the bytes of names
 
@@ -144,10 +175,35 @@ abbrev pub IsShapeRight : WrittenShape → Type 0
 IsShapeRight (group columns aggs) = AreColumns columns × AreAggs aggs
 IsShapeRight (order keys columns) = AreColumns (map (λ key. key.column) keys) × AreColumns columns
 
--- one to eight queries
+-- a source that is named is one of these datasets
+abbrev pub IsSourceRight : List (List ℕ) → WrittenSource → Type 0
+IsSourceRight datasets input = ⊤
+IsSourceRight datasets (by_name name) = is_among datasets name ≡ true
+
+-- the name of a dataset has at most 64 bytes, and none before has it; its source stands before it
+pub record IsDatasetRight (before : List (List ℕ)) (dataset : WrittenDataset) : Type 0 where
+  pub short : length dataset.name ≤ 64
+  pub new : is_among before dataset.name ≡ false
+  pub source : IsSourceRight before dataset.source
+
+-- so each dataset, behind those before it
+abbrev pub AreDatasets : List (List ℕ) → List WrittenDataset → Type 0
+AreDatasets before [] = ⊤
+AreDatasets before (dataset ∷ more) = IsDatasetRight before dataset × AreDatasets (before ++ dataset.name ∷ []) more
+
+abbrev pub names_written : List WrittenDataset → List (List ℕ)
+names_written datasets = map (λ dataset. dataset.name) datasets
+
+pub record IsQueryRight (datasets : List (List ℕ)) (query : WrittenQuery) : Type 0 where
+  pub shape : IsShapeRight query.shape
+  pub source : IfSome query.source (IsSourceRight datasets)
+
+-- at most eight datasets, and one to eight queries
 pub record IsRight (job : WrittenJob) : Type 0 where
+  pub few : length job.datasets ≤ 8
+  pub datasets : AreDatasets [] job.datasets
   pub several : IsShortList job.queries
-  pub shapes : All (λ query. IsShapeRight query.shape) job.queries
+  pub queries : All (IsQueryRight (names_written job.datasets)) job.queries
 
 -- ---- which job is written
 
@@ -185,14 +241,33 @@ abbrev pub shape_meant : List (List ℕ) → WrittenShape → Shape
 shape_meant names (group columns aggs) = shapes.Group (map (column_meant names) columns) (map (agg_meant names) aggs)
 shape_meant names (order keys columns) = shapes.Order (map (key_meant names) keys) (map (column_meant names) columns)
 
--- without a source a query is over the input, which is 0
-abbrev pub query_meant : List (List ℕ) → WrittenQuery → Query
-query_meant names query = record { dataset = 0; shape = shape_meant names query.shape }
+-- the input is 0, and the datasets follow in their order
+abbrev pub source_meant : List (List ℕ) → WrittenSource → ℕ
+source_meant datasets input = 0
+source_meant datasets (by_name name) = place_of datasets name + 1
+
+-- a source that is left out is the input
+abbrev pub from_meant : List (List ℕ) → Option WrittenSource → ℕ
+from_meant datasets None = 0
+from_meant datasets (Some source) = source_meant datasets source
+
+abbrev pub dataset_meant : List (List ℕ) → WrittenDataset → Dataset
+dataset_meant datasets dataset =
+    record { name = dataset.name; parent = source_meant datasets dataset.source; filter = None; level = dataset.level }
+
+abbrev pub query_meant : List (List ℕ) → List (List ℕ) → WrittenQuery → Query
+query_meant names datasets query =
+    record { dataset = from_meant datasets query.source; shape = shape_meant names query.shape }
 
 abbrev pub job_meant : WrittenJob → Job
 job_meant job =
     let names = with_names [] (job_names job) in
-    record { names = names; datasets = []; queries = map (query_meant names) job.queries }
+    let datasets = names_written job.datasets in
+    record {
+      names = names;
+      datasets = map (dataset_meant datasets) job.datasets;
+      queries = map (query_meant names datasets) job.queries;
+    }
 
 -- ---- the grammar
 

@@ -1,9 +1,10 @@
 -- What holds of each job that has a text: how long its lists are, and that a column is one of its names.
 -- This project's own.
-use Rattle.std.specs.Prelude.{◌≡◌, ◌≢◌, ℕ, ◌≤◌, ◌<◌, not, Bool, true, false, List, [], ◌++◌, All, AllPairs, IfSome, is_some, length, map, flat_map, slice_index_or}
+use Rattle.std.specs.Prelude.{◌≡◌, ◌≢◌, ℕ, ◌≤◌, ◌<◌, not, Bool, true, false, List, [], ◌++◌, All, AllPairs, IfSome, is_some, length, map, flat_map, slice_index_or, nat_eq, ◌&&◌}
 use Rattle.std.specs.Option.{option_to_list}
 use Rattle.aggregate.specs.declared.agg_list.Agg.{Agg}
 use Rattle.aggregate.specs.declared.agg_list.Agg.TheVariants.{Count, Sum, Min, Max}
+use Rattle.job_text.specs.declared.job.Dataset.{Dataset}
 use Rattle.job_text.specs.declared.job.Job.{Job}
 use Rattle.job_text.specs.declared.job.Part.{Part}
 use Rattle.job_text.specs.declared.job.Query.{Query}
@@ -58,11 +59,23 @@ shape_places (Order keys columns) = map (λ key. key.column) keys ++ columns
 abbrev pub columns_named : Job → List (List ℕ)
 columns_named job = map (λ place. slice_index_or job.names place []) (flat_map (λ query. shape_places query.shape) job.queries)
 
+-- datasets: none has the name of another, each is made of the input or of one before it, and names have at most
+-- 64 bytes
+pub record AreMade (datasets : List Dataset) : Type 0 where
+  pub few : length datasets ≤ 8
+  pub short : All (λ dataset. length dataset.name ≤ 64) datasets
+  pub new : IsDistinct (map (λ dataset. dataset.name) datasets)
+  pub earlier : (place : ℕ) (d : Dataset) → place < length datasets → (slice_index_or datasets place d).parent ≤ place
+
+-- one query over the input, without datasets
+abbrev pub is_plain_job : Job → Bool
+is_plain_job job = nat_eq (length job.datasets) 0 && nat_eq (length job.queries) 1
+
 -- what each job has that was read from a text
 pub record IsJob (job : Job) : Type 0 where
   pub names : All (λ name. length name ≤ 1024) job.names
   pub first : with_names [] (columns_named job) ≡ job.names
   pub distinct : IsDistinct job.names
-  pub datasets : length job.datasets ≤ 8
+  pub datasets : AreMade job.datasets
   pub several : IsShortList job.queries
   pub queries : All (IsQuery (length job.names) (length job.datasets)) job.queries

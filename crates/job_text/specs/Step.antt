@@ -1,6 +1,7 @@
 -- Reading a job token by token: what each token leads to, or None where it is refused.
 -- This project's own.
-use Rattle.std.specs.Prelude.{ℕ, ◌+◌, List, [], ◌∷◌, ◌++◌, length, Bool, true, false, ◌&&◌, nat_lt, if◌then◌else◌, Option, Some, None}
+use Rattle.std.specs.Prelude.{ℕ, ◌+◌, List, [], ◌∷◌, ◌++◌, length, Bool, true, false, ◌&&◌, not, nat_lt, nat_le, if◌then◌else◌, Option, Some, None}
+use Rattle.pool_ledger.specs.declared.entry.Level.TheVariants as levels
 use Rattle.aggregate.specs.declared.agg_list.Agg.TheVariants as aggs
 use Rattle.job_text.specs.declared.mark.Mark.{Mark}
 use Rattle.job_text.specs.declared.mark.Mark.TheVariants as marks
@@ -11,11 +12,12 @@ use Rattle.job_text.specs.declared.job.KeyItem.{KeyItem}
 use Rattle.job_text.specs.declared.job.Shape.{Shape}
 use Rattle.job_text.specs.declared.job.Shape.TheVariants as shapes
 use Rattle.job_text.specs.declared.job.Query.{Query}
+use Rattle.job_text.specs.declared.job.Dataset.{Dataset}
 use Rattle.job_text.specs.declared.state.At.{At}
 use Rattle.job_text.specs.declared.state.At.TheVariants as at
 use Rattle.job_text.specs.declared.state.Read.{Read}
 use Rattle.job_text.specs.declared.state.State.{State}
-use Rattle.job_text.specs.Columns.{place_of, with_name, is_short, has_column, has_key, has_part}
+use Rattle.job_text.specs.Columns.{place_of, dataset_names, is_among, number_of, with_name, is_short, has_column, has_key, has_part}
 
 -- what was read stays, and this comes next
 abbrev pub moved : Read → At → Option State
@@ -33,23 +35,69 @@ named r is_taken next (Some name) =
     then Some (record { read = record r { names = with_name r.names name }; at = next (place_of r.names name) })
     else None
 
--- a query over the input
-abbrev pub query_of : Shape → Query
-query_of shape = record { dataset = 0; shape = shape }
-
--- behind a query that may end here
-abbrev pub ended : Read → Shape → Mark → Option State
-ended r shape marks.Semicolon =
-    if nat_lt (length r.queries + 1) 8
-    then Some (record { read = record r { queries = r.queries ++ query_of shape ∷ [] }; at = at.Query })
-    else None
-ended r shape _ = None
-
 -- where a query must come
 abbrev pub after_query : Read → Mark → Option State
 after_query r marks.Group = moved r (at.GroupColumn [])
 after_query r marks.Order = moved r (at.Key [])
 after_query r _ = None
+
+-- ---- datasets
+
+-- where a dataset or a query must come: there are at most eight datasets
+abbrev pub after_start : Read → Mark → Option State
+after_start r marks.Let = if nat_lt (length r.datasets) 8 then moved r at.DatasetName else None
+after_start r mark = after_query r mark
+
+-- a dataset's name, which no other has
+abbrev pub after_name : Read → List ℕ → Option State
+after_name r name =
+    if nat_le (length name) 64 && not (is_among (dataset_names r.datasets) name)
+    then moved r (at.DatasetEquals name)
+    else None
+
+-- behind a dataset's name
+abbrev pub after_equals : Read → List ℕ → Mark → Option State
+after_equals r name marks.Equal = moved r (at.DatasetSource name)
+after_equals r name _ = None
+
+-- a dataset as it is made from another, or from the input
+abbrev pub made_from : List ℕ → ℕ → Dataset
+made_from name parent = record { name = name; parent = parent; filter = None; level = None }
+
+-- where a dataset's source must come
+abbrev pub after_parent : Read → List ℕ → Option ℕ → Option State
+after_parent r name None = None
+after_parent r name (Some parent) = moved r (at.Made (made_from name parent))
+
+-- behind a dataset that may end here
+abbrev pub dataset_ended : Read → Dataset → Mark → Option State
+dataset_ended r dataset marks.Semicolon = Some (record { read = record r { datasets = r.datasets ++ dataset ∷ [] }; at = at.Start })
+dataset_ended r dataset _ = None
+
+-- behind a dataset's source
+abbrev pub after_made : Read → Dataset → Mark → Option State
+after_made r dataset marks.Keep = moved r (at.Level dataset)
+after_made r dataset mark = dataset_ended r dataset mark
+
+-- behind `keep`
+abbrev pub after_keep : Read → Dataset → Mark → Option State
+after_keep r dataset marks.Memory = moved r (at.Kept (record dataset { level = Some levels.Memory }))
+after_keep r dataset marks.Disk = moved r (at.Kept (record dataset { level = Some levels.Disk }))
+after_keep r dataset _ = None
+
+-- ---- queries
+
+-- a query over a dataset, or over the input
+abbrev pub query_of : ℕ → Shape → Query
+query_of dataset shape = record { dataset = dataset; shape = shape }
+
+-- behind a query that may end here
+abbrev pub ended : Read → Query → Mark → Option State
+ended r query marks.Semicolon =
+    if nat_lt (length r.queries + 1) 8
+    then Some (record { read = record r { queries = r.queries ++ query ∷ [] }; at = at.Query })
+    else None
+ended r query _ = None
 
 -- behind a column of a group
 abbrev pub after_group_columns : Read → List ℕ → Mark → Option State
@@ -73,7 +121,7 @@ after_part r columns parts _ = None
 abbrev pub after_parts : Read → List ℕ → List Part → Mark → Option State
 after_parts r columns parts marks.Comma = one_more r parts (at.Part columns parts)
 after_parts r columns parts marks.From = moved r (at.Source (shapes.Group columns parts))
-after_parts r columns parts mark = ended r (shapes.Group columns parts) mark
+after_parts r columns parts mark = ended r (query_of 0 (shapes.Group columns parts)) mark
 
 -- the keys with one more
 abbrev pub key : List KeyItem → ℕ → Bool → Bool → List KeyItem
@@ -94,15 +142,27 @@ after_key_column r keys column number mark = after_keys r (key keys column numbe
 abbrev pub after_order_columns : Read → List KeyItem → List ℕ → Mark → Option State
 after_order_columns r keys columns marks.Comma = one_more r columns (at.OrderColumn keys columns)
 after_order_columns r keys columns marks.From = moved r (at.Source (shapes.Order keys columns))
-after_order_columns r keys columns mark = ended r (shapes.Order keys columns) mark
+after_order_columns r keys columns mark = ended r (query_of 0 (shapes.Order keys columns)) mark
 
--- behind `from`
-abbrev pub after_source : Read → Shape → Mark → Option State
-after_source r shape marks.Input = moved r (at.Sourced shape)
-after_source r shape _ = None
+-- the source of a query
+abbrev pub after_source : Read → Shape → Option ℕ → Option State
+after_source r shape None = None
+after_source r shape (Some dataset) = moved r (at.Sourced (query_of dataset shape))
+
+-- `input`, which is 0
+abbrev pub input_as : Mark → Option ℕ
+input_as marks.Input = Some 0
+input_as _ = None
 
 -- a reserved word or a sign
 abbrev pub after_mark : Read → At → Mark → Option State
+after_mark r at.Start mark = after_start r mark
+after_mark r at.DatasetName mark = None
+after_mark r (at.DatasetEquals name) mark = after_equals r name mark
+after_mark r (at.DatasetSource name) mark = after_parent r name (input_as mark)
+after_mark r (at.Made dataset) mark = after_made r dataset mark
+after_mark r (at.Level dataset) mark = after_keep r dataset mark
+after_mark r (at.Kept dataset) mark = dataset_ended r dataset mark
 after_mark r at.Query mark = after_query r mark
 after_mark r (at.GroupColumn columns) mark = None
 after_mark r (at.GroupColumns columns) mark = after_group_columns r columns mark
@@ -116,8 +176,8 @@ after_mark r (at.KeyColumn keys column number) mark = after_key_column r keys co
 after_mark r (at.Keys keys) mark = after_keys r keys mark
 after_mark r (at.OrderColumn keys columns) mark = None
 after_mark r (at.OrderColumns keys columns) mark = after_order_columns r keys columns mark
-after_mark r (at.Source shape) mark = after_source r shape mark
-after_mark r (at.Sourced shape) mark = ended r shape mark
+after_mark r (at.Source shape) mark = after_source r shape (input_as mark)
+after_mark r (at.Sourced query) mark = ended r query mark
 
 -- a column
 abbrev pub after_column : Read → At → Option (List ℕ) → Option State
@@ -130,21 +190,28 @@ after_column r (at.NumberKey keys) column = named r (has_key keys) (λ c. at.Key
 after_column r (at.OrderColumn keys columns) column = named r (has_column columns) (λ c. at.OrderColumns keys (columns ++ c ∷ [])) column
 after_column r _ column = None
 
+-- a word that isn't reserved
+abbrev pub after_word : Read → At → List ℕ → Option State
+after_word r at.DatasetName word = after_name r word
+after_word r (at.DatasetSource name) word = after_parent r name (number_of r.datasets word)
+after_word r (at.Source shape) word = after_source r shape (number_of r.datasets word)
+after_word r place word = after_column r place (Some word)
+
 -- what follows a token, or None where it is refused
 unfoldable pub step : State → Token → Option State
 step s (Fixed mark) = after_mark s.read s.at mark
-step s (Word name) = after_column s.read s.at (Some name)
+step s (Word name) = after_word s.read s.at name
 step s (Quoted name) = after_column s.read s.at (Some name)
 step s (Text text) = None
 step s (Whole value) = None
 
 -- the query at hand, where it may end here
-abbrev pub shape_of : At → Option Shape
-shape_of (at.Parts columns parts) = Some (shapes.Group columns parts)
-shape_of (at.OrderColumns keys columns) = Some (shapes.Order keys columns)
-shape_of (at.Sourced shape) = Some shape
-shape_of _ = None
+abbrev pub last_query : At → Option Query
+last_query (at.Parts columns parts) = Some (query_of 0 (shapes.Group columns parts))
+last_query (at.OrderColumns keys columns) = Some (query_of 0 (shapes.Order keys columns))
+last_query (at.Sourced query) = Some query
+last_query _ = None
 
 -- nothing was read
 abbrev pub start : State
-start = record { read = record { names = []; queries = [] }; at = at.Query }
+start = record { read = record { names = []; datasets = []; queries = [] }; at = at.Start }

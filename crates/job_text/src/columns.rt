@@ -56,9 +56,20 @@ fn named(read: Read, name: Name) -> Result<Option<(Read, u32)>, AllocError>
     if name.text().len() > MAX_LENGTH {
         return Ok(None);
     }
-    let (names, column) = place(read.names, name)?;
-    let queries = read.queries;
-    Ok(Some((Read { names, queries }, column)))
+    let Read {
+        names,
+        datasets,
+        queries,
+    } = read;
+    let (names, column) = place(names, name)?;
+    Ok(Some((
+        Read {
+            names,
+            datasets,
+            queries,
+        },
+        column,
+    )))
 }
 
 fn group_column(read: Read, columns: PlaceList, name: Name) -> Result<Option<State>, AllocError>

@@ -1,5 +1,9 @@
 //! Jobs, as they are read from their texts.
 
+ghost use Rattle.std.specs.Bool.{OnTrue};
+ghost use Rattle.std.specs.Prelude.{◌≡◌, [], length};
+ghost use Rattle.job_text.specs.Jobs.{is_plain_job};
+
 use aggregate::Agg;
 use item_lists::{Listed, Name};
 use pool_ledger::Level;
@@ -72,4 +76,15 @@ pub struct Job {
     pub names: NameList,
     pub datasets: DatasetList,
     pub queries: QueryList,
+}
+
+impl Job {
+    /// Whether this is one query over the input, without datasets.
+    pub fn is_plain(&self) -> bool
+        ensures test { result ≡ is_plain_job self.now }
+        ensures none { OnTrue result (self.now.datasets ≡ []) }
+        ensures one { OnTrue result (length self.now.queries ≡ 1) }
+    {
+        self.datasets.items().is_empty() && self.queries.items().len() == 1
+    }
 }

@@ -2,6 +2,7 @@
 #![tactic(auto)]
 
 mod columns;
+mod datasets;
 mod fault;
 mod grammar;
 mod job;

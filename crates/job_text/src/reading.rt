@@ -1,8 +1,8 @@
 //! A job from its text.
 
-ghost use Rattle.std.specs.Prelude.{◌≡◌, ◌≤◌, [], length, IfOk, IfErr, Ok, Some};
+ghost use Rattle.std.specs.Prelude.{◌≡◌, ◌≤◌, length, IfOk, IfErr, Ok, Some};
 ghost use Rattle.job_text.specs.declared.job.Job.{Job};
-ghost use Rattle.job_text.specs.Step.{start as start_state, shape_of};
+ghost use Rattle.job_text.specs.Step.{start as start_state, last_query as query_at};
 ghost use Rattle.job_text.specs.Begins.{job_at};
 ghost use Rattle.job_text.specs.Text.{read_of, Gives, outcome_of, scan};
 ghost use Rattle.job_text.specs.Place.{IsJobText, IsFaultOf};
@@ -12,7 +12,7 @@ use crate::fault::JobFault;
 use crate::job::{Job, Query, Shape};
 use crate::lists::{no_items, with_item};
 use crate::state::{At, Read, State};
-use crate::step::take;
+use crate::step::{over_input, take};
 use crate::tokens::{is_blank, token};
 use std::alloc::{AllocError, Global};
 
@@ -24,37 +24,37 @@ fn start(alloc: Global) -> State
     State {
         read: Read {
             names: no_items(alloc),
+            datasets: no_items(alloc),
             queries: no_items(alloc),
         },
-        at: At::Query,
+        at: At::Start,
     }
 }
 
 /// The query at hand, where it may end here.
-fn shape(at: At) -> Option<Shape>
-    ensures { result ≡ shape_of at }
+fn last_query(at: At) -> Option<Query>
+    ensures { result ≡ query_at at }
 {
     match at {
-        At::Parts(columns, parts) => Some(Shape::Group { columns, parts }),
-        At::OrderColumns(keys, columns) => Some(Shape::Order { keys, columns }),
-        At::Sourced(shape) => Some(shape),
+        At::Parts(columns, parts) => Some(over_input(Shape::Group { columns, parts })),
+        At::OrderColumns(keys, columns) => Some(over_input(Shape::Order { keys, columns })),
+        At::Sourced(query) => Some(query),
         _ => None,
     }
 }
 
 /// The job that was read, where it may end here.
-fn finish(alloc: Global, state: State) -> Result<Option<Job>, AllocError>
+fn finish(state: State) -> Result<Option<Job>, AllocError>
     ensures { IfOk result (λ job. job ≡ job_at (Some state)) }
 {
     let State { read, at } = state;
-    let Some(shape) = shape(at) else {
+    let Some(query) = last_query(at) else {
         return Ok(None);
     };
-    let query = Query { dataset: 0, shape };
     let queries = with_item(read.queries, query)?;
     Ok(Some(Job {
         names: read.names,
-        datasets: no_items(alloc),
+        datasets: read.datasets,
         queries,
     }))
 }
@@ -79,7 +79,7 @@ fn read_short(alloc: Global, text: &str) -> Result<Job, JobFault>
             at += length;
         }
     }
-    match finish(alloc, state)? {
+    match finish(state)? {
         Some(job) => Ok(job),
         None => Err(JobFault::BadJob { place: at as u32 }),
     }
@@ -111,7 +111,6 @@ pub fn read(alloc: Global, text: &str) -> Result<Job, JobFault>
 
     // What each job has.
     ensures whole { IfOk result IsJob }
-    ensures plain { IfOk result (λ job. job.datasets ≡ []) }
 {
     read_all(alloc, text)
 }

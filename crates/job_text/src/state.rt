@@ -1,11 +1,21 @@
 //! What was read of a text so far.
 
-use crate::job::{KeyList, NameList, PartList, PlaceList, QueryList, Shape};
+use crate::job::{
+    Dataset, DatasetList, KeyList, NameList, PartList, PlaceList, Query, QueryList, Shape,
+};
 use aggregate::Agg;
+use item_lists::Name;
 
-/// What must or may come next, and the query at hand so far.
-#[derive(Debug, Drop)]
+/// What must or may come next, and the dataset or the query at hand so far.
+#[derive(Drop)]
 pub(crate) enum At {
+    Start,
+    DatasetName,
+    DatasetEquals(Name),
+    DatasetSource(Name),
+    Made(Dataset),
+    Level(Dataset),
+    Kept(Dataset),
     Query,
     GroupColumn(PlaceList),
     GroupColumns(PlaceList),
@@ -19,18 +29,19 @@ pub(crate) enum At {
     OrderColumn(KeyList, PlaceList),
     OrderColumns(KeyList, PlaceList),
     Source(Shape),
-    Sourced(Shape),
+    Sourced(Query),
 }
 
-/// The columns and the queries that were read.
-#[derive(Debug, Drop)]
+/// The columns, the datasets and the queries that were read.
+#[derive(Drop)]
 pub(crate) struct Read {
     pub(crate) names: NameList,
+    pub(crate) datasets: DatasetList,
     pub(crate) queries: QueryList,
 }
 
 /// A text that was read so far.
-#[derive(Debug, Drop)]
+#[derive(Drop)]
 pub(crate) struct State {
     pub(crate) read: Read,
     pub(crate) at: At,

@@ -1,27 +1,31 @@
 //! Reading a job token by token.
 
 ghost use Rattle.std.specs.Prelude.{◌≡◌, ◌<◌, ◌^◌, length, IfOk};
-ghost use Rattle.job_text.specs.Step.{step, after_mark as mark_step, after_query as query_step, after_group_columns as group_columns_step, after_part as part_step, after_parts as parts_step, after_keys as keys_step, after_key_column as key_column_step, after_order_columns as order_columns_step, ended as end_step};
+ghost use Rattle.job_text.specs.Step.{step, after_mark as mark_step, after_query as query_step, after_group_columns as group_columns_step, after_part as part_step, after_parts as parts_step, after_keys as keys_step, after_key_column as key_column_step, after_order_columns as order_columns_step, ended as end_step, after_start as start_step, after_source as source_step, after_word as word_step, input_as as input_number, query_of};
 
 use crate::columns::{after_column, has_aggregate};
+use crate::datasets;
+use crate::datasets::{after_equals, after_keep, after_made, after_name, after_parent, number_of};
 use crate::job::{KeyItem, KeyList, Part, PartList, PlaceList, Query, Shape};
 use crate::lists::{MAX_ITEMS, no_items, with_item};
 use crate::mark::Mark;
 use crate::state::{At, Read, State};
 use crate::token::Token;
 use aggregate::Agg;
+use item_lists::Name;
 use std::alloc::{AllocError, Global};
 
 /// What follows a query that may end here.
-fn ended(read: Read, shape: Shape, mark: Mark) -> Result<Option<State>, AllocError>
-    ensures { IfOk result (λ next. next ≡ end_step read shape mark) }
+fn ended(read: Read, query: Query, mark: Mark) -> Result<Option<State>, AllocError>
+    ensures { IfOk result (λ next. next ≡ end_step read query mark) }
 {
     match mark {
         Mark::Semicolon if read.queries.items().len() + 1 < MAX_ITEMS => {
-            let queries = with_item(read.queries, Query { dataset: 0, shape })?;
+            let queries = with_item(read.queries, query)?;
             Ok(Some(State {
                 read: Read {
                     names: read.names,
+                    datasets: read.datasets,
                     queries,
                 },
                 at: At::Query,
@@ -29,6 +33,13 @@ fn ended(read: Read, shape: Shape, mark: Mark) -> Result<Option<State>, AllocErr
         }
         _ => Ok(None),
     }
+}
+
+/// A query over the input.
+pub(crate) fn over_input(shape: Shape) -> Query
+    ensures { result ≡ query_of 0 shape }
+{
+    Query { dataset: 0, shape }
 }
 
 fn after_query(alloc: Global, read: Read, mark: Mark) -> Option<State>
@@ -44,6 +55,20 @@ fn after_query(alloc: Global, read: Read, mark: Mark) -> Option<State>
             at: At::Key(no_items(alloc)),
         }),
         _ => None,
+    }
+}
+
+/// What follows where a dataset or a query must come.
+fn after_start(alloc: Global, read: Read, mark: Mark) -> Option<State>
+    ensures { result ≡ start_step read mark }
+{
+    match mark {
+        Mark::Let if read.datasets.items().len() < MAX_ITEMS => Some(State {
+            read,
+            at: At::DatasetName,
+        }),
+        Mark::Let => None,
+        _ => after_query(alloc, read, mark),
     }
 }
 
@@ -120,7 +145,7 @@ fn after_parts(
             read,
             at: At::Source(Shape::Group { columns, parts }),
         })),
-        _ => ended(read, Shape::Group { columns, parts }, mark),
+        _ => ended(read, over_input(Shape::Group { columns, parts }), mark),
     }
 }
 
@@ -197,7 +222,26 @@ fn after_order_columns(
             read,
             at: At::Source(Shape::Order { keys, columns }),
         })),
-        _ => ended(read, Shape::Order { keys, columns }, mark),
+        _ => ended(read, over_input(Shape::Order { keys, columns }), mark),
+    }
+}
+
+/// What follows the source of a query, which is None where the source is none.
+fn after_source(read: Read, shape: Shape, dataset: Option<u32>) -> Option<State>
+    ensures { result ≡ source_step read shape dataset }
+{
+    let dataset = dataset?;
+    let at = At::Sourced(Query { dataset, shape });
+    Some(State { read, at })
+}
+
+/// `input`, which is 0, and no dataset's name.
+fn input_as(mark: Mark) -> Option<u32>
+    ensures { result ≡ input_number mark }
+{
+    match mark {
+        Mark::Input => Some(0),
+        _ => None,
     }
 }
 
@@ -205,6 +249,12 @@ fn after_mark(alloc: Global, read: Read, at: At, mark: Mark) -> Result<Option<St
     ensures { IfOk result (λ next. next ≡ mark_step read at mark) }
 {
     match at {
+        At::Start => Ok(after_start(alloc, read, mark)),
+        At::DatasetEquals(name) => Ok(after_equals(read, name, mark)),
+        At::DatasetSource(name) => Ok(after_parent(read, name, input_as(mark))),
+        At::Made(dataset) => after_made(read, dataset, mark),
+        At::Level(dataset) => Ok(after_keep(read, dataset, mark)),
+        At::Kept(dataset) => datasets::ended(read, dataset, mark),
         At::Query => Ok(after_query(alloc, read, mark)),
         At::GroupColumns(columns) => Ok(after_group_columns(alloc, read, columns, mark)),
         At::Part(columns, parts) => after_part(read, columns, parts, mark),
@@ -221,27 +271,42 @@ fn after_mark(alloc: Global, read: Read, at: At, mark: Mark) -> Result<Option<St
         ),
         At::Keys(keys) => Ok(after_keys(alloc, read, keys, mark)),
         At::OrderColumns(keys, columns) => after_order_columns(read, keys, columns, mark),
-        At::Source(shape) => match mark {
-            Mark::Input => Ok(Some(State {
-                read,
-                at: At::Sourced(shape),
-            })),
-            _ => Ok(None),
-        },
-        At::Sourced(shape) => ended(read, shape, mark),
+        At::Source(shape) => Ok(after_source(read, shape, input_as(mark))),
+        At::Sourced(query) => ended(read, query, mark),
         _ => Ok(None),
+    }
+}
+
+/// What follows a word that isn't reserved, None where it is refused.
+fn after_word(read: Read, at: At, word: Name) -> Result<Option<State>, AllocError>
+    requires room { length read.names < 2 ^ 32 }
+    requires few { length read.datasets < 2 ^ 31 }
+    ensures { IfOk result (λ next. next ≡ word_step read at word) }
+{
+    match at {
+        At::DatasetName => Ok(after_name(read, word)),
+        At::DatasetSource(name) => {
+            let parent = number_of(&read.datasets, &word);
+            Ok(after_parent(read, name, parent))
+        }
+        At::Source(shape) => {
+            let dataset = number_of(&read.datasets, &word);
+            Ok(after_source(read, shape, dataset))
+        }
+        _ => after_column(read, at, word),
     }
 }
 
 /// What follows a token, None where it is refused.
 #[tactic(auto, unfolding(crate::specs::Step::step))]
 pub(crate) fn take(alloc: Global, state: State, token: Token) -> Result<Option<State>, AllocError>
-    requires { length state.read.names < 2 ^ 32 }
+    requires room { length state.read.names < 2 ^ 32 }
+    requires few { length state.read.datasets < 2 ^ 31 }
     ensures { IfOk result (λ next. next ≡ step state token) }
 {
     match token {
         Token::Fixed(mark) => after_mark(alloc, state.read, state.at, mark),
-        Token::Word(name) => after_column(state.read, state.at, name),
+        Token::Word(name) => after_word(state.read, state.at, name),
         Token::Quoted(name) => after_column(state.read, state.at, name),
         Token::Text(_) => Ok(None),
         Token::Whole(_) => Ok(None),

@@ -1,5 +1,5 @@
 // Plans and entries against examples that were worked by hand.
-use crate::tests::jobs::job_of;
+use crate::tests::jobs::plain_job_of;
 use csv::ByteRecord;
 use job_plan::{Plan, PlanFault, plan};
 use row_page::{RowBuf, RowView};
@@ -21,7 +21,7 @@ fn header_of(alloc: Global, columns: &str) -> Result<ByteRecord, AllocError> {
 
 // The plan of a job over a header with these columns.
 fn plan_over(alloc: Global, job: &str, columns: &str) -> Result<Result<Plan, PlanFault>, Fail> {
-    let job = job_of(alloc, job)?;
+    let job = plain_job_of(alloc, job)?.ok_or("no query over the input alone")?;
     let header = header_of(alloc, columns)?;
     if header.len() > 1024 {
         return Err("a wide header".into());

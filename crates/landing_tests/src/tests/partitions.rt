@@ -55,12 +55,16 @@ fn source_of(alloc: Global, text: &[u8], fails: u64) -> Result<MemorySource, All
     Ok(MemorySource::new(text.to_vec(alloc)?, vec![in alloc; fails]?))
 }
 
-// The job of a text.
+// The job of a text, which is one query over the input.
 fn job_of(alloc: Global, text: &str) -> Result<Job, JobFault>
     ensures job { IfOk result IsJob }
     ensures plain { IfOk result (λ job. job.datasets ≡ []) }
 {
-    read(alloc, text)
+    let job = read(alloc, text)?;
+    if !job.is_plain() {
+        return Err(JobFault::BadJob { place: 0 });
+    }
+    Ok(job)
 }
 
 // Lands a source for two workers: at most so many rows, and so many in a partition.

@@ -12,7 +12,4 @@ pub returns-clause-refused : goal.returns-clause-refused
 returns-clause-refused c = refused_of c.args.text.now c.read_all.result c.read_all.ensures
 
 pub returns-clause-whole : goal.returns-clause-whole
-returns-clause-whole c = (whole_of c.args.text.now c.read_all.result c.read_all.ensures).0
-
-pub returns-clause-plain : goal.returns-clause-plain
-returns-clause-plain c = (whole_of c.args.text.now c.read_all.result c.read_all.ensures).1
+returns-clause-whole c = whole_of c.args.text.now c.read_all.result c.read_all.ensures

@@ -6,7 +6,7 @@ use Rattle.job_text.specs.Step.{step}
 use Rattle.job_text.specs.Scan.{token_at}
 use Rattle.job_text.specs.Text.{outcome_of, scan}
 use Rattle.job_text.proofs.Scanning.{blank_at, bad_at, token_next, behind, at_none, blank_boundary, token_boundary}
-use Rattle.job_text.proofs.Names.{names_grow}
+use Rattle.job_text.proofs.Names.{names_grow, datasets_grow}
 use Rattle.job_text.proofs.reading.read_short.Goals as goal
 
 pub loop-at-init : goal.loop-at-init
@@ -15,6 +15,7 @@ loop-at-init c = record {
   within = omega arith;
   cut = IsCharBoundary-start c.args.text.now c.utf8.text;
   names = rw c.start-state.ensures (omega arith);
+  datasets = rw c.start-state.ensures (omega arith);
 }
 
 pub loop-at-preserved-then-is_blank : goal.loop-at-preserved-then-is_blank
@@ -23,6 +24,7 @@ loop-at-preserved-then-is_blank c = record {
   within = omega arith;
   cut = blank_boundary c.loop-at.at c.args.text.now c.utf8.text c.loop-at-test.true (rw (← c.as_bytes.ensures.value) (sym c.is_blank.ensures ∙ c.if-is_blank.true));
   names = omega arith;
+  datasets = omega arith;
 }
 
 pub returns-in_default : goal.returns-in_default
@@ -59,11 +61,13 @@ loop-at-preserved c =
     let far = behind c.loop-at.at text c.in-Some.token c.in-Some.length c.loop-at-test.true is in
     let next : step c.loop-at.state c.in-Some.token ≡ Some c.in-Some-2.next = sym c.in_ok-next.ensures ∙ c.in-Some-2.is in
     let more = names_grow c.loop-at.state c.in-Some-2.next c.in-Some.token next in
+    let others = datasets_grow c.loop-at.state c.in-Some-2.next c.in-Some.token next in
     record {
       gives = c.loop-at.invariant.gives ∙ token_next (length text) c.loop-at.state c.loop-at.at text c.loop-at-test.true c.in-Some.token c.in-Some.length (rw (← c.as_bytes.ensures.value) (sym c.is_blank.ensures ∙ c.if-is_blank.false)) is ∙ rw (next, far.2) refl;
       within = far.1;
       cut = token_boundary c.loop-at.at text c.utf8.text c.loop-at.invariant.cut c.loop-at-test.true c.in-Some.token c.in-Some.length is;
       names = omega (arith, more, far.0);
+      datasets = omega (arith, others, far.0);
     }
 
 pub returns-in-Some-3 : goal.returns-in-Some-3

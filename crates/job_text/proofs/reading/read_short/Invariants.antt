@@ -11,6 +11,7 @@ invariant-loop-at l = record {
   within : l.at ≤ length l.text;
   cut : IsCharBoundary l.text l.at;
   names : length l.state.read.names ≤ l.at;
+  datasets : length l.state.read.datasets ≤ l.at;
 }
 
 abbrev pub decreases-loop-at : goal.decreases-loop-at
