@@ -1,7 +1,7 @@
 //! A text that grows by tokens.
 
-ghost use Rattle.std.specs.Prelude.{◌≡◌, ◌++◌, ◌∷◌, [], IfOk, string_bytes};
-ghost use Rattle.job_text.specs.declared.token.Token.TheVariants.{Fixed};
+ghost use Rattle.std.specs.Prelude.{◌≡◌, ◌<◌, ◌++◌, ◌∷◌, [], IfOk, Some, string_bytes};
+ghost use Rattle.job_text.specs.declared.token.Token.TheVariants.{Fixed, Text, Whole};
 ghost use Rattle.job_text.specs.Printing.{column_token, doubled, token_text, is_attached};
 ghost use Rattle.job_text.specs.Sheets.{blank_sheet, lead, with_token};
 
@@ -64,8 +64,32 @@ impl Printer {
         if is_plain(name.text()) {
             self.out.push_str(name.text())?;
         } else {
-            push_quoted(&mut self.out, name.text())?;
+            push_quoted(&mut self.out, '"', name.text())?;
         }
+        self.apart = true;
+        Ok(())
+    }
+
+    /// Adds a text.
+    pub(crate) fn text(&mut self, text: &Name) -> Result<(), AllocError>
+        ensures { IfOk result (λ _. self.new ≡ with_token self.old (Text text.now)) }
+    {
+        if self.apart {
+            self.out.push(' ')?;
+        }
+        push_quoted(&mut self.out, '\'', text.text())?;
+        self.apart = true;
+        Ok(())
+    }
+
+    /// Adds a whole number.
+    pub(crate) fn whole(&mut self, number: i64) -> Result<(), AllocError>
+        ensures { IfOk result (λ _. self.new ≡ with_token self.old (Whole (Some number))) }
+    {
+        if self.apart {
+            self.out.push(' ')?;
+        }
+        write!(self.out, "{number}")?;
         self.apart = true;
         Ok(())
     }
@@ -78,17 +102,19 @@ impl Printer {
     }
 }
 
-fn push_quoted(out: &mut String, name: &str) -> Result<(), AllocError>
-    ensures { IfOk result (λ _. string_bytes out.new ≡ string_bytes out.old ++ 34 ∷ doubled 34 name.now ++ 34 ∷ []) }
+fn push_quoted(out: &mut String, quote: char, name: &str) -> Result<(), AllocError>
+    requires ascii { quote < 128 }
+    ensures { IfOk result (λ _. string_bytes out.new ≡ string_bytes out.old ++ quote ∷ doubled quote name.now ++ quote ∷ []) }
 {
-    out.push('"')?;
+    out.push(quote)?;
     let mut rest = name;
-    while let Some((before, after)) = rest.split_once('"') {
+    while let Some((before, after)) = rest.split_once(quote) {
         out.push_str(before)?;
-        out.push_str("\"\"")?;
+        out.push(quote)?;
+        out.push(quote)?;
         rest = after;
     }
     out.push_str(rest)?;
-    out.push('"')?;
+    out.push(quote)?;
     Ok(())
 }
