@@ -15,3 +15,13 @@ pub mod Meant
 pub mod Spelled
 pub mod Written
 pub mod Grammars
+pub mod FilterWritten
+pub mod FilterBegun
+pub mod FilterSound
+pub mod FilterEquations
+pub mod FilterViable
+pub mod FilterNames
+pub mod FilterItems
+pub mod FilterPrinted
+pub mod FilterFine
+pub mod FilterTexts

@@ -4,9 +4,15 @@ pub mod Columns
 pub mod Jobs
 pub mod Grammar
 pub mod Step
+pub mod FilterLists
+pub mod FilterStep
+pub mod FilterGrammar
+pub mod FilterForms
 pub mod Begins
 pub mod Text
 pub mod Place
 pub mod Laws
 pub mod Printing
+pub mod FilterPrinting
+pub mod FilterLaws
 pub mod Sheets

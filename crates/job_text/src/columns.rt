@@ -12,10 +12,10 @@ use aggregate::Agg;
 use item_lists::Name;
 use std::alloc::AllocError;
 
-const MAX_LENGTH: usize = 1024;
+pub(crate) const MAX_LENGTH: usize = 1024;
 
 /// The place of a name, which is added where it is new.
-fn place(names: NameList, name: Name) -> Result<(NameList, u32), AllocError>
+pub(crate) fn place(names: NameList, name: Name) -> Result<(NameList, u32), AllocError>
     requires { length names < 2 ^ 32 }
     ensures names { IfOk result (λ found. found.0 ≡ with_name names name) }
     ensures place { IfOk result (λ found. found.1 ≡ place_of names name) }

@@ -4,6 +4,11 @@
 mod columns;
 mod datasets;
 mod fault;
+mod filter_laws;
+mod filter_printing;
+mod filter_stack;
+mod filter_state;
+mod filter_step;
 mod grammar;
 mod job;
 mod lists;
@@ -17,6 +22,10 @@ mod token;
 mod tokens;
 
 pub use fault::JobFault;
+pub use filter_laws::{
+    filters_are_fine, filters_are_read, filters_are_written, filters_go_on,
+    printed_filters_are_written,
+};
 pub use grammar::{tokens_are_read_by_grammar, tokens_have_one_meaning};
 pub use job::{
     Dataset, DatasetList, Job, KeyItem, KeyList, NameList, Part, PartList, PlaceList, Query,

@@ -27,7 +27,7 @@ fn mark_of(agg: Agg) -> Mark
 
 /// Adds the sign before an item that isn't the first.
 #[tactic(auto, unfolding(crate::specs::Sheets::with_tokens))]
-fn print_sign(printer: &mut Printer, place: usize, sign: Mark) -> Result<(), AllocError>
+pub(crate) fn print_sign(printer: &mut Printer, place: usize, sign: Mark) -> Result<(), AllocError>
     ensures { Writes printer.old printer.new result (sign_before place sign) }
 {
     if place > 0 {
@@ -37,7 +37,7 @@ fn print_sign(printer: &mut Printer, place: usize, sign: Mark) -> Result<(), All
 }
 
 #[tactic(auto, unfolding(crate::specs::Sheets::with_tokens))]
-fn print_word(printer: &mut Printer, written: bool, word: Mark) -> Result<(), AllocError>
+pub(crate) fn print_word(printer: &mut Printer, written: bool, word: Mark) -> Result<(), AllocError>
     ensures { Writes printer.old printer.new result (optional written word) }
 {
     if written {
@@ -47,7 +47,11 @@ fn print_word(printer: &mut Printer, written: bool, word: Mark) -> Result<(), Al
 }
 
 #[tactic(auto, unfolding(crate::specs::Sheets::with_tokens))]
-fn print_column(printer: &mut Printer, names: &[Name], column: u32) -> Result<(), AllocError>
+pub(crate) fn print_column(
+    printer: &mut Printer,
+    names: &[Name],
+    column: u32,
+) -> Result<(), AllocError>
     requires named { column < length names.now }
     ensures { Writes printer.old printer.new result (place_tokens names.now column) }
 {
