@@ -18,7 +18,11 @@ use Rattle.job_text.specs.declared.state.At.TheVariants as at
 use Rattle.job_text.specs.declared.state.Read.{Read}
 use Rattle.job_text.specs.declared.state.State.{State}
 use Rattle.job_text.specs.Columns.{place_of, dataset_names, is_among, number_of, with_name, has_column, has_key, has_part, is_short}
-use Rattle.job_text.specs.Step.{step, query_of, counted, key, named, after_mark, after_query, after_group_columns, after_part, after_parts, after_keys, after_key_column, after_order_columns, after_source, after_start, after_name, after_equals, after_parent, after_made, after_keep, after_word, dataset_ended, input_as, ended, after_column, one_more}
+use Rattle.job_text.specs.Step.{step, query_of, counted, key, named, after_mark, after_query, after_group_columns, after_part, after_parts, after_keys, after_key_column, after_order_columns, after_source, after_start, after_name, after_equals, after_parent, after_made, after_keep, after_word, after_quoted, after_constant, filter_ended, filtered, in_filter, made_from, dataset_ended, input_as, ended, after_column, one_more}
+use Rattle.row_filter.specs.declared.filter.Filter.{Filter}
+use Rattle.job_text.specs.declared.filter_state.FilterState.{FilterState}
+use Rattle.job_text.specs.FilterStep.{filter_step, filter_at}
+use Rattle.job_text.proofs.FilterViable.{FilterFits, filter_fits}
 use Rattle.job_text.proofs.Fresh.{AreBelow, AreBelow-push, AreBelow-more, length-with_name, place_below}
 
 -- ---- what holds of each state that is reached
@@ -46,6 +50,7 @@ FitsAt names datasets at.DatasetName = length datasets < 8
 FitsAt names datasets (at.DatasetEquals name) = Unit {0}
 FitsAt names datasets (at.DatasetSource name) = Unit {0}
 FitsAt names datasets (at.Made dataset) = Unit {0}
+FitsAt names datasets (at.Filter name parent filter) = FilterFits filter
 FitsAt names datasets (at.Level dataset) = Unit {0}
 FitsAt names datasets (at.Kept dataset) = Unit {0}
 FitsAt names datasets at.Query = Unit {0}
@@ -169,8 +174,23 @@ kept_dataset r dataset marks.Semicolon = tt
 kept_dataset r dataset _ = tt
 
 kept_made : (r : Read) (dataset : Dataset) (mark : Mark) → IfSome (after_made r dataset mark) Fits
+kept_made r dataset marks.Where = tt
 kept_made r dataset marks.Keep = tt
 kept_made r dataset mark = kept_dataset r dataset mark
+
+kept_filter_end : (r : Read) (name : List ℕ) (parent : ℕ) (filter : Option Filter) (mark : Mark) → IfSome (filter_ended r name parent filter mark) Fits
+kept_filter_end r name parent None mark = tt
+kept_filter_end r name parent (Some filter) marks.Keep = tt
+kept_filter_end r name parent (Some filter) mark = kept_dataset r (made_from name parent (Some filter)) mark
+
+kept_filtered : (r : Read) (name : List ℕ) (parent : ℕ) (o : Option (List (List ℕ) × FilterState)) → IfSome o (λ next. FilterFits next.1) → IfSome (filtered r name parent o) Fits
+kept_filtered r name parent None h = tt
+kept_filtered r name parent (Some next) h = h
+
+kept_in_filter : (r : Read) (name : List ℕ) (parent : ℕ) (filter : FilterState) (t : Token) → IfSome (in_filter r name parent filter t) Fits
+kept_in_filter r name parent filter (Fixed marks.Keep) = kept_filter_end r name parent (filter_at filter) marks.Keep
+kept_in_filter r name parent filter (Fixed marks.Semicolon) = kept_filter_end r name parent (filter_at filter) marks.Semicolon
+kept_in_filter r name parent filter t = kept_filtered r name parent (filter_step r.names filter t) (filter_fits r.names filter t)
 
 kept_keep : (r : Read) (dataset : Dataset) (mark : Mark) → IfSome (after_keep r dataset mark) Fits
 kept_keep r dataset marks.Memory = tt
@@ -187,6 +207,7 @@ kept_mark r at.DatasetName mark h = tt
 kept_mark r (at.DatasetEquals name) mark h = kept_equals r name mark
 kept_mark r (at.DatasetSource name) mark h = kept_parent r name (input_as mark)
 kept_mark r (at.Made dataset) mark h = kept_made r dataset mark
+kept_mark r (at.Filter name parent filter) mark h = kept_in_filter r name parent filter (Fixed mark)
 kept_mark r (at.Level dataset) mark h = kept_keep r dataset mark
 kept_mark r (at.Kept dataset) mark h = kept_dataset r dataset mark
 kept_mark r at.Query mark h = kept_query r mark
@@ -217,6 +238,7 @@ module _ (r : Read) (name : List ℕ) where
   kept_column _ h = tt
 
   kept_word : (place : At) → FitsAt r.names r.datasets place → IfSome (after_word r place name) Fits
+  kept_word (at.Filter dataset parent filter) h = kept_in_filter r dataset parent filter (Word name)
   kept_word at.DatasetName h = kept_name r name
   kept_word (at.DatasetSource dataset) h = kept_parent r dataset (number_of r.datasets name)
   kept_word (at.Source shape) h = kept_source r shape (number_of r.datasets name)
@@ -227,10 +249,23 @@ module _ (r : Read) (name : List ℕ) where
   kept_word (at.OrderColumn keys columns) h = kept_column (at.OrderColumn keys columns) h
   kept_word _ h = tt
 
+  kept_quoted : (place : At) → FitsAt r.names r.datasets place → IfSome (after_quoted r place name) Fits
+  kept_quoted (at.Filter dataset parent filter) h = kept_in_filter r dataset parent filter (Quoted name)
+  kept_quoted (at.GroupColumn columns) h = kept_column (at.GroupColumn columns) h
+  kept_quoted (at.PartColumn columns parts agg) h = kept_column (at.PartColumn columns parts agg) h
+  kept_quoted (at.Key keys) h = kept_column (at.Key keys) h
+  kept_quoted (at.NumberKey keys) h = kept_column (at.NumberKey keys) h
+  kept_quoted (at.OrderColumn keys columns) h = kept_column (at.OrderColumn keys columns) h
+  kept_quoted _ h = tt
+
+kept_constant : (r : Read) (place : At) (t : Token) → IfSome (after_constant r place t) Fits
+kept_constant r (at.Filter name parent filter) t = kept_in_filter r name parent filter t
+kept_constant r _ t = tt
+
 pub kept : (s : State) (t : Token) → Fits s → IfSome (step s t) Fits
 unfolding step
 kept s (Fixed mark) h = kept_mark s.read s.at mark h
 kept s (Word name) h = kept_word s.read name s.at h
-kept s (Quoted name) h = kept_column s.read name s.at h
-kept s (Text text) h = tt
-kept s (Whole value) h = tt
+kept s (Quoted name) h = kept_quoted s.read name s.at h
+kept s (Text text) h = kept_constant s.read s.at (Text text)
+kept s (Whole value) h = kept_constant s.read s.at (Whole value)

@@ -1,6 +1,6 @@
 -- Reading is by the grammar, and each job that is read has what each job has.
 use Rattle.std.proofs.Common.{◌≡◌, ℕ, List, Some, Option, Result, Ok, Err, sym, ap, subst, ◌∙◌}
-use Rattle.std.specs.Prelude.{IfOk}
+use Rattle.std.specs.Prelude.{IfOk, All}
 use Rattle.job_text.specs.declared.token.Token.{Token}
 use Rattle.job_text.specs.declared.job.Job.{Job}
 use Rattle.job_text.specs.declared.fault.JobFault.{JobFault}
@@ -12,6 +12,7 @@ use Rattle.job_text.specs.Place.{only_tokens, IsJobText}
 use Rattle.job_text.specs.Text.{Gives, read_of, scan}
 use Rattle.job_text.proofs.Meant.{job_is}
 use Rattle.job_text.proofs.Places.{found_of}
+use Rattle.job_text.proofs.Ranged.{IsOfText, scanned_of_text}
 use Rattle.job_text.proofs.Sound.{read_written}
 use Rattle.job_text.proofs.Written.{written_read}
 
@@ -21,10 +22,10 @@ same_job one other e = cc
 is_written : (tokens : List Token) (job : Job) → job_of tokens ≡ Some job → IsWritten tokens job
 is_written tokens job e =
     let w = read_written tokens job e in
-    record { written = w.0; spelled = w.1; right = w.2; meant = same_job job (job_meant w.0) (sym e ∙ ap job_of w.1 ∙ written_read w.0 w.2 (job_is w.0 w.2)) }
+    record { written = w.0; spelled = w.1; right = w.2; meant = same_job job (job_meant w.0) (sym e ∙ ap job_of w.1 ∙ written_read w.0 w.2) }
 
 is_read : (tokens : List Token) (job : Job) → IsWritten tokens job → job_of tokens ≡ Some job
-is_read tokens job h = ap job_of h.spelled ∙ written_read h.written h.right (job_is h.written h.right) ∙ ap (λ (j : Job). Some j) (sym h.meant)
+is_read tokens job h = ap job_of h.spelled ∙ written_read h.written h.right ∙ ap (λ (j : Job). Some j) (sym h.meant)
 
 pub reads_the_grammar : ReadsTheGrammar
 reads_the_grammar tokens job = (is_written tokens job, is_read tokens job)
@@ -36,7 +37,9 @@ one_meaning tokens one other h g = same_job one other (sym (is_read tokens one h
 
 whole_job : (text : List ℕ) (job : Job) → IsJobText text job → IsJob job
 whole_job text job h =
-    let w = is_written (only_tokens (scan 0 0 text).tokens) job h.is in subst IsJob (sym w.meant) (job_is w.written w.right)
+    let ts = only_tokens (scan 0 0 text).tokens in
+    let w = is_written ts job h.is in
+    subst IsJob (sym w.meant) (job_is w.written w.right (subst (All IsOfText) w.spelled (scanned_of_text text 0 0)))
 
 pub whole_of : (text : List ℕ) (r : Result Job JobFault) → Gives r (read_of text) → IfOk r IsJob
 whole_of text r h = on r (found_of text r h)

@@ -25,3 +25,7 @@ pub mod FilterItems
 pub mod FilterPrinted
 pub mod FilterFine
 pub mod FilterTexts
+pub mod FilterShort
+pub mod FilterUses
+pub mod Filtered
+pub mod Ranged

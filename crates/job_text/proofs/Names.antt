@@ -1,5 +1,5 @@
 -- A step adds one name and one dataset at most, and names stay.
-use Rattle.std.proofs.Common.{◌≡◌, ℕ, ◌+◌, ◌≤◌, Bool, true, false, cond, List, [], ◌∷◌, ◌++◌, length, Option, Some, None, refl, ap, subst, arith, inl, inr, ◌&&◌}
+use Rattle.std.proofs.Common.{◌≡◌, ℕ, ◌+◌, ◌≤◌, Bool, true, false, cond, List, [], ◌∷◌, ◌++◌, length, Option, Some, None, refl, sym, ap, subst, arith, inl, inr, ◌&&◌}
 use Rattle.std.specs.Prelude.{IfSome, if◌then◌else◌, nat_lt, nat_le, not, option_and_then}
 use Rattle.std.specs.Str.{bytes_eq}
 use Rattle.std.proofs.lemmas.Bool.{cases_Bool}
@@ -19,8 +19,12 @@ use Rattle.job_text.specs.declared.state.At.TheVariants as at
 use Rattle.job_text.specs.declared.state.Read.{Read}
 use Rattle.job_text.specs.declared.state.State.{State}
 use Rattle.job_text.specs.Columns.{place_of, dataset_names, is_among, number_of, with_name, with_names, has_column, has_key, has_part, is_short}
-use Rattle.job_text.specs.Step.{step, query_of, counted, key, named, after_mark, after_query, after_group_columns, after_part, after_parts, after_keys, after_key_column, after_order_columns, after_source, after_start, after_name, after_equals, after_parent, after_made, after_keep, after_word, dataset_ended, input_as, ended, after_column, one_more}
+use Rattle.job_text.specs.Step.{step, query_of, counted, key, named, after_mark, after_query, after_group_columns, after_part, after_parts, after_keys, after_key_column, after_order_columns, after_source, after_start, after_name, after_equals, after_parent, after_made, after_keep, after_word, after_quoted, after_constant, filter_ended, filtered, in_filter, made_from, dataset_ended, input_as, ended, after_column, one_more}
+use Rattle.row_filter.specs.declared.filter.Filter.{Filter}
+use Rattle.job_text.specs.declared.filter_state.FilterState.{FilterState}
+use Rattle.job_text.specs.FilterStep.{filter_step, filter_at}
 use Rattle.job_text.specs.Begins.{steps}
+use Rattle.job_text.proofs.FilterNames.{OneNameMore, filter_one_name}
 
 abbrev pub with_some : List (List ℕ) → Option (List ℕ) → List (List ℕ)
 with_some names None = names
@@ -112,8 +116,28 @@ module _ (r : Read) where
   one_dataset dataset _ = tt
 
   one_made : (dataset : Dataset) (mark : Mark) → IfSome (after_made r dataset mark) (OneMore r)
+  one_made dataset marks.Where = (None, refl, omega arith)
   one_made dataset marks.Keep = (None, refl, omega arith)
   one_made dataset mark = one_dataset dataset mark
+
+  one_filter_end : (name : List ℕ) (parent : ℕ) (filter : Option Filter) (mark : Mark) → IfSome (filter_ended r name parent filter mark) (OneMore r)
+  one_filter_end name parent None mark = tt
+  one_filter_end name parent (Some filter) marks.Keep = (None, refl, omega arith)
+  one_filter_end name parent (Some filter) mark = one_dataset (made_from name parent (Some filter)) mark
+
+  one_filtered : (name : List ℕ) (parent : ℕ) (o : Option (List (List ℕ) × FilterState)) → IfSome o (λ next. OneNameMore r.names next.0) → IfSome (filtered r name parent o) (OneMore r)
+  one_filtered name parent None h = tt
+  one_filtered name parent (Some next) h = by h.0 h.1 h.2
+    where
+      by : (more : List (List ℕ)) → length more ≤ 1 → with_names r.names more ≡ next.0 → OneMore r (record { read = record r { names = next.0 }; at = at.Filter name parent next.1 })
+      by [] le e = (None, sym e, omega arith)
+      by (one ∷ []) le e = (Some one, sym e, omega arith)
+      by (one ∷ two ∷ more) le e = absurd (omega (arith, le))
+
+  one_in_filter : (name : List ℕ) (parent : ℕ) (filter : FilterState) (t : Token) → IfSome (in_filter r name parent filter t) (OneMore r)
+  one_in_filter name parent filter (Fixed marks.Keep) = one_filter_end name parent (filter_at filter) marks.Keep
+  one_in_filter name parent filter (Fixed marks.Semicolon) = one_filter_end name parent (filter_at filter) marks.Semicolon
+  one_in_filter name parent filter t = one_filtered name parent (filter_step r.names filter t) (filter_one_name r.names filter t)
 
   one_keep : (dataset : Dataset) (mark : Mark) → IfSome (after_keep r dataset mark) (OneMore r)
   one_keep dataset marks.Memory = (None, refl, omega arith)
@@ -130,6 +154,7 @@ module _ (r : Read) where
   one_mark (at.DatasetEquals name) mark = one_equals name mark
   one_mark (at.DatasetSource name) mark = one_parent name (input_as mark)
   one_mark (at.Made dataset) mark = one_made dataset mark
+  one_mark (at.Filter name parent filter) mark = one_in_filter name parent filter (Fixed mark)
   one_mark (at.Level dataset) mark = one_keep dataset mark
   one_mark (at.Kept dataset) mark = one_dataset dataset mark
   one_mark at.Query mark = one_query mark
@@ -159,6 +184,7 @@ module _ (r : Read) where
   one_column _ name = tt
 
   one_word : (place : At) (word : List ℕ) → IfSome (after_word r place word) (OneMore r)
+  one_word (at.Filter name parent filter) word = one_in_filter name parent filter (Word word)
   one_word at.DatasetName word = one_name word
   one_word (at.DatasetSource name) word = one_parent name (number_of r.datasets word)
   one_word (at.Source shape) word = one_source shape (number_of r.datasets word)
@@ -169,13 +195,26 @@ module _ (r : Read) where
   one_word (at.OrderColumn keys columns) word = one_column (at.OrderColumn keys columns) word
   one_word _ word = tt
 
+  one_quoted : (place : At) (column : List ℕ) → IfSome (after_quoted r place column) (OneMore r)
+  one_quoted (at.Filter name parent filter) column = one_in_filter name parent filter (Quoted column)
+  one_quoted (at.GroupColumn columns) column = one_column (at.GroupColumn columns) column
+  one_quoted (at.PartColumn columns parts agg) column = one_column (at.PartColumn columns parts agg) column
+  one_quoted (at.Key keys) column = one_column (at.Key keys) column
+  one_quoted (at.NumberKey keys) column = one_column (at.NumberKey keys) column
+  one_quoted (at.OrderColumn keys columns) column = one_column (at.OrderColumn keys columns) column
+  one_quoted _ column = tt
+
+  one_constant : (place : At) (t : Token) → IfSome (after_constant r place t) (OneMore r)
+  one_constant (at.Filter name parent filter) t = one_in_filter name parent filter t
+  one_constant _ t = tt
+
 one_step : (s : State) (t : Token) → IfSome (step s t) (OneMore s.read)
 unfolding step
 one_step s (Fixed mark) = one_mark s.read s.at mark
 one_step s (Word name) = one_word s.read s.at name
-one_step s (Quoted name) = one_column s.read s.at name
-one_step s (Text text) = tt
-one_step s (Whole value) = tt
+one_step s (Quoted name) = one_quoted s.read s.at name
+one_step s (Text text) = one_constant s.read s.at (Text text)
+one_step s (Whole value) = one_constant s.read s.at (Whole value)
 
 length-with_some : (names : List (List ℕ)) (name : Option (List ℕ)) → length (with_some names name) ≤ length names + 1
 length-with_some names None = omega arith

@@ -19,11 +19,16 @@ use Rattle.job_text.specs.declared.state.At.TheVariants as at
 use Rattle.job_text.specs.declared.state.Read.{Read}
 use Rattle.job_text.specs.declared.state.State.{State}
 use Rattle.job_text.specs.Columns.{place_of, dataset_names, is_among, with_name, has_column, has_key, has_part, same_column}
-use Rattle.job_text.specs.Step.{step, start, key, named, query_of, made_from}
+use Rattle.job_text.specs.Step.{step, start, key, named, query_of, made_from, filter_ended}
 use Rattle.std.specs.Prelude.{All}
-use Rattle.std.proofs.lemmas.List.Elements.{All-nil, All-cons}
+use Rattle.std.proofs.lemmas.List.Elements.{All-nil, All-cons, All-append}
 use Rattle.job_text.specs.Scan.{IsSpelled}
 use Rattle.job_text.specs.Begins.{steps, job_at, Begins}
+use Rattle.row_filter.specs.declared.filter.Filter.{Filter}
+use Rattle.job_text.specs.declared.filter_state.FilterState.{FilterState}
+use Rattle.job_text.specs.FilterStep.{filter_at}
+use Rattle.job_text.proofs.FilterViable.{FilterFits, filter_viable}
+use Rattle.job_text.proofs.Filtered.{filter_goes}
 use Rattle.job_text.proofs.Fresh.{AreBelow, fresh, fresh_word}
 use Rattle.job_text.proofs.Fitting.{put, Fits, FitsAt, IsOpen, key_columns, part_columns, with_column, kept}
 
@@ -163,9 +168,20 @@ module _ (names : List (List ℕ)) (datasets : List Dataset) (queries : List Que
   unfolding step
   made_viable dataset = by_token _ _ (Fixed marks.Semicolon) tt refl (start_viable names (datasets ++ dataset ∷ []) queries)
 
+  end_viable : (name : List ℕ) (parent : ℕ) (s : FilterState) → IsSome (filter_at s) → Viable (put names datasets queries (at.Filter name parent s))
+  unfolding step
+  end_viable name parent s h = by (filter_at s) refl h
+    where
+      taken : (filter : Filter) → filter_at s ≡ Some filter → step (put names datasets queries (at.Filter name parent s)) (Fixed marks.Semicolon) ≡ Some (put names (datasets ++ made_from name parent (Some filter) ∷ []) queries at.Start)
+      taken filter e = ap (λ (o : Option Filter). filter_ended (record { names = names; datasets = datasets; queries = queries }) name parent o marks.Semicolon) e
+
+      by : (o : Option Filter) → filter_at s ≡ o → IsSome o → Viable (put names datasets queries (at.Filter name parent s))
+      by None e h = absurd (cc)
+      by (Some filter) e h = by_token _ _ (Fixed marks.Semicolon) tt (taken filter e) (start_viable names (datasets ++ made_from name parent (Some filter) ∷ []) queries)
+
   parent_viable : (name : List ℕ) → Viable (put names datasets queries (at.DatasetSource name))
   unfolding step
-  parent_viable name = by_token _ _ (Fixed marks.Input) tt refl (made_viable (made_from name 0))
+  parent_viable name = by_token _ _ (Fixed marks.Input) tt refl (made_viable (made_from name 0 None))
 
   equals_viable : (name : List ℕ) → Viable (put names datasets queries (at.DatasetEquals name))
   unfolding step
@@ -180,6 +196,15 @@ module _ (names : List (List ℕ)) (datasets : List Dataset) (queries : List Que
       let f = fresh_word (dataset_names datasets) in
       by_token _ _ (Word f.0) f.3 (name_is f.0 (omega (arith, few, f.1, length-map datasets (λ dataset. dataset.name))) f.2) (equals_viable f.0)
 
+filter_goes_on : (names : List (List ℕ)) (datasets : List Dataset) (queries : List Query) (name : List ℕ) (parent : ℕ) (s : FilterState) → FilterFits s → Viable (put names datasets queries (at.Filter name parent s))
+filter_goes_on names datasets queries name parent s h =
+    let f = filter_viable names s h in
+    let v = end_viable f.2.final datasets queries name parent f.2.last f.2.ends in (
+      f.0 ++ v.0,
+      All-append IsSpelled f.0 v.0 f.1 v.1,
+      rw (filter_goes datasets queries name parent f.0 names f.2.final s f.2.last v.0 f.2.steps) v.2,
+    )
+
 module _ (names : List (List ℕ)) (datasets : List Dataset) (queries : List Query) where
   viable_at : (place : At) → FitsAt names datasets place → Viable (put names datasets queries place)
   viable_at at.Start h = start_viable names datasets queries
@@ -187,6 +212,7 @@ module _ (names : List (List ℕ)) (datasets : List Dataset) (queries : List Que
   viable_at (at.DatasetEquals name) h = equals_viable names datasets queries name
   viable_at (at.DatasetSource name) h = parent_viable names datasets queries name
   viable_at (at.Made dataset) h = made_viable names datasets queries dataset
+  viable_at (at.Filter name parent filter) h = filter_goes_on names datasets queries name parent filter h
   viable_at (at.Level dataset) h = level_viable names datasets queries dataset
   viable_at (at.Kept dataset) h = kept_viable names datasets queries dataset
   viable_at at.Query h = query_viable names datasets queries

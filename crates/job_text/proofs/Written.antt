@@ -2,7 +2,7 @@
 use Rattle.std.proofs.Common.{◌≡◌, ◌≢◌, ℕ, suc, ◌+◌, ◌<◌, ◌≤◌, Bool, true, false, List, [], ◌∷◌, ◌++◌, length, Option, Some, None, refl, sym, ap, subst, ◌∙◌, append_assoc, arith}
 use Rattle.std.specs.Prelude.{All, IfSome, map, flat_map}
 use Rattle.std.proofs.lemmas.Bool.{lt-ltb, le-leb, ne_eqb, or_from, and_parts, false_from_ne_true, eqb-true}
-use Rattle.std.proofs.lemmas.List.{append-nil, length-append, length-map, get_or_at, get_or_append_left, get_or-map, map-append}
+use Rattle.std.proofs.lemmas.List.{append-nil, length-append, length-map, get_or_at, get_or_append_left, map-append}
 use Rattle.aggregate.specs.declared.agg_list.Agg.{Agg}
 use Rattle.aggregate.specs.declared.agg_list.Agg.TheVariants as aggs
 use Rattle.job_text.specs.declared.mark.Mark.{Mark}
@@ -21,13 +21,19 @@ use Rattle.job_text.specs.declared.state.At.{At}
 use Rattle.job_text.specs.declared.state.At.TheVariants as at
 use Rattle.job_text.specs.declared.state.State.{State}
 use Rattle.job_text.specs.Columns.{place_of, dataset_names, with_name, with_names, has_column, has_key, has_part, same_agg, same_column}
-use Rattle.job_text.specs.Step.{step, start, query_of, made_from, after_word, counted, key, named, after_mark, after_column, one_more}
+use Rattle.job_text.specs.Step.{step, start, query_of, made_from, after_word, after_quoted, filter_ended, counted, key, named, after_mark, after_column, one_more}
 use Rattle.job_text.specs.Begins.{steps, job_at, job_of}
-use Rattle.job_text.specs.Jobs.{IsShortList, IsDistinct, IsColumns, IsShape, IsQuery, IsJob}
-use Rattle.job_text.specs.Grammar.{WrittenColumn, WrittenKey, WrittenAgg, WrittenShape, WrittenSource, WrittenDataset, WrittenQuery, WrittenJob, IsSourceRight, IsDatasetRight, AreDatasets, IsQueryRight, IsRight, names_written, ended_by, source_written, keep_written, dataset_written, source_meant, from_meant, dataset_meant, column_written, key_written, agg_written, shape_written, from_written, query_written, job_written, optional, separated, name_of, column_names, agg_names, shape_names, query_names, job_names, column_meant, key_meant, agg_meant, shape_meant, query_meant, job_meant}
+use Rattle.job_text.specs.Jobs.{IsShortList, IsDistinct, IsColumns, IsShape}
+use Rattle.job_text.specs.Grammar.{WrittenColumn, WrittenKey, WrittenAgg, WrittenShape, WrittenSource, WrittenFilter, WrittenDataset, IsFilterRight, where_written, filter_uses, dataset_uses, WrittenQuery, WrittenJob, IsSourceRight, IsDatasetRight, AreDatasets, IsQueryRight, IsRight, names_written, ended_by, source_written, keep_written, dataset_written, source_meant, from_meant, dataset_meant, column_written, key_written, agg_written, shape_written, from_written, query_written, job_written, optional, separated, name_of, column_names, agg_names, shape_names, query_names, job_names, column_meant, key_meant, agg_meant, shape_meant, query_meant, job_meant}
 use Rattle.job_text.specs.Grammar.{word, in_quotes, count, sum_of, min_of, max_of, group, order, input, by_name}
 use Rattle.job_text.proofs.Fresh.{name_at}
-use Rattle.job_text.proofs.Meant.{names_meant, source_same}
+use Rattle.std.specs.Option.{option_map}
+use Rattle.row_filter.specs.declared.filter.Filter.{Filter}
+use Rattle.job_text.specs.declared.filter_state.FilterState.{FilterState}
+use Rattle.job_text.specs.FilterStep.{filter_start, filter_steps, filter_at}
+use Rattle.job_text.proofs.FilterWritten.{written_read as filter_written}
+use Rattle.job_text.proofs.Filtered.{filter_goes}
+use Rattle.job_text.proofs.Meant.{names_meant, source_same, names_short, shapes_are}
 use Rattle.job_text.proofs.Named.{place_now, known, with_names-append}
 use Rattle.job_text.proofs.Fitting.{put}
 use Rattle.job_text.proofs.Viable.{has_key_is}
@@ -84,12 +90,12 @@ module _ (names : List (List ℕ)) (short : All (λ name. length name ≤ 1024) 
       rw (le-leb (length name) 1024 few, here, free) refl
 
   column_taken : (place : At) (now : List (List ℕ)) (column : WrittenColumn) (next : State) (rest : List Token)
-      → ((name : List ℕ) → after_word (record { names = now; datasets = datasets; queries = queries }) place name ≡ after_column (record { names = now; datasets = datasets; queries = queries }) place (Some name))
+      → ((name : List ℕ) → (after_word (record { names = now; datasets = datasets; queries = queries }) place name ≡ after_column (record { names = now; datasets = datasets; queries = queries }) place (Some name)) × (after_quoted (record { names = now; datasets = datasets; queries = queries }) place name ≡ after_column (record { names = now; datasets = datasets; queries = queries }) place (Some name)))
       → after_column (record { names = now; datasets = datasets; queries = queries }) place (Some (name_of column)) ≡ Some next
       → steps (put now datasets queries place) (column_written column ++ rest) ≡ steps next rest
   unfolding step
-  column_taken place now (word name) next rest same e = step_then _ _ (Word name) rest (same name ∙ e)
-  column_taken place now (in_quotes name) next rest same e = step_then _ _ (Quoted name) rest e
+  column_taken place now (word name) next rest same e = step_then _ _ (Word name) rest ((same name).0 ∙ e)
+  column_taken place now (in_quotes name) next rest same e = step_then _ _ (Quoted name) rest ((same name).1 ∙ e)
 
   word_taken : (place : At) (now : List (List ℕ)) (name : List ℕ) (next : State) (rest : List Token)
       → after_word (record { names = now; datasets = datasets; queries = queries }) place name ≡ Some next
@@ -139,7 +145,7 @@ module _ (names : List (List ℕ)) (short : All (λ name. length name ≤ 1024) 
       → steps (put now datasets queries (at.GroupColumn before)) (column_written column ++ rest) ≡ steps (put (with_names now (column_names column)) datasets queries (at.GroupColumns (before ++ column_meant names column ∷ []))) rest
   group_column now before column later rest e new follows =
       column_taken (at.GroupColumn before) now column (put (with_name now (name_of column)) datasets queries (at.GroupColumns (before ++ column_meant names column ∷ []))) rest
-      (λ _. refl) (named_taken now (name_of column) later (has_column before) (λ c. at.GroupColumns (before ++ c ∷ [])) e (not_column before (column_meant names column) new))
+      (λ _. (refl, refl)) (named_taken now (name_of column) later (has_column before) (λ c. at.GroupColumns (before ++ c ∷ [])) e (not_column before (column_meant names column) new))
 
   group_comma : (now : List (List ℕ)) (before : List ℕ) (rest : List Token) → length before < 8 → steps (put now datasets queries (at.GroupColumns before)) (Fixed marks.Comma ∷ rest) ≡ steps (put now datasets queries (at.GroupColumn before)) rest
   group_comma now before rest lt = mark_taken (at.GroupColumns before) now marks.Comma (put now datasets queries (at.GroupColumn before)) rest (more_taken now before (at.GroupColumn before) lt)
@@ -148,7 +154,7 @@ module _ (names : List (List ℕ)) (short : All (λ name. length name ≤ 1024) 
       → steps (put now datasets queries (at.OrderColumn keys before)) (column_written column ++ rest) ≡ steps (put (with_names now (column_names column)) datasets queries (at.OrderColumns keys (before ++ column_meant names column ∷ []))) rest
   order_column keys now before column later rest e new follows =
       column_taken (at.OrderColumn keys before) now column (put (with_name now (name_of column)) datasets queries (at.OrderColumns keys (before ++ column_meant names column ∷ []))) rest
-      (λ _. refl) (named_taken now (name_of column) later (has_column before) (λ c. at.OrderColumns keys (before ++ c ∷ [])) e (not_column before (column_meant names column) new))
+      (λ _. (refl, refl)) (named_taken now (name_of column) later (has_column before) (λ c. at.OrderColumns keys (before ++ c ∷ [])) e (not_column before (column_meant names column) new))
 
   order_comma : (keys : List KeyItem) (now : List (List ℕ)) (before : List ℕ) (rest : List Token) → length before < 8 → steps (put now datasets queries (at.OrderColumns keys before)) (Fixed marks.Comma ∷ rest) ≡ steps (put now datasets queries (at.OrderColumn keys before)) rest
   order_comma keys now before rest lt = mark_taken (at.OrderColumns keys before) now marks.Comma (put now datasets queries (at.OrderColumn keys before)) rest (more_taken now before (at.OrderColumn keys before) lt)
@@ -160,7 +166,7 @@ module _ (names : List (List ℕ)) (short : All (λ name. length name ≤ 1024) 
       → steps (put now datasets queries (at.PartColumn columns before agg)) (column_written column ++ rest) ≡ steps (put (with_names now (column_names column)) datasets queries (at.Parts columns (before ++ record { agg = agg; column = Some (column_meant names column) } ∷ []))) rest
   agg_with_column columns now before agg column later rest e new =
       column_taken (at.PartColumn columns before agg) now column (put (with_name now (name_of column)) datasets queries (at.Parts columns (before ++ record { agg = agg; column = Some (column_meant names column) } ∷ []))) rest
-      (λ _. refl) (named_taken now (name_of column) later (λ c. has_part before (record { agg = agg; column = Some c })) (λ c. at.Parts columns (before ++ record { agg = agg; column = Some c } ∷ [])) e
+      (λ _. (refl, refl)) (named_taken now (name_of column) later (λ c. has_part before (record { agg = agg; column = Some c })) (λ c. at.Parts columns (before ++ record { agg = agg; column = Some c } ∷ [])) e
       (not_part before (record { agg = agg; column = Some (column_meant names column) }) new))
 
   part : (columns : List ℕ) (now : List (List ℕ)) (before : List Part) (agg : WrittenAgg) (later : List (List ℕ)) (rest : List Token) → with_names now (agg_names agg ++ later) ≡ names → All (λ p. p ≢ agg_meant names agg) before → Unit {0}
@@ -204,27 +210,27 @@ module _ (names : List (List ℕ)) (short : All (λ name. length name ≤ 1024) 
           let c = written.column in
           let p = column_meant names c in
           ap (λ (l : List Token). steps (put now datasets queries (at.Key before)) (l ++ rest)) (append-nil (column_written c))
-          ∙ column_taken (at.Key before) now c (put (with_name now (name_of c)) datasets queries (at.KeyColumn before p false)) rest (λ _. refl) (named_taken now (name_of c) later (has_key before) (λ p. at.KeyColumn before p false) e (new_key before p new))
+          ∙ column_taken (at.Key before) now c (put (with_name now (name_of c)) datasets queries (at.KeyColumn before p false)) rest (λ _. (refl, refl)) (named_taken now (name_of c) later (has_key before) (λ p. at.KeyColumn before p false) e (new_key before p new))
           ∙ follows (with_name now (name_of c)) before p false
       by false true =
           let c = written.column in
           let p = column_meant names c in
           ap (steps (put now datasets queries (at.Key before))) (append_assoc (column_written c) (Fixed marks.Down ∷ []) rest)
-          ∙ column_taken (at.Key before) now c (put (with_name now (name_of c)) datasets queries (at.KeyColumn before p false)) (Fixed marks.Down ∷ rest) (λ _. refl) (named_taken now (name_of c) later (has_key before) (λ p. at.KeyColumn before p false) e (new_key before p new))
+          ∙ column_taken (at.Key before) now c (put (with_name now (name_of c)) datasets queries (at.KeyColumn before p false)) (Fixed marks.Down ∷ rest) (λ _. (refl, refl)) (named_taken now (name_of c) later (has_key before) (λ p. at.KeyColumn before p false) e (new_key before p new))
           ∙ mark_taken (at.KeyColumn before p false) (with_name now (name_of c)) marks.Down (put (with_name now (name_of c)) datasets queries (at.Keys (key before p false true))) rest refl
       by true false =
           let c = written.column in
           let p = column_meant names c in
           ap (λ (l : List Token). steps (put now datasets queries (at.Key before)) (Fixed marks.Number ∷ (l ++ rest))) (append-nil (column_written c))
           ∙ mark_taken (at.Key before) now marks.Number (put now datasets queries (at.NumberKey before)) (column_written c ++ rest) refl
-          ∙ column_taken (at.NumberKey before) now c (put (with_name now (name_of c)) datasets queries (at.KeyColumn before p true)) rest (λ _. refl) (named_taken now (name_of c) later (has_key before) (λ p. at.KeyColumn before p true) e (new_key before p new))
+          ∙ column_taken (at.NumberKey before) now c (put (with_name now (name_of c)) datasets queries (at.KeyColumn before p true)) rest (λ _. (refl, refl)) (named_taken now (name_of c) later (has_key before) (λ p. at.KeyColumn before p true) e (new_key before p new))
           ∙ follows (with_name now (name_of c)) before p true
       by true true =
           let c = written.column in
           let p = column_meant names c in
           ap (λ (l : List Token). steps (put now datasets queries (at.Key before)) (Fixed marks.Number ∷ l)) (append_assoc (column_written c) (Fixed marks.Down ∷ []) rest)
           ∙ mark_taken (at.Key before) now marks.Number (put now datasets queries (at.NumberKey before)) (column_written c ++ Fixed marks.Down ∷ rest) refl
-          ∙ column_taken (at.NumberKey before) now c (put (with_name now (name_of c)) datasets queries (at.KeyColumn before p true)) (Fixed marks.Down ∷ rest) (λ _. refl) (named_taken now (name_of c) later (has_key before) (λ p. at.KeyColumn before p true) e (new_key before p new))
+          ∙ column_taken (at.NumberKey before) now c (put (with_name now (name_of c)) datasets queries (at.KeyColumn before p true)) (Fixed marks.Down ∷ rest) (λ _. (refl, refl)) (named_taken now (name_of c) later (has_key before) (λ p. at.KeyColumn before p true) e (new_key before p new))
           ∙ mark_taken (at.KeyColumn before p true) (with_name now (name_of c)) marks.Down (put (with_name now (name_of c)) datasets queries (at.Keys (key before p true true))) rest refl
 
   key_comma : (now : List (List ℕ)) (before : List KeyItem) (rest : List Token) → length before < 8 → steps (put now datasets queries (at.Keys before)) (Fixed marks.Comma ∷ rest) ≡ steps (put now datasets queries (at.Key before)) rest
@@ -395,73 +401,116 @@ module _ (now : List (List ℕ)) (done : List Dataset) where
   word_read place name next rest e = step_then _ _ (Word name) rest e
 
   parent_read : (name : List ℕ) (source : WrittenSource) (rest : List Token) → IsSourceRight (dataset_names done) source
-      → steps (put now done [] (at.DatasetSource name)) (source_written source ++ rest) ≡ steps (put now done [] (at.Made (made_from name (source_meant (dataset_names done) source)))) rest
-  parent_read name input rest h = mark_read (at.DatasetSource name) marks.Input (put now done [] (at.Made (made_from name 0))) rest refl
-  parent_read name (by_name source) rest h = word_read (at.DatasetSource name) source (put now done [] (at.Made (made_from name (place_of (dataset_names done) source + 1)))) rest (rw h refl)
+      → steps (put now done [] (at.DatasetSource name)) (source_written source ++ rest) ≡ steps (put now done [] (at.Made (made_from name (source_meant (dataset_names done) source) None))) rest
+  parent_read name input rest h = mark_read (at.DatasetSource name) marks.Input (put now done [] (at.Made (made_from name 0 None))) rest refl
+  parent_read name (by_name source) rest h = word_read (at.DatasetSource name) source (put now done [] (at.Made (made_from name (place_of (dataset_names done) source + 1) None))) rest (rw h refl)
 
-  level_read : (name : List ℕ) (parent : ℕ) (level : Option Level) (rest : List Token)
-      → steps (put now done [] (at.Made (made_from name parent))) (keep_written level ++ Fixed marks.Semicolon ∷ rest) ≡ steps (put now (done ++ record { name = name; parent = parent; filter = None; level = level } ∷ []) [] at.Start) rest
-  level_read name parent None rest = mark_read (at.Made (made_from name parent)) marks.Semicolon (put now (done ++ made_from name parent ∷ []) [] at.Start) rest refl
-  level_read name parent (Some levels.Memory) rest =
-      let dataset = made_from name parent in
-      mark_read (at.Made dataset) marks.Keep (put now done [] (at.Level dataset)) (Fixed marks.Memory ∷ Fixed marks.Semicolon ∷ rest) refl
+  -- behind what may be the end of a dataset
+  level_read : (place : At) (dataset : Dataset) (level : Option Level) (rest : List Token) → dataset.level ≡ None
+      → after_mark (record { names = now; datasets = done; queries = [] }) place marks.Keep ≡ Some (put now done [] (at.Level dataset))
+      → after_mark (record { names = now; datasets = done; queries = [] }) place marks.Semicolon ≡ Some (put now (done ++ dataset ∷ []) [] at.Start)
+      → steps (put now done [] place) (keep_written level ++ Fixed marks.Semicolon ∷ rest) ≡ steps (put now (done ++ record dataset { level = level } ∷ []) [] at.Start) rest
+  level_read place dataset None rest none keep ends =
+      mark_read place marks.Semicolon (put now (done ++ dataset ∷ []) [] at.Start) rest ends
+      ∙ ap (λ (l : Option Level). steps (put now (done ++ record dataset { level = l } ∷ []) [] at.Start) rest) none
+  level_read place dataset (Some levels.Memory) rest none keep ends =
+      mark_read place marks.Keep (put now done [] (at.Level dataset)) (Fixed marks.Memory ∷ Fixed marks.Semicolon ∷ rest) keep
       ∙ mark_read (at.Level dataset) marks.Memory (put now done [] (at.Kept (record dataset { level = Some levels.Memory }))) (Fixed marks.Semicolon ∷ rest) refl
       ∙ mark_read (at.Kept (record dataset { level = Some levels.Memory })) marks.Semicolon (put now (done ++ record dataset { level = Some levels.Memory } ∷ []) [] at.Start) rest refl
-  level_read name parent (Some levels.Disk) rest =
-      let dataset = made_from name parent in
-      mark_read (at.Made dataset) marks.Keep (put now done [] (at.Level dataset)) (Fixed marks.Disk ∷ Fixed marks.Semicolon ∷ rest) refl
+  level_read place dataset (Some levels.Disk) rest none keep ends =
+      mark_read place marks.Keep (put now done [] (at.Level dataset)) (Fixed marks.Disk ∷ Fixed marks.Semicolon ∷ rest) keep
       ∙ mark_read (at.Level dataset) marks.Disk (put now done [] (at.Kept (record dataset { level = Some levels.Disk }))) (Fixed marks.Semicolon ∷ rest) refl
       ∙ mark_read (at.Kept (record dataset { level = Some levels.Disk })) marks.Semicolon (put now (done ++ record dataset { level = Some levels.Disk } ∷ []) [] at.Start) rest refl
 
-  dataset_read : (dataset : WrittenDataset) (rest : List Token) → IsDatasetRight (dataset_names done) dataset → length done < 8
-      → steps (put now done [] at.Start) (dataset_written dataset ++ Fixed marks.Semicolon ∷ rest) ≡ steps (put now (done ++ dataset_meant (dataset_names done) dataset ∷ []) [] at.Start) rest
-  dataset_read dataset rest h few =
-      let name = dataset.name in
-      let source = source_written dataset.source in
-      let level = keep_written dataset.level in
-      let parent = source_meant (dataset_names done) dataset.source in
-      let back : List Token = (source ++ level) ++ Fixed marks.Semicolon ∷ rest in
-      mark_read at.Start marks.Let (put now done [] at.DatasetName) (Word name ∷ Fixed marks.Equal ∷ back) (rw (lt-ltb (length done) 8 few) refl)
-      ∙ word_read at.DatasetName name (put now done [] (at.DatasetEquals name)) (Fixed marks.Equal ∷ back) (rw (le-leb (length name) 64 h.short, h.new) refl)
-      ∙ mark_read (at.DatasetEquals name) marks.Equal (put now done [] (at.DatasetSource name)) back refl
-      ∙ ap (steps (put now done [] (at.DatasetSource name))) (append_assoc source level (Fixed marks.Semicolon ∷ rest))
-      ∙ parent_read name dataset.source (level ++ Fixed marks.Semicolon ∷ rest) h.source
-      ∙ level_read name parent dataset.level rest
+-- a filter, and what may end its dataset
+filter_read : (now later : List (List ℕ)) (done : List Dataset) (name : List ℕ) (parent : ℕ) (filter : WrittenFilter) (level : Option Level) (rest : List Token) → IsFilterRight (with_names (with_names now filter.used) later) filter
+    → steps (put now done [] (at.Made (made_from name parent None))) ((Fixed marks.Where ∷ filter.tokens) ++ (keep_written level ++ Fixed marks.Semicolon ∷ rest))
+    ≡ steps (put (with_names now filter.used) (done ++ record { name = name; parent = parent; filter = Some filter.means; level = level } ∷ []) [] at.Start) rest
+unfolding filter_steps
+filter_read now later done name parent filter level rest h =
+    let read = filter_written now filter.used later filter.tokens filter.means h in
+    let next = with_names now filter.used in
+    let dataset = made_from name parent (Some filter.means) in
+    let back : List Token = keep_written level ++ Fixed marks.Semicolon ∷ rest in
+    mark_read now done (at.Made (made_from name parent None)) marks.Where (put now done [] (at.Filter name parent filter_start)) (filter.tokens ++ back) refl
+    ∙ filter_goes done [] name parent filter.tokens now next filter_start read.last back (whole read.last (read.reads []))
+    ∙ level_read next done (at.Filter name parent read.last) dataset level rest refl (ends marks.Keep read.last read.is) (ends_here read.last read.is)
+  where
+    whole : (last : FilterState) → filter_steps now filter_start (filter.tokens ++ []) ≡ filter_steps (with_names now filter.used) last [] → filter_steps now filter_start filter.tokens ≡ Some (with_names now filter.used, last)
+    whole last e = ap (filter_steps now filter_start) (sym (append-nil filter.tokens)) ∙ e
 
-datasets_read : (now : List (List ℕ)) (all : List (List ℕ)) (done : List Dataset) (datasets : List WrittenDataset) (rest : List Token) → all ≡ dataset_names done ++ names_written datasets
-    → AreDatasets (dataset_names done) datasets → length done + length datasets ≤ 8
-    → steps (put now done [] at.Start) (ended_by marks.Semicolon dataset_written datasets ++ rest) ≡ steps (put now (done ++ map (dataset_meant all) datasets) [] at.Start) rest
-datasets_read now all done [] rest e h few = ap (λ (l : List Dataset). steps (put now l [] at.Start) rest) (sym (append-nil done))
-datasets_read now all done (dataset ∷ datasets) rest e h few =
+    ends : (mark : Mark) (last : FilterState) → filter_at last ≡ Some filter.means → filter_ended (record { names = with_names now filter.used; datasets = done; queries = [] }) name parent (filter_at last) mark ≡ filter_ended (record { names = with_names now filter.used; datasets = done; queries = [] }) name parent (Some filter.means) mark
+    ends mark last e = ap (λ (o : Option Filter). filter_ended (record { names = with_names now filter.used; datasets = done; queries = [] }) name parent o mark) e
+
+    ends_here : (last : FilterState) → filter_at last ≡ Some filter.means → filter_ended (record { names = with_names now filter.used; datasets = done; queries = [] }) name parent (filter_at last) marks.Semicolon ≡ Some (put (with_names now filter.used) (done ++ made_from name parent (Some filter.means) ∷ []) [] at.Start)
+    ends_here last e = ends marks.Semicolon last e
+
+where_read : (now later : List (List ℕ)) (done : List Dataset) (name : List ℕ) (parent : ℕ) (filter : Option WrittenFilter) (level : Option Level) (rest : List Token)
+    → IfSome filter (IsFilterRight (with_names (with_names now (filter_uses filter)) later))
+    → steps (put now done [] (at.Made (made_from name parent None))) (where_written filter ++ (keep_written level ++ Fixed marks.Semicolon ∷ rest))
+    ≡ steps (put (with_names now (filter_uses filter)) (done ++ record { name = name; parent = parent; filter = option_map (λ filter. filter.means) filter; level = level } ∷ []) [] at.Start) rest
+where_read now later done name parent None level rest h = level_read now done (at.Made (made_from name parent None)) (made_from name parent None) level rest refl refl refl
+where_read now later done name parent (Some filter) level rest h = filter_read now later done name parent filter level rest h
+
+dataset_read : (now later : List (List ℕ)) (done : List Dataset) (dataset : WrittenDataset) (rest : List Token) → IsDatasetRight (with_names (with_names now (dataset_uses dataset)) later) (dataset_names done) dataset → length done < 8
+    → steps (put now done [] at.Start) (dataset_written dataset ++ Fixed marks.Semicolon ∷ rest) ≡ steps (put (with_names now (dataset_uses dataset)) (done ++ dataset_meant (dataset_names done) dataset ∷ []) [] at.Start) rest
+dataset_read now later done dataset rest h few =
+    let name = dataset.name in
+    let source = source_written dataset.source in
+    let filter = where_written dataset.filter in
+    let level = keep_written dataset.level in
+    let parent = source_meant (dataset_names done) dataset.source in
+    let last : List Token = Fixed marks.Semicolon ∷ rest in
+    let back : List Token = ((source ++ filter) ++ level) ++ last in
+    mark_read now done at.Start marks.Let (put now done [] at.DatasetName) (Word name ∷ Fixed marks.Equal ∷ back) (rw (lt-ltb (length done) 8 few) refl)
+    ∙ word_read now done at.DatasetName name (put now done [] (at.DatasetEquals name)) (Fixed marks.Equal ∷ back) (rw (le-leb (length name) 64 h.short, h.new) refl)
+    ∙ mark_read now done (at.DatasetEquals name) marks.Equal (put now done [] (at.DatasetSource name)) back refl
+    ∙ ap (steps (put now done [] (at.DatasetSource name))) (append_assoc (source ++ filter) level last ∙ append_assoc source filter (level ++ last))
+    ∙ parent_read now done name dataset.source (filter ++ (level ++ last)) h.source
+    ∙ where_read now later done name parent dataset.filter dataset.level rest h.filter
+
+datasets_read : (now later all : List (List ℕ)) (done : List Dataset) (datasets : List WrittenDataset) (rest : List Token) → all ≡ dataset_names done ++ names_written datasets
+    → AreDatasets (with_names (with_names now (flat_map dataset_uses datasets)) later) (dataset_names done) datasets → length done + length datasets ≤ 8
+    → steps (put now done [] at.Start) (ended_by marks.Semicolon dataset_written datasets ++ rest) ≡ steps (put (with_names now (flat_map dataset_uses datasets)) (done ++ map (dataset_meant all) datasets) [] at.Start) rest
+datasets_read now later all done [] rest e h few = ap (λ (l : List Dataset). steps (put now l [] at.Start) rest) (sym (append-nil done))
+datasets_read now later all done (dataset ∷ datasets) rest e h few =
     let more = ended_by marks.Semicolon dataset_written datasets in
     let one = dataset_meant all dataset in
     let next : List Dataset = done ++ one ∷ [] in
+    let uses = dataset_uses dataset in
+    let others = flat_map dataset_uses datasets in
     let names : dataset_names next ≡ dataset_names done ++ dataset.name ∷ [] = map-append (λ dataset. dataset.name) done (one ∷ []) in
     let parent : source_meant (dataset_names done) dataset.source ≡ source_meant all dataset.source =
       sym (source_same (dataset_names done) (names_written (dataset ∷ datasets)) dataset.source h.0.source) ∙ ap (λ (l : List (List ℕ)). source_meant l dataset.source) (sym e) in
+    let split : with_names now (uses ++ others) ≡ with_names (with_names now uses) others = with_names-append uses others now in
+    let all_split : with_names (with_names now (uses ++ others)) later ≡ with_names (with_names now uses) (others ++ later) = ap (λ (l : List (List ℕ)). with_names l later) split ∙ sym (with_names-append others later (with_names now uses)) in
     ap (steps (put now done [] at.Start)) (append_assoc (dataset_written dataset) (Fixed marks.Semicolon ∷ more) rest)
-    ∙ dataset_read now done dataset (more ++ rest) h.0 (omega (arith, few))
-    ∙ ap (λ (n : ℕ). steps (put now (done ++ record { name = dataset.name; parent = n; filter = None; level = dataset.level } ∷ []) [] at.Start) (more ++ rest)) parent
-    ∙ datasets_read now all next datasets rest (e ∙ sym (append_assoc (dataset_names done) (dataset.name ∷ []) (names_written datasets)) ∙ ap (λ (l : List (List ℕ)). l ++ names_written datasets) (sym names))
-    (subst (λ (l : List (List ℕ)). AreDatasets l datasets) (sym names) h.1) (omega (arith, few, length-append done (one ∷ [])))
-    ∙ ap (λ (l : List Dataset). steps (put now l [] at.Start) rest) (append_assoc done (one ∷ []) (map (dataset_meant all) datasets))
+    ∙ dataset_read now (others ++ later) done dataset (more ++ rest) (subst (λ (l : List (List ℕ)). IsDatasetRight l (dataset_names done) dataset) all_split h.0) (omega (arith, few))
+    ∙ ap (λ (n : ℕ). steps (put (with_names now uses) (done ++ record { name = dataset.name; parent = n; filter = option_map (λ filter. filter.means) dataset.filter; level = dataset.level } ∷ []) [] at.Start) (more ++ rest)) parent
+    ∙ datasets_read (with_names now uses) later all next datasets rest (e ∙ sym (append_assoc (dataset_names done) (dataset.name ∷ []) (names_written datasets)) ∙ ap (λ (l : List (List ℕ)). l ++ names_written datasets) (sym names))
+    (subst (λ (l : List (List ℕ)). AreDatasets l (dataset_names next) datasets) (ap (λ (l : List (List ℕ)). with_names l later) split)
+    (subst (λ (l : List (List ℕ)). AreDatasets (with_names (with_names now (uses ++ others)) later) l datasets) (sym names) h.1)) (omega (arith, few, length-append done (one ∷ [])))
+    ∙ ap (λ (l : List (List ℕ)). steps (put l (next ++ map (dataset_meant all) datasets) [] at.Start) rest) (sym split)
+    ∙ ap (λ (l : List Dataset). steps (put (with_names now (uses ++ others)) l [] at.Start) rest) (append_assoc done (one ∷ []) (map (dataset_meant all) datasets))
 
-pub written_read : (job : WrittenJob) → IsRight job → IsJob (job_meant job) → job_of (job_written job) ≡ Some (job_meant job)
-written_read job right h = by job.queries refl
+pub written_read : (job : WrittenJob) → IsRight job → job_of (job_written job) ≡ Some (job_meant job)
+written_read job right = by job.queries refl
   where
     by : (queries : List WrittenQuery) → job.queries ≡ queries → job_of (job_written job) ≡ Some (job_meant job)
     by [] e = absurd (omega (arith, right.several.some, ap length e))
     by (query ∷ queries) e =
+        let made = flat_map dataset_uses job.datasets in
+        let rest = flat_map query_names job.queries in
         let names = with_names [] (job_names job) in
+        let split : names ≡ with_names (with_names [] made) rest = with_names-append made rest [] in
         let all = names_written job.datasets in
         let datasets = map (dataset_meant all) job.datasets in
         let same : dataset_names datasets ≡ all = names_meant all job.datasets in
-        let shapes : All (λ query. IsShape (length names) (shape_meant names query.shape)) job.queries = λ k d lt. (subst (IsQuery (length names) (length datasets)) (get_or-map (query_meant names all) job.queries k d (query_meant names all d) lt) (h.queries k (query_meant names all d) (omega (arith, lt, length-map job.queries (query_meant names all))))).shape in
         ap (λ (l : List WrittenQuery). job_at (steps start (ended_by marks.Semicolon dataset_written job.datasets ++ separated marks.Semicolon query_written l))) e
-        ∙ ap job_at (datasets_read [] all [] job.datasets (separated marks.Semicolon query_written (query ∷ queries)) refl right.datasets (omega (arith, right.few)))
-        ∙ ap job_at (queries_start [] datasets [] query queries)
-        ∙ queries_read names h.names datasets [] [] query queries (ap (λ (l : List WrittenQuery). with_names [] (flat_map query_names l)) (sym e))
-        (subst (All (λ query. IsShape (length names) (shape_meant names query.shape))) e shapes)
+        ∙ ap job_at (datasets_read [] rest all [] job.datasets (separated marks.Semicolon query_written (query ∷ queries)) refl (subst (λ (l : List (List ℕ)). AreDatasets l [] job.datasets) split right.datasets) (omega (arith, right.few)))
+        ∙ ap job_at (queries_start (with_names [] made) datasets [] query queries)
+        ∙ queries_read names (names_short job right) datasets (with_names [] made) [] query queries (ap (λ (l : List WrittenQuery). with_names (with_names [] made) (flat_map query_names l)) (sym e) ∙ sym split)
+        (subst (All (λ query. IsShape (length names) (shape_meant names query.shape))) e (shapes_are job right))
         (subst (λ (l : List WrittenQuery). All (IsQueryRight (dataset_names datasets)) l) e (subst (λ (l : List (List ℕ)). All (IsQueryRight l) job.queries) (sym same) right.queries))
         (omega (arith, right.several.few, ap length e))
         ∙ ap (λ (l : List WrittenQuery). Some (record { names = names; datasets = datasets; queries = map (query_meant names (dataset_names datasets)) l })) (sym e)

@@ -17,6 +17,8 @@ use Rattle.job_text.specs.declared.job.Part.{Part}
 use Rattle.job_text.specs.declared.job.Query.{Query}
 use Rattle.job_text.specs.declared.job.Shape.{Shape}
 use Rattle.job_text.specs.declared.job.Shape.TheVariants as shapes
+use Rattle.row_filter.specs.declared.filter.Filter.{Filter}
+use Rattle.job_text.specs.FilterGrammar.{IsWrittenFilter}
 use Rattle.job_text.specs.Columns.{place_of, is_among, with_names}
 use Rattle.job_text.specs.Jobs.{IsShortList, IsDistinct}
 
@@ -71,9 +73,11 @@ pub data WrittenShape : Type 0 where
 
 abbrev pub shape_written : WrittenShape → List Token
 shape_written (group columns aggs) =
-    Fixed marks.Group ∷ separated marks.Comma column_written columns ++ Fixed marks.Colon ∷ separated marks.Comma agg_written aggs
+    Fixed marks.Group ∷ separated marks.Comma column_written columns
+    ++ Fixed marks.Colon ∷ separated marks.Comma agg_written aggs
 shape_written (order keys columns) =
-    Fixed marks.Order ∷ separated marks.Comma key_written keys ++ Fixed marks.Colon ∷ separated marks.Comma column_written columns
+    Fixed marks.Order ∷ separated marks.Comma key_written keys
+    ++ Fixed marks.Colon ∷ separated marks.Comma column_written columns
 
 -- source = "input" | name
 pub data WrittenSource : Type 0 where
@@ -107,15 +111,28 @@ abbrev pub keep_written : Option Level → List Token
 keep_written None = []
 keep_written (Some level) = Fixed marks.Keep ∷ level_written level
 
--- dataset = "let" name "=" source [ "keep" level ]
+-- filter: its tokens, the columns that they name, and what they mean; FilterGrammar.antt has its grammar
+pub record WrittenFilter : Type 0 where
+  pub tokens : List Token
+  pub used : List (List ℕ)
+  pub means : Filter
+
+-- [ "where" filter ]
+abbrev pub where_written : Option WrittenFilter → List Token
+where_written None = []
+where_written (Some filter) = Fixed marks.Where ∷ filter.tokens
+
+-- dataset = "let" name "=" source [ "where" filter ] [ "keep" level ]
 pub record WrittenDataset : Type 0 where
   pub name : List ℕ
   pub source : WrittenSource
+  pub filter : Option WrittenFilter
   pub level : Option Level
 
 abbrev pub dataset_written : WrittenDataset → List Token
 dataset_written dataset =
-    Fixed marks.Let ∷ Word dataset.name ∷ Fixed marks.Equal ∷ source_written dataset.source ++ keep_written dataset.level
+    Fixed marks.Let ∷ Word dataset.name ∷ Fixed marks.Equal ∷ source_written dataset.source
+    ++ where_written dataset.filter ++ keep_written dataset.level
 
 -- { item sign }
 abbrev pub ended_by : {A : Type 0} → Mark → (A → List Token) → List A → List Token
@@ -128,13 +145,41 @@ pub record WrittenJob : Type 0 where
   pub queries : List WrittenQuery
 
 abbrev pub job_written : WrittenJob → List Token
-job_written job = ended_by marks.Semicolon dataset_written job.datasets ++ separated marks.Semicolon query_written job.queries
+job_written job =
+    ended_by marks.Semicolon dataset_written job.datasets ++ separated marks.Semicolon query_written job.queries
 
 -- ---- the further rules, on the bytes of names
 
 abbrev pub name_of : WrittenColumn → List ℕ
 name_of (word name) = name
 name_of (in_quotes name) = name
+
+-- the columns that are named, in the order of the text
+abbrev pub column_names : WrittenColumn → List (List ℕ)
+column_names column = name_of column ∷ []
+
+abbrev pub agg_names : WrittenAgg → List (List ℕ)
+agg_names count = []
+agg_names (sum_of column) = column_names column
+agg_names (min_of column) = column_names column
+agg_names (max_of column) = column_names column
+
+abbrev pub shape_names : WrittenShape → List (List ℕ)
+shape_names (group columns aggs) = flat_map column_names columns ++ flat_map agg_names aggs
+shape_names (order keys columns) = flat_map (λ key. column_names key.column) keys ++ flat_map column_names columns
+
+abbrev pub query_names : WrittenQuery → List (List ℕ)
+query_names query = shape_names query.shape
+
+abbrev pub filter_uses : Option WrittenFilter → List (List ℕ)
+filter_uses None = []
+filter_uses (Some filter) = filter.used
+
+abbrev pub dataset_uses : WrittenDataset → List (List ℕ)
+dataset_uses dataset = filter_uses dataset.filter
+
+abbrev pub job_names : WrittenJob → List (List ℕ)
+job_names job = flat_map dataset_uses job.datasets ++ flat_map query_names job.queries
 
 -- a column has at most 1,024 bytes
 abbrev pub IsShortColumn : WrittenColumn → Type 0
@@ -180,16 +225,22 @@ abbrev pub IsSourceRight : List (List ℕ) → WrittenSource → Type 0
 IsSourceRight datasets input = ⊤
 IsSourceRight datasets (by_name name) = is_among datasets name ≡ true
 
+-- a filter is one of the grammar, over the names of the job
+abbrev pub IsFilterRight : List (List ℕ) → WrittenFilter → Type 0
+IsFilterRight names filter = IsWrittenFilter names filter.tokens filter.used filter.means
+
 -- the name of a dataset has at most 64 bytes, and none before has it; its source stands before it
-pub record IsDatasetRight (before : List (List ℕ)) (dataset : WrittenDataset) : Type 0 where
+pub record IsDatasetRight (names before : List (List ℕ)) (dataset : WrittenDataset) : Type 0 where
   pub short : length dataset.name ≤ 64
   pub new : is_among before dataset.name ≡ false
   pub source : IsSourceRight before dataset.source
+  pub filter : IfSome dataset.filter (IsFilterRight names)
 
 -- so each dataset, behind those before it
-abbrev pub AreDatasets : List (List ℕ) → List WrittenDataset → Type 0
-AreDatasets before [] = ⊤
-AreDatasets before (dataset ∷ more) = IsDatasetRight before dataset × AreDatasets (before ++ dataset.name ∷ []) more
+abbrev pub AreDatasets : List (List ℕ) → List (List ℕ) → List WrittenDataset → Type 0
+AreDatasets names before [] = ⊤
+AreDatasets names before (dataset ∷ more) =
+    IsDatasetRight names before dataset × AreDatasets names (before ++ dataset.name ∷ []) more
 
 abbrev pub names_written : List WrittenDataset → List (List ℕ)
 names_written datasets = map (λ dataset. dataset.name) datasets
@@ -201,31 +252,11 @@ pub record IsQueryRight (datasets : List (List ℕ)) (query : WrittenQuery) : Ty
 -- at most eight datasets, and one to eight queries
 pub record IsRight (job : WrittenJob) : Type 0 where
   pub few : length job.datasets ≤ 8
-  pub datasets : AreDatasets [] job.datasets
+  pub datasets : AreDatasets (with_names [] (job_names job)) [] job.datasets
   pub several : IsShortList job.queries
   pub queries : All (IsQueryRight (names_written job.datasets)) job.queries
 
 -- ---- which job is written
-
--- the columns that are named, in the order of the text
-abbrev pub column_names : WrittenColumn → List (List ℕ)
-column_names column = name_of column ∷ []
-
-abbrev pub agg_names : WrittenAgg → List (List ℕ)
-agg_names count = []
-agg_names (sum_of column) = column_names column
-agg_names (min_of column) = column_names column
-agg_names (max_of column) = column_names column
-
-abbrev pub shape_names : WrittenShape → List (List ℕ)
-shape_names (group columns aggs) = flat_map column_names columns ++ flat_map agg_names aggs
-shape_names (order keys columns) = flat_map (λ key. column_names key.column) keys ++ flat_map column_names columns
-
-abbrev pub query_names : WrittenQuery → List (List ℕ)
-query_names query = shape_names query.shape
-
-abbrev pub job_names : WrittenJob → List (List ℕ)
-job_names job = flat_map query_names job.queries
 
 -- a column is its place among the names
 abbrev pub column_meant : List (List ℕ) → WrittenColumn → ℕ
@@ -253,7 +284,12 @@ from_meant datasets (Some source) = source_meant datasets source
 
 abbrev pub dataset_meant : List (List ℕ) → WrittenDataset → Dataset
 dataset_meant datasets dataset =
-    record { name = dataset.name; parent = source_meant datasets dataset.source; filter = None; level = dataset.level }
+    record {
+      name = dataset.name;
+      parent = source_meant datasets dataset.source;
+      filter = option_map (λ filter. filter.means) dataset.filter;
+      level = dataset.level;
+    }
 
 abbrev pub query_meant : List (List ℕ) → List (List ℕ) → WrittenQuery → Query
 query_meant names datasets query =

@@ -1,7 +1,7 @@
 -- What holds of each job that has a text: how long its lists are, and that a column is one of its names.
 -- This project's own.
 use Rattle.std.specs.Prelude.{◌≡◌, ◌≢◌, ℕ, ◌≤◌, ◌<◌, not, Bool, true, false, List, [], ◌++◌, All, AllPairs, IfSome, is_some, length, map, flat_map, slice_index_or, nat_eq, ◌&&◌}
-use Rattle.std.specs.Option.{option_to_list}
+use Rattle.std.specs.Option.{option_to_list, option_map_or}
 use Rattle.aggregate.specs.declared.agg_list.Agg.{Agg}
 use Rattle.aggregate.specs.declared.agg_list.Agg.TheVariants.{Count, Sum, Min, Max}
 use Rattle.job_text.specs.declared.job.Dataset.{Dataset}
@@ -10,6 +10,8 @@ use Rattle.job_text.specs.declared.job.Part.{Part}
 use Rattle.job_text.specs.declared.job.Query.{Query}
 use Rattle.job_text.specs.declared.job.Shape.{Shape}
 use Rattle.job_text.specs.declared.job.Shape.TheVariants.{Group, Order}
+use Rattle.job_text.specs.Scan.{is_plain}
+use Rattle.job_text.specs.FilterForms.{filter_places, IsFilter}
 use Rattle.job_text.specs.Columns.{with_names}
 
 -- one to eight items
@@ -55,16 +57,24 @@ abbrev pub shape_places : Shape → List ℕ
 shape_places (Group columns parts) = columns ++ flat_map (λ part. option_to_list part.column) parts
 shape_places (Order keys columns) = map (λ key. key.column) keys ++ columns
 
+-- the columns of a dataset's filter, in the order of its text
+abbrev pub dataset_places : Dataset → List ℕ
+dataset_places dataset = option_map_or filter_places dataset.filter []
+
 -- the names of a job's columns, in the order of its text
 abbrev pub columns_named : Job → List (List ℕ)
-columns_named job = map (λ place. slice_index_or job.names place []) (flat_map (λ query. shape_places query.shape) job.queries)
+columns_named job =
+    map (λ place. slice_index_or job.names place [])
+    (flat_map dataset_places job.datasets ++ flat_map (λ query. shape_places query.shape) job.queries)
 
--- datasets: none has the name of another, each is made of the input or of one before it, and names have at most
--- 64 bytes
-pub record AreMade (datasets : List Dataset) : Type 0 where
+-- datasets: a name is a word that isn't reserved, of at most 64 bytes, and none has the name of another; each is
+-- made of the input or of one before it, by a filter over so many columns or none
+pub record AreMade (names : ℕ) (datasets : List Dataset) : Type 0 where
   pub few : length datasets ≤ 8
   pub short : All (λ dataset. length dataset.name ≤ 64) datasets
   pub new : IsDistinct (map (λ dataset. dataset.name) datasets)
+  pub plain : All (λ dataset. is_plain dataset.name ≡ true) datasets
+  pub filters : All (λ dataset. IfSome dataset.filter (IsFilter names)) datasets
   pub earlier : (place : ℕ) (d : Dataset) → place < length datasets → (slice_index_or datasets place d).parent ≤ place
 
 -- one query over the input, without datasets
@@ -76,6 +86,6 @@ pub record IsJob (job : Job) : Type 0 where
   pub names : All (λ name. length name ≤ 1024) job.names
   pub first : with_names [] (columns_named job) ≡ job.names
   pub distinct : IsDistinct job.names
-  pub datasets : AreMade job.datasets
+  pub datasets : AreMade (length job.names) job.datasets
   pub several : IsShortList job.queries
   pub queries : All (IsQuery (length job.names) (length job.datasets)) job.queries

@@ -1,13 +1,13 @@
 pub mod Marks
 pub mod Scan
 pub mod Columns
-pub mod Jobs
-pub mod Grammar
-pub mod Step
 pub mod FilterLists
 pub mod FilterStep
 pub mod FilterGrammar
 pub mod FilterForms
+pub mod Jobs
+pub mod Grammar
+pub mod Step
 pub mod Begins
 pub mod Text
 pub mod Place

@@ -7,6 +7,8 @@ use Rattle.job_text.specs.declared.mark.Mark.{Mark}
 use Rattle.job_text.specs.declared.mark.Mark.TheVariants as marks
 use Rattle.job_text.specs.declared.token.Token.{Token}
 use Rattle.job_text.specs.declared.token.Token.TheVariants.{Fixed, Word, Quoted, Text, Whole}
+use Rattle.row_filter.specs.declared.filter.Filter.{Filter}
+use Rattle.job_text.specs.declared.filter_state.FilterState.{FilterState}
 use Rattle.job_text.specs.declared.job.Part.{Part}
 use Rattle.job_text.specs.declared.job.KeyItem.{KeyItem}
 use Rattle.job_text.specs.declared.job.Shape.{Shape}
@@ -17,6 +19,7 @@ use Rattle.job_text.specs.declared.state.At.{At}
 use Rattle.job_text.specs.declared.state.At.TheVariants as at
 use Rattle.job_text.specs.declared.state.Read.{Read}
 use Rattle.job_text.specs.declared.state.State.{State}
+use Rattle.job_text.specs.FilterStep.{filter_start, filter_step, filter_at}
 use Rattle.job_text.specs.Columns.{place_of, dataset_names, is_among, number_of, with_name, is_short, has_column, has_key, has_part}
 
 -- what was read stays, and this comes next
@@ -61,13 +64,13 @@ after_equals r name marks.Equal = moved r (at.DatasetSource name)
 after_equals r name _ = None
 
 -- a dataset as it is made from another, or from the input
-abbrev pub made_from : List ℕ → ℕ → Dataset
-made_from name parent = record { name = name; parent = parent; filter = None; level = None }
+abbrev pub made_from : List ℕ → ℕ → Option Filter → Dataset
+made_from name parent filter = record { name = name; parent = parent; filter = filter; level = None }
 
 -- where a dataset's source must come
 abbrev pub after_parent : Read → List ℕ → Option ℕ → Option State
 after_parent r name None = None
-after_parent r name (Some parent) = moved r (at.Made (made_from name parent))
+after_parent r name (Some parent) = moved r (at.Made (made_from name parent None))
 
 -- behind a dataset that may end here
 abbrev pub dataset_ended : Read → Dataset → Mark → Option State
@@ -76,8 +79,26 @@ dataset_ended r dataset _ = None
 
 -- behind a dataset's source
 abbrev pub after_made : Read → Dataset → Mark → Option State
+after_made r dataset marks.Where = moved r (at.Filter dataset.name dataset.parent filter_start)
 after_made r dataset marks.Keep = moved r (at.Level dataset)
 after_made r dataset mark = dataset_ended r dataset mark
+
+-- behind a filter that may end here, and `keep` or `;`
+abbrev pub filter_ended : Read → List ℕ → ℕ → Option Filter → Mark → Option State
+filter_ended r name parent None mark = None
+filter_ended r name parent (Some filter) marks.Keep = moved r (at.Level (made_from name parent (Some filter)))
+filter_ended r name parent (Some filter) mark = dataset_ended r (made_from name parent (Some filter)) mark
+
+-- with what was read of a filter
+abbrev pub filtered : Read → List ℕ → ℕ → Option (List (List ℕ) × FilterState) → Option State
+filtered r name parent None = None
+filtered r name parent (Some next) = Some (record { read = record r { names = next.0 }; at = at.Filter name parent next.1 })
+
+-- a token behind `where`: a filter's own, or what may stand behind the filter
+abbrev pub in_filter : Read → List ℕ → ℕ → FilterState → Token → Option State
+in_filter r name parent filter (Fixed marks.Keep) = filter_ended r name parent (filter_at filter) marks.Keep
+in_filter r name parent filter (Fixed marks.Semicolon) = filter_ended r name parent (filter_at filter) marks.Semicolon
+in_filter r name parent filter token = filtered r name parent (filter_step r.names filter token)
 
 -- behind `keep`
 abbrev pub after_keep : Read → Dataset → Mark → Option State
@@ -161,6 +182,7 @@ after_mark r at.DatasetName mark = None
 after_mark r (at.DatasetEquals name) mark = after_equals r name mark
 after_mark r (at.DatasetSource name) mark = after_parent r name (input_as mark)
 after_mark r (at.Made dataset) mark = after_made r dataset mark
+after_mark r (at.Filter name parent filter) mark = in_filter r name parent filter (Fixed mark)
 after_mark r (at.Level dataset) mark = after_keep r dataset mark
 after_mark r (at.Kept dataset) mark = dataset_ended r dataset mark
 after_mark r at.Query mark = after_query r mark
@@ -193,17 +215,28 @@ after_column r _ column = None
 -- a word that isn't reserved
 abbrev pub after_word : Read → At → List ℕ → Option State
 after_word r at.DatasetName word = after_name r word
+after_word r (at.Filter name parent filter) word = in_filter r name parent filter (Word word)
 after_word r (at.DatasetSource name) word = after_parent r name (number_of r.datasets word)
 after_word r (at.Source shape) word = after_source r shape (number_of r.datasets word)
 after_word r place word = after_column r place (Some word)
+
+-- a name in quotes
+abbrev pub after_quoted : Read → At → List ℕ → Option State
+after_quoted r (at.Filter name parent filter) column = in_filter r name parent filter (Quoted column)
+after_quoted r place column = after_column r place (Some column)
+
+-- a text or a whole number
+abbrev pub after_constant : Read → At → Token → Option State
+after_constant r (at.Filter name parent filter) token = in_filter r name parent filter token
+after_constant r place token = None
 
 -- what follows a token, or None where it is refused
 unfoldable pub step : State → Token → Option State
 step s (Fixed mark) = after_mark s.read s.at mark
 step s (Word name) = after_word s.read s.at name
-step s (Quoted name) = after_column s.read s.at (Some name)
-step s (Text text) = None
-step s (Whole value) = None
+step s (Quoted name) = after_quoted s.read s.at name
+step s (Text text) = after_constant s.read s.at (Text text)
+step s (Whole value) = after_constant s.read s.at (Whole value)
 
 -- the query at hand, where it may end here
 abbrev pub last_query : At → Option Query

@@ -3,15 +3,19 @@
 ghost use Rattle.std.specs.Prelude.{◌≡◌, ◌<◌, ◌^◌, length, IfOk, Some};
 ghost use Rattle.job_text.specs.declared.state.At.TheVariants as ats;
 ghost use Rattle.job_text.specs.Columns.{number_of as dataset_number};
-ghost use Rattle.job_text.specs.Step.{after_equals as equals_step, after_keep as keep_step, after_made as made_step, after_name as name_step, after_parent as parent_step, dataset_ended as end_step};
+ghost use Rattle.job_text.specs.Step.{after_equals as equals_step, after_keep as keep_step, after_made as made_step, filter_ended as filter_end_step, in_filter as filter_token_step, after_name as name_step, after_parent as parent_step, dataset_ended as end_step};
 
+use crate::filter_state::FilterState;
+use crate::filter_step::{filter_end, filter_start, filter_take};
 use crate::job::{Dataset, DatasetList};
 use crate::lists::with_item;
 use crate::mark::Mark;
 use crate::state::{At, Read, State};
+use crate::token::Token;
 use item_lists::Name;
 use pool_ledger::Level;
-use std::alloc::AllocError;
+use row_filter::Filter;
+use std::alloc::{AllocError, Global};
 
 const MAX_NAME: usize = 64;
 
@@ -89,6 +93,7 @@ pub(crate) fn ended(read: Read, dataset: Dataset, mark: Mark) -> Result<Option<S
 }
 
 pub(crate) fn after_made(
+    alloc: Global,
     read: Read,
     dataset: Dataset,
     mark: Mark,
@@ -96,11 +101,83 @@ pub(crate) fn after_made(
     ensures { IfOk result (λ next. next ≡ made_step read dataset mark) }
 {
     match mark {
+        Mark::Where => Ok(Some(State {
+            read,
+            at: At::Filter(dataset.name, dataset.parent, filter_start(alloc)),
+        })),
         Mark::Keep => Ok(Some(State {
             read,
             at: At::Level(dataset),
         })),
         _ => ended(read, dataset, mark),
+    }
+}
+
+/// What follows a filter behind which `keep` or `;` stands.
+fn filter_ended(
+    read: Read,
+    name: Name,
+    parent: u32,
+    filter: Option<Filter>,
+    mark: Mark,
+) -> Result<Option<State>, AllocError>
+    ensures { IfOk result (λ next. next ≡ filter_end_step read name parent filter mark) }
+{
+    let Some(filter) = filter else {
+        return Ok(None);
+    };
+    let dataset = Dataset {
+        name,
+        parent,
+        filter: Some(filter),
+        level: None,
+    };
+    match mark {
+        Mark::Keep => Ok(Some(State {
+            read,
+            at: At::Level(dataset),
+        })),
+        _ => ended(read, dataset, mark),
+    }
+}
+
+/// What follows a token behind `where`.
+pub(crate) fn in_filter(
+    alloc: Global,
+    read: Read,
+    name: Name,
+    parent: u32,
+    filter: FilterState,
+    token: Token,
+) -> Result<Option<State>, AllocError>
+    requires room { length read.names < 2 ^ 32 }
+    ensures { IfOk result (λ next. next ≡ filter_token_step read name parent filter token) }
+{
+    match token {
+        Token::Fixed(Mark::Keep) => {
+            filter_ended(read, name, parent, filter_end(filter)?, Mark::Keep)
+        }
+        Token::Fixed(Mark::Semicolon) => {
+            filter_ended(read, name, parent, filter_end(filter)?, Mark::Semicolon)
+        }
+        token => {
+            let Read {
+                names,
+                datasets,
+                queries,
+            } = read;
+            let Some((names, filter)) = filter_take(alloc, names, filter, token)? else {
+                return Ok(None);
+            };
+            Ok(Some(State {
+                read: Read {
+                    names,
+                    datasets,
+                    queries,
+                },
+                at: At::Filter(name, parent, filter),
+            }))
+        }
     }
 }
 

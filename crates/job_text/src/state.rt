@@ -3,6 +3,7 @@
 use crate::job::{
     Dataset, DatasetList, KeyList, NameList, PartList, PlaceList, Query, QueryList, Shape,
 };
+use crate::filter_state::FilterState;
 use aggregate::Agg;
 use item_lists::Name;
 
@@ -14,6 +15,8 @@ pub(crate) enum At {
     DatasetEquals(Name),
     DatasetSource(Name),
     Made(Dataset),
+    /// A dataset's name and parent, and its filter so far.
+    Filter(Name, u32, FilterState),
     Level(Dataset),
     Kept(Dataset),
     Query,

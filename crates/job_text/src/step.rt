@@ -1,11 +1,11 @@
 //! Reading a job token by token.
 
 ghost use Rattle.std.specs.Prelude.{◌≡◌, ◌<◌, ◌^◌, length, IfOk};
-ghost use Rattle.job_text.specs.Step.{step, after_mark as mark_step, after_query as query_step, after_group_columns as group_columns_step, after_part as part_step, after_parts as parts_step, after_keys as keys_step, after_key_column as key_column_step, after_order_columns as order_columns_step, ended as end_step, after_start as start_step, after_source as source_step, after_word as word_step, input_as as input_number, query_of};
+ghost use Rattle.job_text.specs.Step.{step, after_mark as mark_step, after_query as query_step, after_group_columns as group_columns_step, after_part as part_step, after_parts as parts_step, after_keys as keys_step, after_key_column as key_column_step, after_order_columns as order_columns_step, ended as end_step, after_start as start_step, after_source as source_step, after_word as word_step, after_quoted as quoted_step, after_constant as constant_step, input_as as input_number, query_of};
 
 use crate::columns::{after_column, has_aggregate};
 use crate::datasets;
-use crate::datasets::{after_equals, after_keep, after_made, after_name, after_parent, number_of};
+use crate::datasets::{after_equals, after_keep, after_made, after_name, after_parent, in_filter, number_of};
 use crate::job::{KeyItem, KeyList, Part, PartList, PlaceList, Query, Shape};
 use crate::lists::{MAX_ITEMS, no_items, with_item};
 use crate::mark::Mark;
@@ -246,13 +246,17 @@ fn input_as(mark: Mark) -> Option<u32>
 }
 
 fn after_mark(alloc: Global, read: Read, at: At, mark: Mark) -> Result<Option<State>, AllocError>
+    requires room { length read.names < 2 ^ 32 }
     ensures { IfOk result (λ next. next ≡ mark_step read at mark) }
 {
     match at {
         At::Start => Ok(after_start(alloc, read, mark)),
         At::DatasetEquals(name) => Ok(after_equals(read, name, mark)),
         At::DatasetSource(name) => Ok(after_parent(read, name, input_as(mark))),
-        At::Made(dataset) => after_made(read, dataset, mark),
+        At::Made(dataset) => after_made(alloc, read, dataset, mark),
+        At::Filter(name, parent, filter) => {
+            in_filter(alloc, read, name, parent, filter, Token::Fixed(mark))
+        }
         At::Level(dataset) => Ok(after_keep(read, dataset, mark)),
         At::Kept(dataset) => datasets::ended(read, dataset, mark),
         At::Query => Ok(after_query(alloc, read, mark)),
@@ -278,12 +282,15 @@ fn after_mark(alloc: Global, read: Read, at: At, mark: Mark) -> Result<Option<St
 }
 
 /// What follows a word that isn't reserved, None where it is refused.
-fn after_word(read: Read, at: At, word: Name) -> Result<Option<State>, AllocError>
+fn after_word(alloc: Global, read: Read, at: At, word: Name) -> Result<Option<State>, AllocError>
     requires room { length read.names < 2 ^ 32 }
     requires few { length read.datasets < 2 ^ 31 }
     ensures { IfOk result (λ next. next ≡ word_step read at word) }
 {
     match at {
+        At::Filter(name, parent, filter) => {
+            in_filter(alloc, read, name, parent, filter, Token::Word(word))
+        }
         At::DatasetName => Ok(after_name(read, word)),
         At::DatasetSource(name) => {
             let parent = number_of(&read.datasets, &word);
@@ -297,6 +304,40 @@ fn after_word(read: Read, at: At, word: Name) -> Result<Option<State>, AllocErro
     }
 }
 
+/// What follows a name in quotes, None where it is refused.
+fn after_quoted(
+    alloc: Global,
+    read: Read,
+    at: At,
+    column: Name,
+) -> Result<Option<State>, AllocError>
+    requires room { length read.names < 2 ^ 32 }
+    ensures { IfOk result (λ next. next ≡ quoted_step read at column) }
+{
+    match at {
+        At::Filter(name, parent, filter) => {
+            in_filter(alloc, read, name, parent, filter, Token::Quoted(column))
+        }
+        _ => after_column(read, at, column),
+    }
+}
+
+/// What follows a text or a whole number, None where it is refused.
+fn after_constant(
+    alloc: Global,
+    read: Read,
+    at: At,
+    token: Token,
+) -> Result<Option<State>, AllocError>
+    requires room { length read.names < 2 ^ 32 }
+    ensures { IfOk result (λ next. next ≡ constant_step read at token) }
+{
+    match at {
+        At::Filter(name, parent, filter) => in_filter(alloc, read, name, parent, filter, token),
+        _ => Ok(None),
+    }
+}
+
 /// What follows a token, None where it is refused.
 #[tactic(auto, unfolding(crate::specs::Step::step))]
 pub(crate) fn take(alloc: Global, state: State, token: Token) -> Result<Option<State>, AllocError>
@@ -306,9 +347,9 @@ pub(crate) fn take(alloc: Global, state: State, token: Token) -> Result<Option<S
 {
     match token {
         Token::Fixed(mark) => after_mark(alloc, state.read, state.at, mark),
-        Token::Word(name) => after_word(state.read, state.at, name),
-        Token::Quoted(name) => after_column(state.read, state.at, name),
-        Token::Text(_) => Ok(None),
-        Token::Whole(_) => Ok(None),
+        Token::Word(name) => after_word(alloc, state.read, state.at, name),
+        Token::Quoted(name) => after_quoted(alloc, state.read, state.at, name),
+        Token::Text(text) => after_constant(alloc, state.read, state.at, Token::Text(text)),
+        Token::Whole(value) => after_constant(alloc, state.read, state.at, Token::Whole(value)),
     }
 }
