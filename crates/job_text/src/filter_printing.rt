@@ -34,8 +34,8 @@ fn print_constant(printer: &mut Printer, constant: &Constant) -> Result<(), Allo
     }
 }
 
-#[cycle(print_nested)]
 /// Adds the items of a list, with a sign between two items.
+#[cycle(print_nested)]
 fn print_items(
     printer: &mut Printer,
     names: &[Name],
@@ -53,8 +53,8 @@ fn print_items(
     Ok(())
 }
 
-#[cycle(print_nested)]
 /// Adds a filter: as a unit, where an `or` or an `and` stands in parentheses, or as it stands by itself.
+#[cycle(print_nested)]
 fn print_as(
     printer: &mut Printer,
     names: &[Name],

@@ -110,11 +110,19 @@ fn push_quoted(out: &mut String, quote: char, name: &str) -> Result<(), AllocErr
     let mut rest = name;
     while let Some((before, after)) = rest.split_once(quote) {
         out.push_str(before)?;
-        out.push(quote)?;
-        out.push(quote)?;
+        push_twice(out, quote)?;
         rest = after;
     }
     out.push_str(rest)?;
+    out.push(quote)?;
+    Ok(())
+}
+
+fn push_twice(out: &mut String, quote: char) -> Result<(), AllocError>
+    requires ascii { quote < 128 }
+    ensures { IfOk result (λ _. string_bytes out.new ≡ string_bytes out.old ++ quote ∷ quote ∷ []) }
+{
+    out.push(quote)?;
     out.push(quote)?;
     Ok(())
 }

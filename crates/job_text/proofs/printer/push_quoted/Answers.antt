@@ -12,7 +12,7 @@ loop-before-preserved c =
     let parts = split_parts quote c.loop-before.rest.now (Some (c.in-Some.before, c.in-Some.after)) c.in-Some.ensures.cases c.requires.ascii in
     let split : doubled quote c.loop-before.rest.now ≡ before ++ quote ∷ quote ∷ doubled quote after = ap (doubled quote) parts.0 ∙ doubled-split quote before after parts.1 in (
       search rules,
-      rw (c.in_ok-push-3.ensures.bytes, c.in_ok-push-3.ensures.ascii c.requires.ascii, c.in_ok-push-2.ensures.bytes, c.in_ok-push-2.ensures.ascii c.requires.ascii, c.in_ok-push_str.ensures.bytes)
+      rw (c.in_ok-push_twice.ensures, c.in_ok-push_str.ensures.bytes)
           (simp append_assoc (sym (ap (λ (l : List ℕ). string_bytes c.loop-before.out ++ l) split) ∙ c.loop-before.invariant.1)),
     )
 
@@ -21,5 +21,5 @@ returns c =
     let quote = c.args.quote in
     let none = split_parts quote c.loop-before.rest.now None c.in_default.ensures.cases c.requires.ascii in
     let same : doubled quote c.loop-before.rest.now ≡ c.loop-before.rest.now = doubled-none quote c.loop-before.rest.now none in
-    rw (c.in_ok-push-4.ensures.bytes, c.in_ok-push-4.ensures.ascii c.requires.ascii, c.in_ok-push_str-2.ensures.bytes)
+    rw (c.in_ok-push-2.ensures.bytes, c.in_ok-push-2.ensures.ascii c.requires.ascii, c.in_ok-push_str-2.ensures.bytes)
     (ap (λ (l : List ℕ). string_bytes c.loop-before.out ++ l ++ quote ∷ []) (sym same) ∙ ap (λ (l : List ℕ). l ++ quote ∷ []) c.loop-before.invariant.1)
