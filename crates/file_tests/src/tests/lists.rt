@@ -1,6 +1,6 @@
 // Lists of entries with keys of one byte, as pages and as runs.
 ghost use Rattle.std.specs.Prelude.{◌-◌, ◌^◌, IfOk};
-ghost use Rattle.run_merge.specs.Runs.{AreOn};
+ghost use Rattle.run_file.specs.Several.{AreOn};
 
 use crate::tests::entries::{push_entry, put_run};
 use aggregate::{Agg, AggList, Kind, put_partial};

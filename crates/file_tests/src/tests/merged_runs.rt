@@ -1,6 +1,6 @@
 // Runs that are merged into one.
 ghost use Rattle.std.specs.Prelude.{◌≡◌, ◌≤◌, ◌-◌, ◌^◌, IfOk};
-ghost use Rattle.run_merge.specs.Runs.{AreOn};
+ghost use Rattle.run_file.specs.Several.{AreOn};
 
 use crate::tests::entries::{push_entry, put_run};
 use crate::tests::lists::{
@@ -165,6 +165,24 @@ fn many_runs_come_to_one(rt: HostRuntime) -> Result<(), Fail> {
                 "in groups, {count} runs, {fan_in} at once"
             );
         }
+    }
+    Ok(())
+}
+
+// How many files were made once so many runs came to one, eight at once.
+fn files_made(alloc: Global, count: u32) -> Result<u64, Fail> {
+    let mut disk = MemoryDisk::new(alloc, Vec::new(alloc));
+    let lists = make_lists(alloc, count, false)?;
+    let runs = put_lists(alloc, &mut disk, &lists, true, 0, 0)?;
+    merge_on(alloc, &mut disk, runs, &Kind::Order, 8)?.ok_or("no run")?;
+    Ok(disk.created())
+}
+
+// Forty runs make five and these one. Of nine the last stays, so that two are left for the second round.
+#[test]
+fn a_round_makes_a_file_of_each_eight_runs(rt: HostRuntime) -> Result<(), Fail> {
+    for (count, files) in [(40u32, 46u64), (9, 11)] {
+        assert_eq!(rt; files_made(rt.alloc(), count)?, files, "{count} runs");
     }
     Ok(())
 }

@@ -174,14 +174,15 @@ fn rows_with_fault(alloc: Global, call: u64) -> Result<Result<usize, RunFault>, 
     }
 }
 
-// The first four calls write the runs; the merge reads each run once.
+// The first four calls write the runs. A reader keeps one row here, so each row is read by a call of its own: the first
+// of both runs, then the next of the one whose row was given.
 #[test]
 fn each_call_of_a_disk_that_fails_is_a_fault_of_it(rt: HostRuntime) -> Result<(), Fail> {
     let alloc = rt.alloc();
-    let first = RunFault::DiskFault { disk: 3 };
-    let second = RunFault::DiskFault { disk: 5 };
-    assert_eq!(rt; rows_with_fault(alloc, 4)?, Err(first));
-    assert_eq!(rt; rows_with_fault(alloc, 5)?, Err(second));
-    assert_eq!(rt; rows_with_fault(alloc, 6)?, Ok(3), "no call is left");
+    for (call, disk) in [(4u64, 3u32), (5, 5), (6, 3)] {
+        let fault = RunFault::DiskFault { disk };
+        assert_eq!(rt; rows_with_fault(alloc, call)?, Err(fault), "call {call}");
+    }
+    assert_eq!(rt; rows_with_fault(alloc, 7)?, Ok(3), "no call is left");
     Ok(())
 }

@@ -1,7 +1,7 @@
 // Steps of a merge as words of text.
 ghost use Rattle.std.specs.Prelude.{◌≡◌, ◌-◌, ◌^◌};
 ghost use Rattle.run_merge.specs.Merging.{runs_of};
-ghost use Rattle.run_merge.specs.Runs.{AreOn};
+ghost use Rattle.run_file.specs.Several.{AreOn};
 
 use crate::tests::reading::{hex, joined, told};
 use aggregate::Kind;
@@ -14,7 +14,7 @@ use std::test::Fail;
 
 /// The first of these steps that a merge of the runs answers otherwise, with that answer; none where each is answered as
 /// it says behind its `=`. They are `advance` and `next`, and the answers `end`, a row's bytes in hex, `fault:DISK` and
-/// `damaged:DISK:FILE:KEPT:FOUND`.
+/// `damaged:DISK:FILE:KEPT:FOUND`. A merge that keeps more than its runs' greatest costs ends the test.
 pub fn other_step<D: Disk>(
     alloc: Global,
     disk: &mut D,
@@ -32,11 +32,25 @@ pub fn other_step<D: Disk>(
         } else {
             advance(alloc, disk, &mut merge)?
         };
+        if !keeps_few(&merge, runs) {
+            return Err("the merge keeps too much".into());
+        }
         if answer.as_str() != wanted {
             return Ok(Some(joined(alloc, step, &answer)?));
         }
     }
     Ok(None)
+}
+
+// Whether it keeps no more than the greatest costs of the runs come to.
+fn keeps_few(merge: &Merge, runs: &[Run]) -> bool
+    requires { runs_of merge.now ≡ runs.now }
+{
+    let mut greatest = 0u64;
+    for run in runs {
+        greatest = greatest.saturating_add(run.greatest);
+    }
+    runs.len() > 65536 || merge.buffered() as u64 <= greatest
 }
 
 fn advance<D: Disk>(alloc: Global, disk: &mut D, merge: &mut Merge) -> Result<String, Fail>

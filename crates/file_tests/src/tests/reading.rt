@@ -1,15 +1,15 @@
 // Steps of a reader as words of text.
 ghost use Rattle.std.specs.Prelude.{◌≡◌};
-ghost use Rattle.run_file.specs.Reading.{run_of};
+ghost use Rattle.run_file.specs.Readers.{run_of};
 
-use run_file::{Form, Run, RunFault, RunReader};
+use run_file::{Damage, Form, Run, RunFault, RunReader};
 use spill_disk::{Disk, One};
 use std::alloc::Global;
 use std::test::Fail;
 
 /// The first of these steps that a reader of the run answers otherwise, with that answer; none where each is answered as
 /// it says behind its `=`. They are `advance` and `next`, and the answers `end`, a row's bytes in hex, `fault:DISK` and
-/// `damaged:DISK:FILE:KEPT:FOUND`.
+/// `damaged:DISK:FILE:KEPT:FOUND`. A reader that keeps more than its run's greatest cost ends the test.
 pub fn other_step<D: Disk>(
     alloc: Global,
     disk: &mut D,
@@ -27,6 +27,9 @@ pub fn other_step<D: Disk>(
         } else {
             advance(alloc, disk, &mut reader)?
         };
+        if reader.buffered() as u64 > run.greatest {
+            return Err("the reader keeps too much".into());
+        }
         if answer.as_str() != wanted {
             return Ok(Some(joined(alloc, step, &answer)?));
         }
@@ -76,12 +79,14 @@ pub fn hex(alloc: Global, bytes: &[u8]) -> Result<String, Fail> {
 pub fn told(alloc: Global, fault: RunFault) -> Result<String, Fail> {
     match fault {
         RunFault::DiskFault { disk } => Ok(format!(in alloc; "fault:{disk}")?),
-        RunFault::Damaged {
-            disk,
-            file,
-            kept,
-            found,
-        } => Ok(format!(in alloc; "damaged:{disk}:{file}:{kept}:{found}")?),
+        RunFault::Damaged(
+            Damage {
+                disk,
+                file,
+                kept,
+                found,
+            },
+        ) => Ok(format!(in alloc; "damaged:{disk}:{file}:{kept}:{found}")?),
         RunFault::NoMemory => Err(fault.into()),
     }
 }

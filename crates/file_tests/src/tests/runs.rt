@@ -1,6 +1,7 @@
 // Runs, written and read.
 ghost use Rattle.std.specs.Prelude.{◌≡◌, ◌<◌, ◌++◌, List, ℕ, IfOk, OnOk};
-ghost use Rattle.run_file.specs.Reading.{run_of, IsAhead};
+ghost use Rattle.run_file.specs.Readers.{run_of};
+ghost use Rattle.run_file.specs.Reading.{IsAhead};
 ghost use Rattle.run_file.specs.Shelved.{files_on};
 
 use crate::tests::entries::{put_run, three_entries};
@@ -124,6 +125,60 @@ fn a_short_file_is_damaged_and_not_ended(rt: HostRuntime) -> Result<(), Fail> {
         next=damaged:0:0:3:2";
     let other = other_step(alloc, &mut disk, &run, Form::Entries(Kind::Order), steps)?;
     assert_eq!(rt; other, None);
+    Ok(())
+}
+
+// Writes the run of the three entries with another length of the second one.
+fn put_damaged<D: Disk>(alloc: Global, disk: &mut D, length: u32) -> Result<Run, Fail>
+    ensures { IfOk result (λ run. run.disk ≡ 0) }
+{
+    let mut bytes = three_entries(alloc)?.bytes().to_vec(alloc)?;
+    for (place, byte) in length.to_be_bytes().into_iter().enumerate() {
+        let Some(at) = bytes.get_mut(place.saturating_add(14)) else {
+            return Err("a short page".into());
+        };
+        *at = byte;
+    }
+    let file = disk.create()?;
+    disk.append(file, &bytes)?;
+    Ok(Run {
+        disk: 0,
+        file,
+        bytes: 43,
+        count: 3,
+        greatest: 36,
+    })
+}
+
+// The first step that a reader of such a run answers otherwise.
+fn damaged_otherwise<D: Disk>(
+    alloc: Global,
+    disk: &mut D,
+    length: u32,
+) -> Result<Option<String>, Fail> {
+    let run = put_damaged(alloc, disk, length)?;
+    let steps = "advance=00000001610000000131 advance=damaged:0:0:3:1 next=damaged:0:0:3:1";
+    other_step(alloc, disk, &run, Form::Entries(Kind::Order), steps)
+}
+
+// The second row has 9 bytes, and none of the run more than 12.
+#[test]
+fn a_length_that_is_another_is_damage(rt: HostRuntime) -> Result<(), Fail> {
+    let alloc = rt.alloc();
+    for length in [0u32, 8, 10, 12, 13, 26, u32::MAX] {
+        let mut told = MemoryDisk::new(alloc, Vec::new(alloc));
+        let mut veiled = VeilDisk::new(alloc, Vec::new(alloc), Vec::new(alloc));
+        assert_eq!(rt;
+            damaged_otherwise(alloc, &mut told, length)?,
+            None,
+            "{length}"
+        );
+        assert_eq!(rt;
+            damaged_otherwise(alloc, &mut veiled, length)?,
+            None,
+            "{length}, not told"
+        );
+    }
     Ok(())
 }
 

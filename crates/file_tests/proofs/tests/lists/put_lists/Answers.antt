@@ -1,6 +1,6 @@
 use Rattle.std.proofs.Common.{◌<◌, ◌-◌, ◌^◌, ◌∷◌, ◌++◌, [], List, ℕ, arith}
 use Rattle.run_file.specs.declared.run.Run.{Run}
-use Rattle.run_merge.specs.Runs.{AreOn}
+use Rattle.run_file.specs.Several.{AreOn}
 use Rattle.file_tests.proofs.tests.lists.put_lists.Goals as goal
 
 on_push : (count : ℕ) (runs : List Run) (run : Run) → AreOn count runs → run.disk < count → AreOn count (runs ++ run ∷ [])

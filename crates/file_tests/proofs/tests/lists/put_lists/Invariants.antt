@@ -1,5 +1,5 @@
 use Rattle.std.proofs.Common.{◌-◌, ◌^◌}
-use Rattle.run_merge.specs.Runs.{AreOn}
+use Rattle.run_file.specs.Several.{AreOn}
 use Rattle.file_tests.proofs.tests.lists.put_lists.Given as goal
 
 abbrev pub invariant-loop-list : goal.invariant-loop-list

@@ -1,5 +1,5 @@
 use Rattle.std.proofs.Common.{◌≡◌}
-use Rattle.run_file.specs.Reading.{run_of}
+use Rattle.run_file.specs.Readers.{run_of}
 use Rattle.file_tests.proofs.tests.reading.other_step.Given as goal
 
 -- the reader's run stays

@@ -1,5 +1,6 @@
 use Rattle.std.proofs.Common.{◌≡◌, ◌-◌, ◌<◌, ◌++◌, List, ℕ}
-use Rattle.run_file.specs.Reading.{run_of, found_of, IsAhead}
+use Rattle.run_file.specs.Readers.{found_of, run_of}
+use Rattle.run_file.specs.Reading.{IsAhead}
 use Rattle.run_file.specs.Shelved.{files_on}
 use Rattle.file_tests.proofs.tests.runs.put_rows.Given as goal
 
