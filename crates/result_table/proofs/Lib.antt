@@ -1,8 +1,9 @@
 pub mod Ahead
 pub mod Blocks
-pub mod Explaining
+pub mod Decimals
 pub mod KeyFields
 pub mod Leaving
-pub mod Lines
+pub mod RowFields
+pub mod Stopping
 pub mod ToldRows
 pub mod WideKeys

@@ -1,148 +1,162 @@
--- Rows that are told of entries one after the other: those so far, and those that are ahead.
-use Rattle.std.proofs.Common.{◌≡◌, ◌++◌, ℕ, Bool, true, false, List, [], ◌∷◌, Option, Ok, map, sym, ap, subst, ◌∙◌, refl, append_assoc}
+-- Entries that are told one after the other: those so far, those that are ahead, and where telling stops.
+use Rattle.std.proofs.Common.{◌≡◌, ◌≤◌, ◌+◌, ◌++◌, ℕ, Bool, true, false, List, [], ◌∷◌, Option, Ok, length, map, sym, ap, subst, ◌∙◌, refl, append_assoc, length-append, arith}
 use Rattle.std.specs.List.{All}
 use Rattle.std.proofs.lemmas.List.{append-nil, map-append}
 use Rattle.std.proofs.lemmas.List.Elements.{All-append, All-cons, All-head, All-nil, All-tail}
 use Rattle.csv.specs.Writing.{default_writer, row_text}
+use Rattle.aggregate.specs.Rows.{entries_of}
 use Rattle.aggregate.specs.Totals.{Entry}
 use Rattle.spill_disk.specs.Files.{Files}
 use Rattle.job_text.specs.declared.job.Shape.{Shape}
-use Rattle.job_plan.specs.Columns.{Fields}
 use Rattle.job_plan.specs.Telling.{IsTold, row_of}
-use Rattle.result_table.specs.Ahead.{AreAhead, GoesTo, entry_in}
+use Rattle.run_file.specs.AtEntries.{entry_at}
+use Rattle.run_file.specs.Readers.{ReaderView}
+use Rattle.result_table.specs.Ahead.{AreAhead, GoesOn, GoesTo}
 use Rattle.result_table.specs.Table.{table}
-use Rattle.result_table.specs.Told.{TellsFirst}
-use Rattle.result_table.specs.declared.entry_reader.EntryReader.{EntryReader}
+use Rattle.result_table.specs.Told.{AreFirst, IsUntoldBehind, StopsBehind, TellsEntries, rows_told}
 use Rattle.result_table.proofs.Blocks.{table-append}
-
--- the rows of some entries
-abbrev pub rows_told : Shape → List Entry → List ℕ
-rows_told shape entries = table (map (row_of shape) entries)
 
 pub rows_told-append : (shape : Shape) (xs ys : List Entry) → rows_told shape (xs ++ ys) ≡ rows_told shape xs ++ rows_told shape ys
 rows_told-append shape xs ys = ap table (map-append (row_of shape) xs ys) ∙ table-append (map (row_of shape) xs) (map (row_of shape) ys)
 
--- no row was told yet
-pub tells_none : (shape : Shape) (files : Option Files) (reader : EntryReader) (entries : List Entry) → AreAhead files reader entries
-    → TellsFirst shape files reader true [] entries
-tells_none shape files reader entries ahead = record {
-  told = [];
-  rest = entries;
-  are = refl;
+-- the entries so far, and one more
+pub one_more : (shape : Shape) (told : List Entry) (entry : Entry) → All (IsTold shape) told → IsTold shape entry → All (IsTold shape) (told ++ entry ∷ [])
+one_more shape told entry all can = All-append (IsTold shape) told (entry ∷ []) all (All-cons (IsTold shape) entry [] can (All-nil (IsTold shape)))
+
+-- nothing was read yet
+pub tells_none : (shape : Shape) (files : Option Files) (reader : ReaderView) → TellsEntries shape files files reader reader []
+tells_none shape files reader = record {
   can = All-nil (IsTold shape);
-  ahead = λ _. ahead;
-  ended = λ no-more. absurd cc;
-  says = refl;
+  counted = omega arith;
+  behind = λ entries ahead. record { rest = entries; are = refl; ahead = ahead };
 }
 
--- one row more
-pub tells_next : (shape : Shape) (was now : Option Files) (before after : EntryReader) (text : List ℕ) (fields : Fields) (entries : List Entry)
-    → (h : TellsFirst shape was before true text entries) → GoesTo now after h.rest (Ok true) → fields ≡ row_of shape (entry_in after)
-    → IsTold shape (entry_in after) → TellsFirst shape now after true (text ++ row_text default_writer fields) entries
-tells_next shape was now before after text fields entries h goes row can = by_rest h.rest h.are goes
+-- where a reader goes on, whichever entries are ahead of it
+abbrev pub Goes : Option Files → Option Files → ReaderView → ReaderView → Bool → Type 0
+Goes was now before after more = (entries : List Entry) → AreAhead was before entries → GoesTo now after entries (Ok more)
+
+-- one entry more
+pub tells_next : (shape : Shape) (was middle now : Option Files) (before between after : ReaderView) (told : List Entry) → TellsEntries shape was middle before between told
+    → Goes middle now between after true → after.found ≡ between.found + 1 → IsTold shape (entry_at after)
+    → TellsEntries shape was now before after (told ++ entry_at after ∷ [])
+tells_next shape was middle now before between after told h goes one can = record {
+  can = one_more shape told (entry_at after) h.can can;
+  counted = omega (arith, h.counted, one, length-append told (entry_at after ∷ []));
+  behind = λ entries ahead.
+      let first = h.behind entries ahead in
+      by_rest entries first.rest first.are (goes first.rest first.ahead);
+}
   where
-    by_rest : (rest : List Entry) → entries ≡ h.told ++ rest → GoesTo now after rest (Ok true)
-        → TellsFirst shape now after true (text ++ row_text default_writer fields) entries
-    by_rest [] are goes = absurd goes
-    by_rest (entry ∷ rest) are goes = record {
-      told = h.told ++ entry ∷ [];
+    by_rest : (entries rest : List Entry) → entries ≡ told ++ rest → GoesTo now after rest (Ok true) → AreFirst (told ++ entry_at after ∷ []) now after entries
+    by_rest entries [] are goes = absurd goes
+    by_rest entries (entry ∷ rest) are goes = record {
       rest = rest;
-      are = are ∙ sym (append_assoc h.told (entry ∷ []) rest);
-      can = All-append (IsTold shape) h.told (entry ∷ []) h.can
-          (All-cons (IsTold shape) entry [] (subst (IsTold shape) goes.0 can) (All-nil (IsTold shape)));
-      ahead = λ _. goes.1;
-      ended = λ no-more. absurd cc;
-      says =
-          ap (λ (t : List ℕ). t ++ row_text default_writer fields) h.says
-          ∙ ap (λ (fs : Fields). rows_told shape h.told ++ row_text default_writer fs) (row ∙ ap (row_of shape) goes.0)
-          ∙ ap (λ (t : List ℕ). rows_told shape h.told ++ t) (sym (append-nil (row_text default_writer (row_of shape entry))))
-          ∙ sym (rows_told-append shape h.told (entry ∷ []));
+      are = are ∙ ap (λ (e : Entry). told ++ e ∷ rest) (sym goes.0) ∙ sym (append_assoc told (entry_at after ∷ []) rest);
+      ahead = goes.1;
     }
 
--- no entry is left
-pub tells_all : (shape : Shape) (was now : Option Files) (before after : EntryReader) (text : List ℕ) (entries : List Entry)
-    → (h : TellsFirst shape was before true text entries) → GoesTo now after h.rest (Ok false) → TellsFirst shape now after false text entries
-tells_all shape was now before after text entries h goes = by_rest h.rest h.are goes
+-- where it took none, the same were told
+pub tells_same : (shape : Shape) (was middle now : Option Files) (before between after : ReaderView) (told : List Entry) → TellsEntries shape was middle before between told
+    → after ≡ between → now ≡ middle → TellsEntries shape was now before after told
+tells_same shape was middle now before between after told h stays same = record {
+  can = h.can;
+  counted = h.counted ∙ ap (λ (reader : ReaderView). reader.found) (sym stays);
+  behind = λ entries ahead.
+      let first = h.behind entries ahead in
+      record {
+        rest = first.rest;
+        are = first.are;
+        ahead = rw (stays, same) first.ahead;
+      };
+}
+
+-- more entries behind those so far
+pub tells_trans : (shape : Shape) (was middle now : Option Files) (before between after : ReaderView) (told more : List Entry)
+    → TellsEntries shape was middle before between told → TellsEntries shape middle now between after more → TellsEntries shape was now before after (told ++ more)
+tells_trans shape was middle now before between after told more h next = record {
+  can = All-append (IsTold shape) told more h.can next.can;
+  counted = omega (arith, h.counted, next.counted, length-append told more);
+  behind = λ entries ahead.
+      let first = h.behind entries ahead in
+      let second = next.behind first.rest first.ahead in
+      record {
+        rest = second.rest;
+        are = first.are ∙ ap (λ (es : List Entry). told ++ es) second.are ∙ sym (append_assoc told more second.rest);
+        ahead = second.ahead;
+      };
+}
+
+-- ---- where telling stops
+-- an entry that can't be told, behind those so far
+pub stops_untold : (shape : Shape) (was middle now : Option Files) (before between after : ReaderView) (found : ℕ) (told : List Entry) → TellsEntries shape was middle before between told
+    → Goes middle now between after true → found ≡ between.found → (IsTold shape (entry_at after) → ⊥) → StopsBehind shape was before found told
+stops_untold shape was middle now before between after found told h goes same untold = record {
+  can = h.can;
+  counted = h.counted ∙ sym same;
+  untold = λ entries ahead.
+      let first = h.behind entries ahead in
+      by_rest entries first.rest first.are (goes first.rest first.ahead);
+}
   where
-    by_rest : (rest : List Entry) → entries ≡ h.told ++ rest → GoesTo now after rest (Ok false) → TellsFirst shape now after false text entries
-    by_rest [] are goes = record {
-      told = h.told;
-      rest = [];
-      are = are;
-      can = h.can;
-      ahead = λ more. absurd cc;
-      ended = λ _. refl;
-      says = h.says;
-    }
-    by_rest (entry ∷ rest) are goes = absurd goes
+    by_rest : (entries rest : List Entry) → entries ≡ told ++ rest → GoesTo now after rest (Ok true) → IsUntoldBehind shape told entries
+    by_rest entries [] are goes = absurd goes
+    by_rest entries (entry ∷ rest) are goes =
+        record { entry = entry; rest = rest; are = are; untold = λ can. untold (subst (IsTold shape) (sym goes.0) can) }
+
+-- those so far stand before where it stops
+pub stops_later : (shape : Shape) (was middle : Option Files) (before between : ReaderView) (found : ℕ) (told more : List Entry)
+    → TellsEntries shape was middle before between told → StopsBehind shape middle between found more → StopsBehind shape was before found (told ++ more)
+stops_later shape was middle before between found told more h stop = record {
+  can = All-append (IsTold shape) told more h.can stop.can;
+  counted = omega (arith, h.counted, stop.counted, length-append told more);
+  untold = λ entries ahead.
+      let first = h.behind entries ahead in
+      let at = stop.untold first.rest first.ahead in
+      record {
+        entry = at.entry;
+        rest = at.rest;
+        are = first.are ∙ ap (λ (es : List Entry). told ++ es) at.are ∙ sym (append_assoc told more (at.entry ∷ at.rest));
+        untold = at.untold;
+      };
+}
 
 -- an entry that stands among some others is told where all are
-told_among : (shape : Shape) (front : List Entry) (entry : Entry) (behind : List Entry) → All (IsTold shape) (front ++ entry ∷ behind) → IsTold shape entry
+pub told_among : (shape : Shape) (front : List Entry) (entry : Entry) (behind : List Entry) → All (IsTold shape) (front ++ entry ∷ behind) → IsTold shape entry
 told_among shape [] entry behind all = All-head (IsTold shape) entry behind all
 told_among shape (first ∷ front) entry behind all = told_among shape front entry behind (All-tail (IsTold shape) first (front ++ entry ∷ behind) all)
 
-pub told_next : (shape : Shape) (was now : Option Files) (before after : EntryReader) (text : List ℕ) (entries : List Entry)
-    → (h : TellsFirst shape was before true text entries) → GoesTo now after h.rest (Ok true) → All (IsTold shape) entries → IsTold shape (entry_in after)
-told_next shape was now before after text entries h goes all = by_rest h.rest h.are goes
+-- ---- all entries
+none_ahead : (files : Option Files) (reader : ReaderView) (entries : List Entry) → reader.found ≡ reader.run.count → AreAhead files reader entries → entries ≡ []
+none_ahead files reader entries whole h = h.are ∙ by_rows h.rows (omega (arith, whole, h.ahead.count))
   where
-    by_rest : (rest : List Entry) → entries ≡ h.told ++ rest → GoesTo now after rest (Ok true) → IsTold shape (entry_in after)
-    by_rest [] are goes = absurd goes
-    by_rest (entry ∷ rest) are goes =
-        subst (IsTold shape) (sym goes.0) (told_among shape h.told entry rest (subst (λ (es : List Entry). All (IsTold shape) es) are all))
+    by_rows : (rows : List (List (List ℕ))) → length rows ≡ 0 → entries_of rows ≡ []
+    by_rows [] none = refl
+    by_rows (row ∷ rows) none = absurd (omega (arith, none))
 
--- more rows behind those so far
-pub tells_trans : (shape : Shape) (was now : Option Files) (before after : EntryReader) (more : Bool) (text piece : List ℕ) (entries : List Entry)
-    → (h : TellsFirst shape was before true text entries) → TellsFirst shape now after more piece h.rest → TellsFirst shape now after more (text ++ piece) entries
-tells_trans shape was now before after more text piece entries h next = record {
-  told = h.told ++ next.told;
-  rest = next.rest;
-  are = h.are ∙ ap (λ (es : List Entry). h.told ++ es) next.are ∙ sym (append_assoc h.told next.told next.rest);
-  can = All-append (IsTold shape) h.told next.told h.can next.can;
-  ahead = next.ahead;
-  ended = next.ended;
-  says =
-      ap (λ (t : List ℕ). t ++ piece) h.says ∙ ap (λ (t : List ℕ). rows_told shape h.told ++ t) next.says
-      ∙ sym (rows_told-append shape h.told next.told);
-}
+-- where a reader gave all entries of its run, those that were told are all
+pub all_told : (shape : Shape) (was now : Option Files) (before after : ReaderView) (entries told : List Entry) → TellsEntries shape was now before after told
+    → after.found ≡ after.run.count → AreAhead was before entries → entries ≡ told
+all_told shape was now before after entries told h whole ahead =
+    let first = h.behind entries ahead in
+    first.are ∙ ap (λ (es : List Entry). told ++ es) (none_ahead now after first.rest whole first.ahead) ∙ append-nil told
 
--- all rows are those so far, and those of the entries that are left
-pub tells_whole : (shape : Shape) (files : Option Files) (reader : EntryReader) (more : Bool) (text : List ℕ) (entries : List Entry)
-    → (h : TellsFirst shape files reader more text entries) → rows_told shape entries ≡ text ++ rows_told shape h.rest
-tells_whole shape files reader more text entries h =
-    ap (rows_told shape) h.are ∙ rows_told-append shape h.told h.rest ∙ ap (λ (t : List ℕ). t ++ rows_told shape h.rest) (sym h.says)
+-- what was given is among the run's entries
+pub few_left : (before after : ReaderView) (more : Bool) → (more ≡ false → after.found ≡ before.run.count) → (more ≡ true → GoesOn before after) → after.found ≤ before.run.count
+few_left before after true whole on = (on refl).1
+few_left before after false whole on = omega (arith, whole refl)
 
--- where no entry is left, these are all rows
-pub rest_is_none : (shape : Shape) (files : Option Files) (reader : EntryReader) (more : Bool) (text : List ℕ) (entries : List Entry)
-    → TellsFirst shape files reader more text entries → more ≡ false → rows_told shape entries ≡ text
-rest_is_none shape files reader more text entries h none =
-    tells_whole shape files reader more text entries h ∙ ap (λ (es : List Entry). text ++ rows_told shape es) (h.ended none) ∙ append-nil text
-
-pub all_told : (shape : Shape) (files : Option Files) (reader : EntryReader) (more : Bool) (text : List ℕ) (entries : List Entry)
-    → TellsFirst shape files reader more text entries → more ≡ false → All (IsTold shape) entries
-all_told shape files reader more text entries h none =
-    let whole : entries ≡ h.told = h.are ∙ ap (λ (es : List Entry). h.told ++ es) (h.ended none) ∙ append-nil h.told in
-    subst (λ (es : List Entry). All (IsTold shape) es) (sym whole) h.can
-
--- what is left is told where all are
-left_told : (shape : Shape) (front behind : List Entry) → All (IsTold shape) (front ++ behind) → All (IsTold shape) behind
-left_told shape [] behind all = all
-left_told shape (first ∷ front) behind all = left_told shape front behind (All-tail (IsTold shape) first (front ++ behind) all)
-
-pub rest_told : (shape : Shape) (files : Option Files) (reader : EntryReader) (more : Bool) (text : List ℕ) (entries : List Entry)
-    → (h : TellsFirst shape files reader more text entries) → All (IsTold shape) entries → All (IsTold shape) h.rest
-rest_told shape files reader more text entries h all =
-    left_told shape h.told h.rest (subst (λ (es : List Entry). All (IsTold shape) es) h.are all)
+-- ---- rows: the text so far, and one row more
+pub row_laid : (shape : Shape) (start middle text : List ℕ) (told : List Entry) (entry : Entry) → middle ≡ start ++ rows_told shape told
+    → text ≡ middle ++ row_text default_writer (row_of shape entry) → text ≡ start ++ rows_told shape (told ++ entry ∷ [])
+row_laid shape start middle text told entry laid more =
+    more ∙ ap (λ (t : List ℕ). t ++ row_text default_writer (row_of shape entry)) laid
+    ∙ append_assoc start (rows_told shape told) (row_text default_writer (row_of shape entry))
+    ∙ ap (λ (t : List ℕ). start ++ (rows_told shape told ++ t)) (sym (append-nil (row_text default_writer (row_of shape entry))))
+    ∙ ap (λ (t : List ℕ). start ++ t) (sym (rows_told-append shape told (entry ∷ [])))
 
 -- ---- blocks: what was written, and the text that is written next
-pub joined_next : (done text start piece next filled : List ℕ) → done ++ text ≡ start ++ piece → filled ≡ text ++ next
-    → done ++ filled ≡ start ++ (piece ++ next)
-joined_next done text start piece next filled joined more =
-    ap (λ (t : List ℕ). done ++ t) more ∙ sym (append_assoc done text next) ∙ ap (λ (t : List ℕ). t ++ next) joined ∙ append_assoc start piece next
-
--- all that is printed, cut behind the text that is written next
-pub told_cut : (shape : Shape) (files : Option Files) (reader : EntryReader) (more : Bool) (start done text piece : List ℕ) (entries : List Entry)
-    → (h : TellsFirst shape files reader more piece entries) → done ++ text ≡ start ++ piece
-    → start ++ rows_told shape entries ≡ (done ++ text) ++ rows_told shape h.rest
-told_cut shape files reader more start done text piece entries h joined =
-    ap (λ (t : List ℕ). start ++ t) (tells_whole shape files reader more piece entries h)
-    ∙ sym (append_assoc start piece (rows_told shape h.rest)) ∙ ap (λ (t : List ℕ). t ++ rows_told shape h.rest) (sym joined)
+pub joined_next : (shape : Shape) (done text start : List ℕ) (told more : List Entry) (filled : List ℕ) → done ++ text ≡ start ++ rows_told shape told
+    → filled ≡ text ++ rows_told shape more → done ++ filled ≡ start ++ rows_told shape (told ++ more)
+joined_next shape done text start told more filled joined fills =
+    ap (λ (t : List ℕ). done ++ t) fills ∙ sym (append_assoc done text (rows_told shape more)) ∙ ap (λ (t : List ℕ). t ++ rows_told shape more) joined
+    ∙ append_assoc start (rows_told shape told) (rows_told shape more) ∙ ap (λ (t : List ℕ). start ++ t) (sym (rows_told-append shape told more))

@@ -13,9 +13,10 @@ use Rattle.run_file.specs.Causes.{NotDamaged}
 use Rattle.run_file.specs.declared.run.RunFault.{RunFault}
 use Rattle.run_file.specs.declared.run.RunFault.TheVariants.{DiskFault, Damaged, NoMemory}
 use Rattle.job_plan.specs.Telling.{is_wide, value_numbers}
-use Rattle.result_table.specs.Ahead.{AreAhead, GoesTo, entry_in}
+use Rattle.run_file.specs.AtEntries.{entry_at}
+use Rattle.result_table.specs.Ahead.{AreAhead, GoesTo}
 use Rattle.result_table.specs.Results.{wide_key}
-use Rattle.result_table.specs.declared.entry_reader.EntryReader.{EntryReader}
+use Rattle.run_file.specs.Readers.{ReaderView}
 
 -- a number outside `i64`
 abbrev pub is_outside : ℤ → Bool
@@ -75,31 +76,31 @@ stopped : (count : ℕ) (entry : Entry) (entries : List Entry) → is_wide count
 stopped count entry entries wide = rw wide refl
 
 -- of some entries those that are ahead have the same first one with a number outside `i64`
-abbrev pub StillWide : ℕ → Option Files → EntryReader → List Entry → Type 0
+abbrev pub StillWide : ℕ → Option Files → ReaderView → List Entry → Type 0
 StillWide count files reader entries =
     (rest : List Entry) × AreAhead files reader rest × (wide_key count entries ≡ wide_key count rest)
 
-pub wide_next : (count : ℕ) (now : Option Files) (after : EntryReader) (entries rest : List Entry) → wide_key count entries ≡ wide_key count rest
-    → GoesTo now after rest (Ok true) → is_wide count (entry_in after) ≡ false → StillWide count now after entries
+pub wide_next : (count : ℕ) (now : Option Files) (after : ReaderView) (entries rest : List Entry) → wide_key count entries ≡ wide_key count rest
+    → GoesTo now after rest (Ok true) → is_wide count (entry_at after) ≡ false → StillWide count now after entries
 wide_next count now after entries [] same goes narrow = absurd goes
 wide_next count now after entries (entry ∷ rest) same goes narrow =
     (rest, goes.1, same ∙ passed count entry rest (ap (is_wide count) (sym goes.0) ∙ narrow))
 
-pub wide_found : (count : ℕ) (now : Option Files) (after : EntryReader) (entries rest : List Entry) → wide_key count entries ≡ wide_key count rest
-    → GoesTo now after rest (Ok true) → is_wide count (entry_in after) ≡ true → Some (entry_in after).key ≡ wide_key count entries
+pub wide_found : (count : ℕ) (now : Option Files) (after : ReaderView) (entries rest : List Entry) → wide_key count entries ≡ wide_key count rest
+    → GoesTo now after rest (Ok true) → is_wide count (entry_at after) ≡ true → Some (entry_at after).key ≡ wide_key count entries
 wide_found count now after entries [] same goes wide = absurd goes
 wide_found count now after entries (entry ∷ rest) same goes wide =
     ap (λ (e : Entry). Some e.key) goes.0 ∙ sym (same ∙ stopped count entry rest (ap (is_wide count) (sym goes.0) ∙ wide))
 
-pub wide_ended : (count : ℕ) (now : Option Files) (after : EntryReader) (entries rest : List Entry) → wide_key count entries ≡ wide_key count rest
+pub wide_ended : (count : ℕ) (now : Option Files) (after : ReaderView) (entries rest : List Entry) → wide_key count entries ≡ wide_key count rest
     → GoesTo now after rest (Ok false) → None ≡ wide_key count entries
 wide_ended count now after entries [] same goes = sym same
 wide_ended count now after entries (entry ∷ rest) same goes = absurd goes
 
 -- a fault of a reader with such entries ahead is no damage
-pub goes_sound : (T : Type 0) (now : Option Files) (after : EntryReader) (rest : List Entry) (fault : RunFault)
+pub goes_sound : (T : Type 0) (now : Option Files) (after : ReaderView) (rest : List Entry) (fault : RunFault)
     → GoesTo now after rest (Err fault) → NotDamaged {T = T} (Err fault)
 goes_sound T now after [] fault goes = absurd goes
 goes_sound T now after (entry ∷ rest) (DiskFault disk) goes = tt
-goes_sound T now after (entry ∷ rest) (Damaged disk file kept found) goes = absurd goes
+goes_sound T now after (entry ∷ rest) (Damaged damage) goes = absurd goes
 goes_sound T now after (entry ∷ rest) NoMemory goes = tt

@@ -1,19 +1,15 @@
-//! The tables that are printed: a row of names, then a row of a key's field and its numbers for each group.
+//! The tables that are printed: a heading, then the row that each entry of a query's result tells.
 #![tactic(auto)]
 
 mod entry_reader;
-mod group_table;
-mod line;
 mod print_fault;
+mod row_fields;
 mod run_table;
 mod telling;
 #[cfg(test)]
 mod tests;
-#[cfg(test)]
-mod tests_of_runs;
 mod wide;
 
-pub use group_table::{print_list, put_rows_are_printable, rows_say_what_was_put};
 pub use print_fault::PrintFault;
 pub use run_table::print_table;
 pub use wide::too_wide;

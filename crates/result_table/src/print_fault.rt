@@ -3,7 +3,7 @@ ghost use Rattle.std.specs.Prelude.{◌≡◌};
 ghost use Rattle.result_table.specs.Faults.{fault_of};
 ghost use Rattle.result_table.specs.declared.print_fault.PrintFault.TheVariants.{NoMemory};
 
-use run_file::RunFault;
+use run_file::{Damage, RunFault};
 use std::alloc::AllocError;
 use thiserror::Error;
 
@@ -13,18 +13,10 @@ pub enum PrintFault {
     #[error("a write of the output failed")]
     WriteFault,
     #[error("a call of disk {disk} failed")]
-    DiskFault {
-        disk: u32,
-    },
-    /// The entry after the first `found` isn't well formed, or can't be told as a row of the table, of `kept` entries that
-    /// were written.
-    #[error("file {file} of disk {disk} is damaged: {found} of {kept} entries were found")]
-    Damaged {
-        disk: u32,
-        file: u64,
-        kept: u64,
-        found: u64,
-    },
+    DiskFault { disk: u32 },
+    /// The entry after the first `found` isn't well formed, or can't be told as a row of the table.
+    #[error(transparent)]
+    Damaged(Damage),
     #[error("out of memory")]
     NoMemory,
 }
@@ -43,17 +35,7 @@ impl From<RunFault> for PrintFault {
     fn from(of_run: RunFault) -> PrintFault {
         match of_run {
             RunFault::DiskFault { disk } => PrintFault::DiskFault { disk },
-            RunFault::Damaged {
-                disk,
-                file,
-                kept,
-                found,
-            } => PrintFault::Damaged {
-                disk,
-                file,
-                kept,
-                found,
-            },
+            RunFault::Damaged(damage) => PrintFault::Damaged(damage),
             RunFault::NoMemory => PrintFault::NoMemory,
         }
     }

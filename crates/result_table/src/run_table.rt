@@ -1,24 +1,23 @@
 // The table of a query's result, written in blocks.
-ghost use Rattle.std.specs.Prelude.{◌≡◌, ◌<◌, ◌≤◌, ◌+◌, ◌++◌, ◌∷◌, ℕ, All, List, OnErr, OnOk, IfOk, IfSome, Some, false, is_some, length, map, option_map, true};
+ghost use Rattle.std.specs.Prelude.{◌≡◌, ◌<◌, ◌≤◌, ◌++◌, All, List, OnErr, OnOk, IfOk, IfSome, false, is_some, length, option_map, true};
 ghost use Rattle.std.specs.Io.KnownBytes.{Appends};
 ghost use Rattle.aggregate.specs.Totals.{Entry};
 ghost use Rattle.byte_io.specs.Sinks.{AppendsPrefix};
-ghost use Rattle.csv.specs.Writing.{default_writer, row_text, text_written};
+ghost use Rattle.csv.specs.Writing.{default_writer, row_text};
 ghost use Rattle.row_page.specs.Views.{fields_in};
 ghost use Rattle.run_file.specs.Shelved.{LeavesFiles, faults_on, files_on};
 ghost use Rattle.job_plan.specs.Entries.{kind_of};
 ghost use Rattle.job_plan.specs.Plans.{heading_at, kept_at, kept_in, kind_at};
-ghost use Rattle.job_plan.specs.Telling.{IsTold, row_of};
-ghost use Rattle.result_table.specs.Ahead.{AreAhead, GoesOn, IsOfKind, given_by, run_in};
-ghost use Rattle.result_table.specs.Faults.{HasCauseRead, HasCauseWritten, NoDamage, TellsRun};
-ghost use Rattle.result_table.specs.Results.{FindsNoDamage, HasCauseIn, HasResult, TellsAnswer, count_in, table_of};
-ghost use Rattle.result_table.specs.Table.{IsBetweenRows, table};
-ghost use Rattle.result_table.specs.Told.{TellsFirst};
+ghost use Rattle.job_plan.specs.Telling.{IsTold};
+ghost use Rattle.result_table.specs.Ahead.{AreAhead, GoesOn, IsOfKind};
+ghost use Rattle.result_table.specs.Faults.{HasCauseRead, HasCauseWritten};
+ghost use Rattle.result_table.specs.Results.{FindsNoDamage, HasCauseIn, HasResult, StopsAmong, TellsAnswer, count_in, table_of};
+ghost use Rattle.result_table.specs.Table.{IsBetweenRows, text_in};
+ghost use Rattle.result_table.specs.Told.{StopsIn, TellsEntries, WritesFront, rows_told};
 
 use crate::entry_reader::EntryReader;
-use crate::group_table::BLOCK;
-use crate::line::Line;
 use crate::print_fault::PrintFault;
+use crate::telling::{tell, tell_view};
 use aggregate::Kind;
 use byte_io::{Sink, SinkError, write_all_counted};
 use csv::Writer;
@@ -29,10 +28,14 @@ use run_file::Run;
 use spill_disk::{Disk, Shelf};
 use std::alloc::{AllocError, Global};
 
+// How many bytes a block has at least, before it is written out.
+const BLOCK: usize = 65536;
+
 /// Prints the table of a query: its heading, then a row for each entry of its result, which is a run of the query's
 /// entries, or none.
 ///
-/// The bytes go out in blocks of about 64 KiB. After an `Err` a part of the table, from the front, was written.
+/// The bytes go out in blocks of about 64 KiB. After an `Err` a part of the table, from the front, was written. An entry
+/// that can't be told as a row is damage, with the entries before it counted, also on a disk that doesn't tell.
 pub fn print_table<D: Disk, H: Shelf<D>, W: Sink>(
     alloc: Global,
     shelf: &mut H,
@@ -49,14 +52,22 @@ pub fn print_table<D: Disk, H: Shelf<D>, W: Sink>(
     ensures told { OnOk result ((entries : List Entry) →
         HasResult (files_on H.disk_of D.files shelf.old) (kind_at plan.now query) (option_map (λ run. run.now) answer.entry) entries →
         All (IsTold (kept_at plan.now query)) entries) }
-    ensures rows { OnOk result ((rows : List (List (List ℕ))) × (length rows ≡ count_in (option_map (λ run. run.now) answer.entry))
-        × Appends (W.written output.old) (W.written output.new) (table (heading_at plan.now query ∷ rows))) }
+    ensures rows { OnOk result ((told : List Entry) × (length told ≡ count_in (option_map (λ run. run.now) answer.entry))
+        × All (IsTold (kept_at plan.now query)) told
+        × Appends (W.written output.old) (W.written output.new) (table_of plan.now query told)) }
     ensures err { OnErr result ((entries : List Entry) →
         HasResult (files_on H.disk_of D.files shelf.old) (kind_at plan.now query) (option_map (λ run. run.now) answer.entry) entries →
         AppendsPrefix (W.written output.old) (W.written output.new) (table_of plan.now query entries)) }
+    ensures front { OnErr result (WritesFront (kept_at plan.now query)
+        (HasResult (files_on H.disk_of D.files shelf.old) (kind_at plan.now query) (option_map (λ run. run.now) answer.entry))
+        0 (count_in (option_map (λ run. run.now) answer.entry))
+        (row_text default_writer (heading_at plan.now query)) (W.written output.old) (W.written output.new) result) }
     ensures undamaged { (entries : List Entry) →
         HasResult (files_on H.disk_of D.files shelf.old) (kind_at plan.now query) (option_map (λ run. run.now) answer.entry) entries →
         All (IsTold (kept_at plan.now query)) entries → FindsNoDamage result }
+    ensures stops { (entries : List Entry) →
+        HasResult (files_on H.disk_of D.files shelf.old) (kind_at plan.now query) (option_map (λ run. run.now) answer.entry) entries →
+        StopsAmong (kept_at plan.now query) entries result }
     ensures damaged { TellsAnswer (option_map (λ run. run.now) answer.entry) result }
     ensures cause { HasCauseIn (faults_on H.disk_of D.faults shelf.old) (faults_on H.disk_of D.faults shelf.new)
         (W.faults output.old) (W.faults output.new) result }
@@ -64,35 +75,30 @@ pub fn print_table<D: Disk, H: Shelf<D>, W: Sink>(
     ensures later { W.faults output.old ≤ W.faults output.new }
     ensures shelf { LeavesFiles H.count_of H.named H.disk_of D.files D.faults shelf.old shelf.new }
 {
-    let mut line = Line::new(alloc);
-    let text = heading_text(alloc, &mut line, &plan.heading(query))?;
+    let text = heading_text(alloc, &plan.heading(query))?;
     let Some(run) = answer else {
         return write_out(output, &text);
     };
     let kind = plan.kind(query);
     let mut reader = EntryReader::new(alloc, run, kind)?;
+    let mut field = Vec::new(alloc);
     print_entries(
         shelf,
         &mut reader,
         plan.kept(query),
         kind,
-        &mut line,
+        &mut field,
         text,
         output,
     )
 }
 
 // The text of the first row.
-pub(crate) fn heading_text(
-    alloc: Global,
-    line: &mut Line,
-    view: &RowView<'_>,
-) -> Result<Vec<u8>, AllocError>
+pub(crate) fn heading_text(alloc: Global, view: &RowView<'_>) -> Result<Vec<u8>, AllocError>
     ensures { IfOk result (λ text. text.items ≡ row_text default_writer (fields_in view.now)) }
 {
-    line.set_view(view)?;
     let mut writer = Writer::from_writer(Vec::new(alloc));
-    line.write_to(&mut writer)?;
+    tell_view(&mut writer, view)?;
     match writer.into_inner() {
         Ok(text) => Ok(text),
         Err(_) => Err(AllocError),
@@ -120,28 +126,24 @@ pub(crate) fn print_entries<D: Disk, H: Shelf<D>, W: Sink>(
     reader: &mut EntryReader,
     shape: &Shape,
     kind: &Kind,
-    line: &mut Line,
+    field: &mut Vec<u8>,
     text: Vec<u8>,
     output: &mut W,
 ) -> Result<(), PrintFault>
-    requires there { (run_in reader.old).disk < H.count_of shelf.old }
+    requires there { reader.old.run.disk < H.count_of shelf.old }
     requires kind { kind.now ≡ kind_of shape.now }
     requires form { IsOfKind kind.now reader.old }
-    ensures ok { OnOk result ((entries : List Entry) →
-        AreAhead (files_on H.disk_of D.files shelf.old (run_in reader.old).disk) reader.old entries →
-        Appends (W.written output.old) (W.written output.new) (text.items ++ table (map (row_of shape.now) entries))) }
-    ensures told { OnOk result ((entries : List Entry) →
-        AreAhead (files_on H.disk_of D.files shelf.old (run_in reader.old).disk) reader.old entries →
-        All (IsTold shape.now) entries) }
-    ensures rows { OnOk result ((rows : List (List (List ℕ))) × (given_by reader.old + length rows ≡ (run_in reader.old).count)
-        × Appends (W.written output.old) (W.written output.new) (text.items ++ table rows)) }
-    ensures err { OnErr result ((entries : List Entry) →
-        AreAhead (files_on H.disk_of D.files shelf.old (run_in reader.old).disk) reader.old entries →
-        AppendsPrefix (W.written output.old) (W.written output.new) (text.items ++ table (map (row_of shape.now) entries))) }
-    ensures undamaged { (entries : List Entry) →
-        AreAhead (files_on H.disk_of D.files shelf.old (run_in reader.old).disk) reader.old entries →
-        All (IsTold shape.now) entries → FindsNoDamage result }
-    ensures damaged { TellsRun (run_in reader.old) result }
+    requires given { reader.old.found ≤ reader.old.run.count }
+    ensures ok { OnOk result ((told : List Entry) × TellsEntries shape.now
+        (files_on H.disk_of D.files shelf.old reader.old.run.disk)
+        (files_on H.disk_of D.files shelf.new reader.old.run.disk) reader.old reader.new told
+        × Appends (W.written output.old) (W.written output.new) (text.items ++ rows_told shape.now told)) }
+    ensures whole { OnOk result (reader.new.found ≡ reader.old.run.count) }
+    ensures run { reader.new.run ≡ reader.old.run }
+    ensures front { OnErr result (WritesFront shape.now
+        (AreAhead (files_on H.disk_of D.files shelf.old reader.old.run.disk) reader.old)
+        reader.old.found reader.old.run.count text.items (W.written output.old) (W.written output.new) result) }
+    ensures stops { StopsIn shape.now (files_on H.disk_of D.files shelf.old reader.old.run.disk) reader.old result }
     ensures cause { HasCauseIn (faults_on H.disk_of D.faults shelf.old) (faults_on H.disk_of D.faults shelf.new)
         (W.faults output.old) (W.faults output.new) result }
     ensures tells { is_some (W.written output.new) ≡ is_some (W.written output.old) }
@@ -150,7 +152,7 @@ pub(crate) fn print_entries<D: Disk, H: Shelf<D>, W: Sink>(
 {
     let mut text = text;
     'blocks: loop {
-        let (filled, more) = fill_block(shelf, reader, shape, kind, line, text)?;
+        let (filled, more) = fill_block(shelf, reader, shape, kind, field, text)?;
         write_out(output, &filled)?;
         if !more {
             return Ok(());
@@ -166,30 +168,26 @@ fn fill_block<D: Disk, H: Shelf<D>>(
     reader: &mut EntryReader,
     shape: &Shape,
     kind: &Kind,
-    line: &mut Line,
+    field: &mut Vec<u8>,
     text: Vec<u8>,
 ) -> Result<(Vec<u8>, bool), PrintFault>
-    requires there { (run_in reader.old).disk < H.count_of shelf.old }
+    requires there { reader.old.run.disk < H.count_of shelf.old }
     requires kind { kind.now ≡ kind_of shape.now }
     requires form { IsOfKind kind.now reader.old }
-    ensures tells { IfOk result (λ p. (piece : List ℕ) × (p.0.items ≡ text.items ++ piece) × ((entries : List Entry) →
-        AreAhead (files_on H.disk_of D.files shelf.old (run_in reader.old).disk) reader.old entries →
-        TellsFirst shape.now (files_on H.disk_of D.files shelf.new (run_in reader.new).disk) reader.new p.1 piece entries)) }
-    ensures rows { IfOk result (λ p. (rows : List (List (List ℕ))) × (given_by reader.old + length rows ≡ given_by reader.new)
-        × (p.0.items ≡ text.items ++ table rows)) }
-    ensures whole { IfOk result (λ p. p.1 ≡ false → given_by reader.new ≡ (run_in reader.old).count) }
+    ensures tells { IfOk result (λ p. (told : List Entry) × TellsEntries shape.now
+        (files_on H.disk_of D.files shelf.old reader.old.run.disk)
+        (files_on H.disk_of D.files shelf.new reader.old.run.disk) reader.old reader.new told
+        × (p.0.items ≡ text.items ++ rows_told shape.now told)) }
+    ensures whole { IfOk result (λ p. p.1 ≡ false → reader.new.found ≡ reader.old.run.count) }
     ensures more { IfOk result (λ p. p.1 ≡ true → GoesOn reader.old reader.new) }
-    ensures undamaged { (entries : List Entry) →
-        AreAhead (files_on H.disk_of D.files shelf.old (run_in reader.old).disk) reader.old entries →
-        All (IsTold shape.now) entries → NoDamage result }
-    ensures damaged { TellsRun (run_in reader.old) result }
-    ensures run { run_in reader.new ≡ run_in reader.old }
+    ensures stops { StopsIn shape.now (files_on H.disk_of D.files shelf.old reader.old.run.disk) reader.old result }
+    ensures run { reader.new.run ≡ reader.old.run }
     ensures form { IsOfKind kind.now reader.new }
     ensures cause { HasCauseRead (faults_on H.disk_of D.faults shelf.old) (faults_on H.disk_of D.faults shelf.new) result }
     ensures shelf { LeavesFiles H.count_of H.named H.disk_of D.files D.faults shelf.old shelf.new }
 {
     let mut writer = Writer::from_writer(text);
-    let more = put_rows(shelf, reader, shape, kind, line, &mut writer)?;
+    let more = put_rows(shelf, reader, shape, kind, field, &mut writer)?;
     match writer.into_inner() {
         Ok(filled) => Ok((filled, more)),
         Err(_) => Err(PrintFault::NoMemory),
@@ -202,36 +200,29 @@ fn put_rows<D: Disk, H: Shelf<D>>(
     reader: &mut EntryReader,
     shape: &Shape,
     kind: &Kind,
-    line: &mut Line,
+    field: &mut Vec<u8>,
     writer: &mut Writer<Vec<u8>>,
 ) -> Result<bool, PrintFault>
     requires between { IsBetweenRows writer.old }
-    requires there { (run_in reader.old).disk < H.count_of shelf.old }
+    requires there { reader.old.run.disk < H.count_of shelf.old }
     requires kind { kind.now ≡ kind_of shape.now }
     requires form { IsOfKind kind.now reader.old }
-    ensures tells { IfOk result (λ more. (piece : List ℕ)
-        × Appends (text_written (λ v. Some v.items) writer.old) (text_written (λ v. Some v.items) writer.new) piece
-        × ((entries : List Entry) →
-        AreAhead (files_on H.disk_of D.files shelf.old (run_in reader.old).disk) reader.old entries →
-        TellsFirst shape.now (files_on H.disk_of D.files shelf.new (run_in reader.new).disk) reader.new more piece entries)) }
-    ensures rows { IfOk result (λ _. (rows : List (List (List ℕ))) × (given_by reader.old + length rows ≡ given_by reader.new)
-        × Appends (text_written (λ v. Some v.items) writer.old) (text_written (λ v. Some v.items) writer.new) (table rows)) }
-    ensures whole { IfOk result (λ more. more ≡ false → given_by reader.new ≡ (run_in reader.old).count) }
+    ensures tells { OnOk result ((told : List Entry) × TellsEntries shape.now
+        (files_on H.disk_of D.files shelf.old reader.old.run.disk)
+        (files_on H.disk_of D.files shelf.new reader.old.run.disk) reader.old reader.new told
+        × (text_in writer.new ≡ text_in writer.old ++ rows_told shape.now told)) }
+    ensures whole { IfOk result (λ more. more ≡ false → reader.new.found ≡ reader.old.run.count) }
     ensures more { IfOk result (λ more. more ≡ true → GoesOn reader.old reader.new) }
-    ensures undamaged { (entries : List Entry) →
-        AreAhead (files_on H.disk_of D.files shelf.old (run_in reader.old).disk) reader.old entries →
-        All (IsTold shape.now) entries → NoDamage result }
-    ensures damaged { TellsRun (run_in reader.old) result }
-    ensures run { run_in reader.new ≡ run_in reader.old }
+    ensures stops { StopsIn shape.now (files_on H.disk_of D.files shelf.old reader.old.run.disk) reader.old result }
+    ensures run { reader.new.run ≡ reader.old.run }
     ensures form { IsOfKind kind.now reader.new }
     ensures cause { HasCauseRead (faults_on H.disk_of D.faults shelf.old) (faults_on H.disk_of D.faults shelf.new) result }
     ensures shelf { LeavesFiles H.count_of H.named H.disk_of D.files D.faults shelf.old shelf.new }
 {
     'entries: while reader.go_on(shelf)? {
-        if !line.tell(shape, kind, reader.key(), reader.value())? {
-            return Err(reader.damage());
+        if !tell(writer, shape, kind, reader.key(), reader.value(), field)? {
+            return Err(PrintFault::from(reader.damage()));
         }
-        line.write_to(writer)?;
         if writer.get_ref().len() >= BLOCK {
             return Ok(true);
         }

@@ -3,7 +3,6 @@ ghost use Rattle.std.specs.Prelude.{◌≡◌, IfOk};
 ghost use Rattle.job_plan.specs.Entries.{kind_of};
 
 use crate::entry_reader::EntryReader;
-use crate::line::Line;
 use crate::run_table::{heading_text, print_entries};
 use crate::{PrintFault, too_wide};
 use aggregate::{Agg, AggList, Kind, put_field, put_partial};
@@ -11,8 +10,8 @@ use byte_io::MemorySink;
 use item_lists::Listed;
 use job_text::{KeyItem, Part, Shape};
 use row_page::{Page, RowBuf};
-use run_file::{Run, RunFault, RunWriter};
-use spill_disk::{MemoryDisk, One};
+use run_file::{Damage, Run, RunFault, RunWriter};
+use spill_disk::{Disk, MemoryDisk, One, VeilDisk};
 use std::alloc::Global;
 use std::test::Fail;
 
@@ -153,17 +152,17 @@ fn put_run(disk: &mut MemoryDisk, page: &Page) -> Result<Run, Fail>
 }
 
 // The text of the heading `k,n`.
-fn heading_of(alloc: Global, line: &mut Line) -> Result<Vec<u8>, Fail> {
+fn heading_of(alloc: Global) -> Result<Vec<u8>, Fail> {
     let mut names = RowBuf::new(alloc);
     names.add(b"k")?;
     names.add(b"n")?;
-    Ok(heading_text(alloc, line, &names.view())?)
+    Ok(heading_text(alloc, &names.view())?)
 }
 
 // Prints a run's entries under the heading `k,n`.
-fn print(
+fn print<D: Disk>(
     alloc: Global,
-    disk: &mut MemoryDisk,
+    disk: &mut D,
     run: &Run,
     query: &Query,
     output: &mut MemorySink,
@@ -171,8 +170,8 @@ fn print(
     requires run { run.now.disk ≡ 0 }
     requires kind { query.now.kind ≡ kind_of query.now.shape }
 {
-    let mut line = Line::new(alloc);
-    let text = heading_of(alloc, &mut line)?;
+    let text = heading_of(alloc)?;
+    let mut field = Vec::new(alloc);
     let mut reader = EntryReader::new(alloc, run, &query.kind)?;
     let mut one = One { disk };
     Ok(print_entries(
@@ -180,7 +179,7 @@ fn print(
         &mut reader,
         &query.shape,
         &query.kind,
-        &mut line,
+        &mut field,
         text,
         output,
     ))
@@ -239,12 +238,12 @@ fn is_damaged(alloc: Global, page: &Page, query: &Query) -> Result<bool, Fail>
     requires { query.now.kind ≡ kind_of query.now.shape }
 {
     let mut output = MemorySink::new(alloc, Vec::new(alloc));
-    let damaged = PrintFault::Damaged {
+    let damaged = PrintFault::Damaged(Damage {
         disk: 0,
         file: 0,
         kept: 2,
         found: 1,
-    };
+    });
     match print_page(alloc, page, query, &[], &mut output)? {
         Err(PrintFault::NoMemory) => Err(PrintFault::NoMemory.into()),
         told => Ok(told == Err(damaged)),
@@ -265,6 +264,43 @@ fn an_entry_that_cannot_be_told_is_damaged(rt: HostRuntime) -> Result<(), Fail> 
     let page = page_of_orders(rt.alloc(), "|1|a|b/|")?;
     let damaged = is_damaged(rt.alloc(), &page, &orders(rt.alloc())?)?;
     assert!(rt; damaged, "a row of one column");
+    Ok(())
+}
+
+// How two groups are printed on a disk that doesn't tell, where this byte of the length of the second is set to 255.
+fn print_veiled(alloc: Global, byte: usize) -> Result<Result<(), PrintFault>, Fail> {
+    let page = page_of_groups(alloc, "|a|a=1 1 1 1/|b|b=1 1 1 1")?;
+    let mut bytes = page.bytes().to_vec(alloc)?;
+    let half = bytes.len() / 2;
+    if let Some(length) = bytes.get_mut(half + byte) {
+        *length = 255;
+    }
+    let mut disk = VeilDisk::new(alloc, Vec::new(alloc), Vec::new(alloc));
+    let file = disk.create()?;
+    disk.append(file, &bytes)?;
+    let run = Run {
+        disk: 0,
+        file,
+        bytes: bytes.len() as u64,
+        count: 2,
+        greatest: 1000,
+    };
+    let mut output = MemorySink::new(alloc, Vec::new(alloc));
+    print(alloc, &mut disk, &run, &groups(alloc)?, &mut output)
+}
+
+#[test]
+fn a_damaged_length_is_damage_behind_the_entries_before_it(rt: HostRuntime) -> Result<(), Fail> {
+    let damaged = PrintFault::Damaged(Damage {
+        disk: 0,
+        file: 0,
+        kept: 2,
+        found: 1,
+    });
+    for byte in 0..4 {
+        let answer = print_veiled(rt.alloc(), byte)?;
+        assert_eq!(rt; answer, Err(damaged), "byte {byte}");
+    }
     Ok(())
 }
 

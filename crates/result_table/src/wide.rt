@@ -4,12 +4,11 @@ ghost use Rattle.std.specs.List.{list_any};
 ghost use Rattle.aggregate.specs.Partial.{fits_i64};
 ghost use Rattle.aggregate.specs.Totals.{Entry};
 ghost use Rattle.aggregate.specs.declared.kind.Kind.TheVariants.{Group};
-ghost use Rattle.run_file.specs.Causes.{NotDamaged};
+ghost use Rattle.run_file.specs.Causes.{HasCauseOn, NotDamaged};
 ghost use Rattle.run_file.specs.Shelved.{LeavesFiles, faults_on, files_on};
-ghost use Rattle.run_merge.specs.Causes.{HasCauseAmong, IsDamageOf};
 ghost use Rattle.job_plan.specs.Telling.{value_numbers};
-ghost use Rattle.result_table.specs.Ahead.{AreAhead, IsOfKind, given_by, run_in};
-ghost use Rattle.result_table.specs.Results.{HasResult, IsDamageOfResult, wide_key};
+ghost use Rattle.result_table.specs.Ahead.{AreAhead, IsOfKind};
+ghost use Rattle.result_table.specs.Results.{HasCauseOfResult, HasResult, IsDamageOf, IsDamageOfResult, wide_key};
 
 use crate::entry_reader::EntryReader;
 use aggregate::{AggList, Key, Kind, finish};
@@ -33,7 +32,8 @@ pub fn too_wide<D: Disk, H: Shelf<D>>(
         HasResult (files_on H.disk_of D.files shelf.old) (Group aggs.now) (option_map (λ run. run.now) answer.entry) entries →
         NotDamaged result }
     ensures damaged { IsDamageOfResult (option_map (λ run. run.now) answer.entry) result }
-    ensures cause { HasCauseAmong (faults_on H.disk_of D.faults shelf.old) (faults_on H.disk_of D.faults shelf.new) result }
+    ensures cause { HasCauseOfResult (option_map (λ run. run.now) answer.entry)
+        (faults_on H.disk_of D.faults shelf.old) (faults_on H.disk_of D.faults shelf.new) result }
     ensures shelf { LeavesFiles H.count_of H.named H.disk_of D.files D.faults shelf.old shelf.new }
 {
     let Some(run) = answer else {
@@ -55,16 +55,18 @@ fn first_wide<D: Disk, H: Shelf<D>>(
     reader: &mut EntryReader,
     aggs: &AggList,
 ) -> Result<Option<Key>, RunFault>
-    requires there { (run_in reader.old).disk < H.count_of shelf.old }
+    requires there { reader.old.run.disk < H.count_of shelf.old }
     requires kind { IsOfKind (Group aggs.now) reader.old }
     ensures ok { IfOk result (λ key. (entries : List Entry) →
-        AreAhead (files_on H.disk_of D.files shelf.old (run_in reader.old).disk) reader.old entries →
+        AreAhead (files_on H.disk_of D.files shelf.old reader.old.run.disk) reader.old entries →
         key ≡ wide_key (length aggs.now) entries) }
-    ensures whole { IfOk result (λ key. key ≡ None → given_by reader.new ≡ (run_in reader.old).count) }
+    ensures whole { IfOk result (λ key. key ≡ None → reader.new.found ≡ reader.old.run.count) }
     ensures undamaged { (entries : List Entry) →
-        AreAhead (files_on H.disk_of D.files shelf.old (run_in reader.old).disk) reader.old entries → NotDamaged result }
-    ensures damaged { IsDamageOf (run_in reader.old) result }
-    ensures cause { HasCauseAmong (faults_on H.disk_of D.faults shelf.old) (faults_on H.disk_of D.faults shelf.new) result }
+        AreAhead (files_on H.disk_of D.files shelf.old reader.old.run.disk) reader.old entries → NotDamaged result }
+    ensures damaged { IsDamageOf reader.old.run result }
+    ensures cause { HasCauseOn reader.old.run.disk
+        (faults_on H.disk_of D.faults shelf.old reader.old.run.disk)
+        (faults_on H.disk_of D.faults shelf.new reader.old.run.disk) result }
     ensures shelf { LeavesFiles H.count_of H.named H.disk_of D.files D.faults shelf.old shelf.new }
 {
     'entries: while reader.go_on(shelf)? {

@@ -6,7 +6,8 @@ use Rattle.aggregate.specs.declared.key.Key.{Key}
 use Rattle.run_file.specs.declared.run.Run.{Run}
 use Rattle.run_file.specs.Shelved.{files_on}
 use Rattle.job_plan.specs.Telling.{is_wide, value_numbers}
-use Rattle.result_table.specs.Ahead.{GoesTo, Takes, entry_in, run_in}
+use Rattle.run_file.specs.AtEntries.{entry_at}
+use Rattle.result_table.specs.Ahead.{GoesTo, Takes}
 use Rattle.result_table.proofs.Leaving.{leaves_trans}
 use Rattle.result_table.proofs.WideKeys.{goes_sound, is_outside, wide_ended, wide_found, wide_next}
 use Rattle.result_table.proofs.wide.first_wide.Goals as goal
@@ -35,7 +36,7 @@ key-requires g c =
 pub returns-then-has_wide-clause-ok : goal.returns-then-has_wide-clause-ok
 returns-then-has_wide-clause-ok g c =
     let count = length c.args.aggs.now in
-    let wide : is_wide count (entry_in c.go_on.new.self) ≡ true =
+    let wide : is_wide count (entry_at c.go_on.new.self) ≡ true =
     ap (λ (v : List ℕ). list_any is_outside (value_numbers count v)) (sym c.value.ensures.value) ∙ sym c.has_wide.ensures ∙ c.if-has_wide.true in
     IfOk-weaker c.copy_key.result _ _
     (λ key e entries ahead.
@@ -48,7 +49,7 @@ pub entries-preserved : goal.entries-preserved
 entries-preserved g c =
     let count = length c.args.aggs.now in
     let files = files_on g.H.Shelf.disk_of g.D.Disk.files c.go_on.new.shelf in
-    let narrow : is_wide count (entry_in c.go_on.new.self) ≡ false =
+    let narrow : is_wide count (entry_at c.go_on.new.self) ≡ false =
     ap (λ (v : List ℕ). list_any is_outside (value_numbers count v)) (sym c.value.ensures.value) ∙ sym c.has_wide.ensures ∙ c.if-has_wide.false in
     record {
       run = c.go_on.ensures.run ∙ c.entries.invariant.run;
@@ -56,8 +57,8 @@ entries-preserved g c =
       shelf = leaves_trans _ _ _ _ _ _ _ _ c.entries.invariant.shelf c.go_on.ensures.shelf;
       ahead = λ entries ahead.
           let still = c.entries.invariant.ahead entries ahead in
-          let goes : GoesTo (files (run_in c.entries.reader).disk) c.go_on.new.self still.0 (Ok true) = rw c.if-branch.true at c.in_ok-go_on.ensures.gives still.0 still.1 in
-          wide_next count (files (run_in c.go_on.new.self).disk) c.go_on.new.self entries still.0 still.2
+          let goes : GoesTo (files c.entries.reader.run.disk) c.go_on.new.self still.0 (Ok true) = rw c.if-branch.true at c.in_ok-go_on.ensures.gives still.0 still.1 in
+          wide_next count (files c.go_on.new.self.run.disk) c.go_on.new.self entries still.0 still.2
           (subst (λ (r : Run). GoesTo (files r.disk) c.go_on.new.self still.0 (Ok true)) (sym c.go_on.ensures.run) goes) narrow;
     }
 

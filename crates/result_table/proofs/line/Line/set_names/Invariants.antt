@@ -1,6 +1,0 @@
-use Rattle.std.proofs.Common.{◌≡◌, [], take}
-use Rattle.csv.specs.Records.{fields_of, partial_of}
-use Rattle.result_table.proofs.line.Line.set_names.Given as goal
-
-abbrev pub invariant-loop-name : goal.invariant-loop-name
-invariant-loop-name l = (fields_of l.self.row ≡ take l.name-index l.names) × (partial_of l.self.row ≡ [])
