@@ -6,9 +6,11 @@ use Rattle.std.specs.Option.{option_to_list}
 use Rattle.std.proofs.lemmas.Bool.{cases_Bool}
 use Rattle.std.proofs.lemmas.List.{get_or-map, length-map, map-append}
 use Rattle.std.proofs.lemmas.List.Elements.{All-head, All-map, All-tail}
+use Rattle.std.proofs.lemmas.Option.{same_Some}
 use Rattle.std.proofs.lemmas.Simd.{map-map}
 use Rattle.aggregate.specs.declared.kind.Kind.TheVariants as kinds
-use Rattle.job_text.specs.Jobs.{IsColumns, IsPart, IsShape, IsShortList}
+use Rattle.aggregate.specs.declared.agg_list.Agg.{Agg}
+use Rattle.job_text.specs.Jobs.{IsColumns, IsDistinct, IsPart, IsShape, IsShortList}
 use Rattle.job_text.specs.declared.job.KeyItem.{KeyItem}
 use Rattle.job_text.specs.declared.job.Part.{Part}
 use Rattle.job_text.specs.declared.job.Shape.{Shape}
@@ -78,9 +80,34 @@ module _ (g : ℕ → ℕ) (n m : ℕ) (inside : (c : ℕ) → c < n → g c < m
   part-moved : (p : Part) → IsPart n p → IsPart m (moved_part g p)
   part-moved p h = record { column = some-moved p.column ∙ h.column; named = option-moved p.column h.named }
 
+  columns-apart : (x y : Option ℕ) → IfSome x (λ c. c < n) → IfSome y (λ c. c < n) → x ≢ y → option_map g x ≢ option_map g y
+  columns-apart None None hx hy differ e = differ refl
+  columns-apart None (Some d) hx hy differ e = absurd (cc e)
+  columns-apart (Some c) None hx hy differ e = absurd (cc e)
+  columns-apart (Some c) (Some d) hx hy differ e = apart c d hx hy (λ same. differ (ap Some same)) (same_Some (g c) (g d) e)
+
+  part-apart : (p q : Part) → IsPart n p → IsPart n q → p ≢ q → moved_part g p ≢ moved_part g q
+  part-apart p q hp hq differ e =
+      columns-apart p.column q.column hp.named hq.named
+      (λ same. differ (ap (λ (a : Agg). record p { agg = a }) (ap (λ (part : Part). part.agg) e) ∙ ap (λ (o : Option ℕ). record q { column = o }) same))
+      (ap (λ (part : Part). part.column) e)
+
+  parts-apart : (ps : List Part) → All (IsPart n) ps → IsDistinct ps → IsDistinct (map (moved_part g) ps)
+  parts-apart ps parts distinct = λ i j d lt within. (
+      let long : length (map (moved_part g) ps) ≡ length ps = length-map ps (moved_part g) in
+      let later : j < length ps = omega arith in
+      let earlier : i < length ps = omega arith in
+      λ e. part-apart (get_or ps i d) (get_or ps j d) (parts i d earlier) (parts j d later) (distinct i j d lt later)
+      (sym (get_or-map (moved_part g) ps i d d earlier) ∙ e ∙ get_or-map (moved_part g) ps j d d later))
+
   pub shape-moved : (s : Shape) → IsShape n s → IsShape m (moved g s)
   shape-moved (Group cs ps) h =
-      (columns-moved cs h.0, short-moved (moved_part g) ps h.1, All-map (IsPart m) (moved_part g) ps (λ i d lt. part-moved (get_or ps i d) (h.2 i d lt)))
+      (
+        columns-moved cs h.0,
+        short-moved (moved_part g) ps h.1,
+        All-map (IsPart m) (moved_part g) ps (λ i d lt. part-moved (get_or ps i d) (h.2 i d lt)),
+        parts-apart ps h.2 h.3,
+      )
   shape-moved (Order ks cs) h =
       let same : map g (map (λ (k : KeyItem). k.column) ks) ≡ map (λ (k : KeyItem). k.column) (map (moved_item g) ks) =
       map-map g (λ (k : KeyItem). k.column) ks ∙ sym (map-map (λ (k : KeyItem). k.column) (moved_item g) ks) in
