@@ -20,3 +20,4 @@ mod Fields
 mod Drains
 mod Starts
 mod LeftRuns
+mod FromRuns
