@@ -1,11 +1,12 @@
 -- Keys in their order.
-use Rattle.std.proofs.Common.{◌≡◌, ℕ, Bool, true, false, eqb, not, ◌&&◌, List, [], ◌∷◌, refl, ap, ◌∙◌, sym}
-use Rattle.std.specs.Ordering.{ordering_reverse, is_gt, is_lt}
+use Rattle.std.proofs.Common.{◌≡◌, ℕ, true, false, List, refl, ap, ◌∙◌, sym, inl, inr, arith}
+use Rattle.std.specs.Ordering.{nat_cmp, ordering_reverse, is_gt, is_lt}
+use Rattle.std.specs.Prelude.{nat_lt}
+use Rattle.std.specs.Cmp.{nat_cmp_is}
 use Rattle.std.specs.declared.cmp.Ordering.{Ordering}
 use Rattle.std.specs.declared.cmp.Ordering.TheVariants.{Less, Equal, Greater}
-use Rattle.std.proofs.lemmas.Cmp.{nat_list_cmp_total, nat_list_eq_equiv, tied_itself}
-use Rattle.std.proofs.lemmas.Bool.{and_parts, eqb-true, true≢false}
-use lib.Pointwise.{pointwise}
+use Rattle.std.proofs.lemmas.Cmp.{nat_list_cmp_total, tied_itself}
+use Rattle.std.proofs.lemmas.Bool.{cases_eq, cases_lt, le-ltb, lt-ltb}
 use Rattle.std.specs.FinMap.{slice_cmp-IsAntisymmetric, nat_cmp-IsAntisymmetric}
 use Rattle.aggregate.specs.Totals.{key_cmp}
 
@@ -22,6 +23,18 @@ pub lt_less : (o : Ordering) → is_lt o ≡ true → o ≡ Less
 lt_less Less e = refl
 lt_less Equal e = absurd cc
 lt_less Greater e = absurd cc
+
+-- whether a number is below another, as they compare
+pub lt_numbers : (m n : ℕ) → nat_lt m n ≡ is_lt (nat_cmp m n)
+lt_numbers m n =
+    elim (cases_lt m n) [
+      | inl below ↦ lt-ltb m n below ∙ ap is_lt (nat_cmp_is m n Less below)
+      | inr from ↦
+          elim (cases_eq m n) [
+            | inl same ↦ le-ltb m n from ∙ ap is_lt (nat_cmp_is m n Equal same)
+            | inr apart ↦ le-ltb m n from ∙ ap is_lt (nat_cmp_is m n Greater (omega (arith, apart)))
+          ]
+    ]
 
 -- at most a key that is at most
 pub upto_itself : (a : List ℕ) → is_gt (key_cmp a a) ≡ false
@@ -52,21 +65,3 @@ apart_less a b upto apart = by_cmp (key_cmp a b) refl upto
     by_cmp Less e h = e
     by_cmp Equal e h = absurd (apart (same_key a b e))
     by_cmp Greater e h = absurd cc
-
--- keys that compare as equal bytes are one, and one key does
-pub same_bytes : (a b : List ℕ) → not (pointwise eqb a b) ≡ false → a ≡ b
-same_bytes [] [] h = refl
-same_bytes [] (y ∷ b) h = absurd cc
-same_bytes (x ∷ a) [] h = absurd cc
-same_bytes (x ∷ a) (y ∷ b) h =
-    let both = and_parts (eqb x y) (pointwise eqb a b) (not_false (eqb x y && pointwise eqb a b) h) in
-    ap (λ (n : ℕ). n ∷ a) (eqb-true x y both.0) ∙ ap (λ (t : List ℕ). y ∷ t) (same_bytes a b (ap not both.1))
-  where
-    not_false : (t : Bool) → not t ≡ false → t ≡ true
-    not_false true h = refl
-    not_false false h = absurd cc
-
-pub other_bytes : (a b : List ℕ) → not (pointwise eqb a b) ≡ true → a ≡ b → ⊥
-other_bytes a b h same =
-    let equal : pointwise eqb a b ≡ true = ap (pointwise eqb a) (sym same) ∙ nat_list_eq_equiv.refl a in
-    absurd (true≢false (sym h ∙ ap not equal))

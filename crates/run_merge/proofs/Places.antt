@@ -20,7 +20,7 @@ use Rattle.run_file.specs.Reading.{IsAhead, TellsDamage}
 use Rattle.run_file.specs.AtEntries.{IsAtEntry}
 use Rattle.run_file.specs.Several.{AreOn}
 use Rattle.run_merge.specs.Giving.{LetsOn}
-use Rattle.run_merge.specs.Heads.{EachReader, has_head, AreAtEntries, AreOfKind, AreAhead, one_if}
+use Rattle.run_merge.specs.Heads.{EachReader, has_head, HasFront, AreFronts, AreAtEntries, AreOfKind, AreAhead, one_if}
 use Rattle.run_merge.specs.Merging.{IsLeft, AreLeft, TellsDamageIn, left_by}
 
 -- a fact of each reader, after one of them became another
@@ -155,6 +155,13 @@ pub kinds_set : (kind : Kind) (readers : List ReaderView) (i : ℕ) (old new : R
 kinds_set kind readers i old new lt is form of_kind =
     each_set readers i new (λ k reader. ∥ form_of reader ≡ Entries kind ∥₁) (λ k reader. ∥ form_of reader ≡ Entries kind ∥₁) lt of_kind (λ k reader apart h. h)
     (subst (λ (f : Form). ∥ f ≡ Entries kind ∥₁) (sym form) (of_kind i old lt is))
+
+pub front_set : (readers : List ReaderView) (heads : List Bool) (fronts : List ℕ) (i front : ℕ) (old new : ReaderView) (stands : Bool) → i < length readers → i < length heads → i < length fronts → old ≡ get_or readers i old → AreFronts readers heads fronts
+    → ((has_head heads i ≡ true → HasFront old (slice_index fronts i)) → stands ≡ true → HasFront new front) → AreFronts (set readers i new) (set heads i stands) (set fronts i front)
+front_set readers heads fronts i front old new stands lt lt_heads lt_fronts is each lets =
+    each_set readers i new (λ k reader. has_head heads k ≡ true → HasFront reader (slice_index fronts k)) (λ k reader. has_head (set heads i stands) k ≡ true → HasFront reader (slice_index (set fronts i front) k)) lt each
+    (λ k reader apart h head. subst (HasFront reader) (sym (other_ahead fronts i k front apart)) (h (sym (other_head heads i k stands apart) ∙ head)))
+    (λ head. subst (HasFront new) (sym (get_or-set_same fronts i front 0 lt_fronts)) (lets (each i old lt is) (sym (get_or-set_same heads i stands false lt_heads) ∙ head)))
 
 pub ahead_set : (readers : List ReaderView) (aheads : List ℕ) (i ahead : ℕ) (new : ReaderView) → i < length readers → i < length aheads → found_of new + ahead ≡ (run_of new).count → AreAhead readers aheads → AreAhead (set readers i new) (set aheads i ahead)
 ahead_set readers aheads i ahead new lt lt_aheads here each =

@@ -4,6 +4,7 @@ use Rattle.std.specs.Prelude.{◌≡◌, ℕ, ◌+◌, ◌<◌, ◌≤◌, Bool,
 use Rattle.std.specs.Ordering.{is_gt}
 use Rattle.std.specs.declared.cmp.Ordering.TheVariants.{Less}
 use Rattle.aggregate.specs.declared.kind.Kind.{Kind}
+use Rattle.aggregate.specs.Fronts.{front_of}
 use Rattle.aggregate.specs.Totals.{key_cmp}
 use Rattle.run_file.specs.declared.form.Form.TheVariants.{Entries}
 use Rattle.run_file.specs.Readers.{ReaderView, form_of, found_of, run_of}
@@ -24,6 +25,14 @@ AreAtEntries kind readers heads = EachReader readers (λ k reader. has_head head
 -- each is read for this kind
 abbrev pub AreOfKind : Kind → List ReaderView → Type 0
 AreOfKind kind readers = EachReader readers (λ k reader. ∥ form_of reader ≡ Entries kind ∥₁)
+
+-- the front of the key at which it stands; and that this key is bytes
+abbrev pub HasFront : ReaderView → ℕ → Type 0
+HasFront reader front = (front ≡ front_of (entry_at reader).key) × ((k : ℕ) → slice_index (entry_at reader).key k < 256)
+
+-- beside each reader that stands at a row is the front of its key
+abbrev pub AreFronts : List ReaderView → List Bool → List ℕ → Type 0
+AreFronts readers heads fronts = EachReader readers (λ k reader. has_head heads k ≡ true → HasFront reader (slice_index fronts k))
 
 -- how many rows are ahead of each
 abbrev pub AreAhead : List ReaderView → List ℕ → Type 0

@@ -1,15 +1,17 @@
 //! The least entry of readers that are read side by side, as a row.
 
-ghost use Rattle.std.specs.Prelude.{◌≡◌, ◌<◌, ◌+◌, ◌*◌, ◌∷◌, [], List, ℕ, Option, true, length, slice_index_or, sum_by, OnOk};
+ghost use Rattle.std.specs.Prelude.{◌≡◌, ◌<◌, ◌+◌, ◌*◌, ◌∷◌, [], List, ℕ, Option, true, length, slice_index, slice_index_or, sum_by, OnOk};
 ghost use Rattle.aggregate.specs.declared.kind.Kind.TheVariants.{Group, Order};
+ghost use Rattle.aggregate.specs.Fronts.{front_of};
 ghost use Rattle.aggregate.specs.Totals.{Entry};
 ghost use Rattle.spill_disk.specs.Files.{Files};
 ghost use Rattle.run_file.specs.declared.form.Form.TheVariants.{Entries};
 ghost use Rattle.run_file.specs.Readers.{ReaderView, run_of};
 ghost use Rattle.run_file.specs.Forms.{IsWellFormed};
 ghost use Rattle.run_merge.specs.Giving.{AreComing, IsTaken, Gives};
-ghost use Rattle.run_merge.specs.Heads.{AreAtEntries, IsFirst, OnlyFalls, one_if};
+ghost use Rattle.run_merge.specs.Heads.{AreAtEntries, AreFronts, IsFirst, OnlyFalls, one_if};
 
+use crate::heads::has_key;
 use aggregate::{AggList, combine, combine_is_associative};
 use row_page::RowBuf;
 use run_file::RunReader;
@@ -60,12 +62,15 @@ pub(crate) fn give_joined(
     aggs: &AggList,
     readers: &[RunReader],
     heads: &mut Vec<bool>,
+    fronts: &[u64],
     first: usize,
     value: &mut Vec<u8>,
     row: &mut RowBuf,
 ) -> Result<(), AllocError>
     requires heads { length heads.old.items ≡ length readers.now }
+    requires as_many { length fronts.now ≡ length readers.now }
     requires stand { AreAtEntries (Group aggs.now) readers.now heads.old.items }
+    requires fronts { AreFronts readers.now heads.old.items fronts.now }
     requires first { IsFirst readers.now heads.old.items (length readers.now) first }
     ensures gives { OnOk result ((files : ℕ → Option Files) (entries : List Entry) →
         AreComing files true (Group aggs.now) readers.now heads.old.items entries →
@@ -80,7 +85,7 @@ pub(crate) fn give_joined(
     value.clear();
     value.extend_from_slice(reader.value())?;
     heads[first] = false;
-    join_others(aggs, readers, heads, first, reader.key(), value);
+    join_others(aggs, readers, heads, fronts, first, reader.key(), value);
     put_row(row, reader.key(), value)
 }
 
@@ -89,13 +94,17 @@ fn join_others(
     aggs: &AggList,
     readers: &[RunReader],
     heads: &mut Vec<bool>,
+    fronts: &[u64],
     first: usize,
     key: &[u8],
     value: &mut [u8],
 )
     requires heads { length heads.old.items ≡ length readers.now }
+    requires as_many { length fronts.now ≡ length readers.now }
     requires first { first < length readers.now }
+    requires front { slice_index fronts.now first ≡ front_of key.now }
     requires stand { AreAtEntries (Group aggs.now) readers.now heads.old.items }
+    requires fronts { AreFronts readers.now heads.old.items fronts.now }
     requires value { length value.old ≡ 16 * length aggs.now }
     ensures joins { (files : ℕ → Option Files) (entries : List Entry) →
         IsTaken files (Group aggs.now) readers.now heads.old.items (first + 1)
@@ -105,7 +114,7 @@ fn join_others(
     ensures heads { OnlyFalls heads.old.items heads.new.items }
 {
     for i in first + 1..readers.len() {
-        join_one(aggs, readers, heads, i, key, value);
+        join_one(aggs, readers, heads, fronts, i, key, fronts[first], value);
     }
 }
 
@@ -114,13 +123,18 @@ fn join_one(
     aggs: &AggList,
     readers: &[RunReader],
     heads: &mut Vec<bool>,
+    fronts: &[u64],
     i: usize,
     key: &[u8],
+    front: u64,
     value: &mut [u8],
 )
     requires heads { length heads.old.items ≡ length readers.now }
+    requires as_many { length fronts.now ≡ length readers.now }
     requires within { i < length readers.now }
+    requires front { front ≡ front_of key.now }
     requires stand { AreAtEntries (Group aggs.now) readers.now heads.old.items }
+    requires fronts { AreFronts readers.now heads.old.items fronts.now }
     requires value { length value.old ≡ 16 * length aggs.now }
     ensures joins { (files : ℕ → Option Files) (entries : List Entry) →
         IsTaken files (Group aggs.now) readers.now heads.old.items i
@@ -134,7 +148,7 @@ fn join_one(
         return;
     }
     let reader = &readers[i];
-    if reader.key() != key {
+    if !has_key(reader, fronts[i], key, front) {
         return;
     }
     combine(aggs, value, reader.value());

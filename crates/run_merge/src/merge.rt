@@ -1,7 +1,7 @@
 //! Runs that are read side by side.
 
 ghost use Rattle.std.specs.Prelude.{◌≡◌, length};
-ghost use Rattle.run_merge.specs.Heads.{AreAhead, AreAtEntries, AreOfKind};
+ghost use Rattle.run_merge.specs.Heads.{AreAhead, AreAtEntries, AreFronts, AreOfKind};
 
 use crate::giving::{give_alone, give_joined};
 use crate::heads::{buffered_by, least_of, let_all_on};
@@ -21,6 +21,8 @@ pub struct Merge {
     readers: Vec<RunReader>,
     // which readers stand at a row that was not given yet
     heads: Vec<bool>,
+    // the fronts of the keys of those
+    fronts: Vec<u64>,
     // how many rows of its run each has still ahead of it
     aheads: Vec<u64>,
     kind: Kind,
@@ -28,9 +30,11 @@ pub struct Merge {
     row: RowBuf,
     ghost flags: { length heads.items ≡ length readers.items },
     ghost counts: { length aheads.items ≡ length readers.items },
+    ghost front_counts: { length fronts.items ≡ length readers.items },
     ghost ahead: { AreAhead readers.items aheads.items },
     ghost of_kind: { AreOfKind kind readers.items },
     ghost stand: { AreAtEntries kind readers.items heads.items },
+    ghost fronts_are: { AreFronts readers.items heads.items fronts.items },
 }
 
 impl Merge {
@@ -59,14 +63,17 @@ impl Merge {
         let mut readers = Vec::new(alloc);
         let mut heads = Vec::new(alloc);
         let mut aheads = Vec::new(alloc);
+        let mut fronts = Vec::new(alloc);
         for run in runs {
             readers.push(RunReader::new(alloc, run, Form::Entries(kind.copy()?)))?;
             heads.push(false)?;
             aheads.push(run.count)?;
+            fronts.push(0)?;
         }
         Ok(Merge {
             readers,
             heads,
+            fronts,
             aheads,
             kind: kind.copy()?,
             value: Vec::new(alloc),
@@ -109,8 +116,14 @@ impl Merge {
             (faults_on H.disk_of D.faults shelf.old) (faults_on H.disk_of D.faults shelf.new) result }
         ensures shelf { LeavesFiles H.count_of H.named H.disk_of D.files D.faults shelf.old shelf.new }
     {
-        let_all_on(&mut self.readers, &mut self.heads, &mut self.aheads, shelf)?;
-        let Some(first) = least_of(&self.readers, &self.heads) else {
+        let_all_on(
+            &mut self.readers,
+            &mut self.heads,
+            &mut self.aheads,
+            &mut self.fronts,
+            shelf,
+        )?;
+        let Some(first) = least_of(&self.readers, &self.heads, &self.fronts) else {
             return Ok(false);
         };
         match self.give(first) {
@@ -165,6 +178,7 @@ impl Merge {
                 aggs,
                 &self.readers,
                 &mut self.heads,
+                &self.fronts,
                 first,
                 &mut self.value,
                 &mut self.row,

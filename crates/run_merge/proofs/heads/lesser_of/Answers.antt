@@ -7,6 +7,12 @@ use Rattle.run_merge.proofs.KeyOrders.{lt_less, not_lt_back}
 use Rattle.run_merge.proofs.Firsts.{first_alone, first_lower, first_stays}
 use Rattle.run_merge.proofs.heads.lesser_of.Goals as goal
 
+pub is_below-requires-clause-front : goal.is_below-requires-clause-front
+is_below-requires-clause-front c =
+    let stands : has_head c.args.heads.now c.args.i ≡ true = search rules in
+    let at = c.requires.fronts c.args.i c.index-readers-i.result c.requires.within c.index-readers-i.is stands in
+    search rules
+
 pub returns-in_default : goal.returns-in_default
 returns-in_default c =
     let stands : has_head c.args.heads.now c.args.i ≡ true = search rules in

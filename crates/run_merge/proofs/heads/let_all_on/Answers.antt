@@ -1,18 +1,24 @@
-use Rattle.std.proofs.Common.{◌≡◌, ◌+◌, ◌<◌, ℕ, List, [], Ok, false, length, set, map, get_or, sym, subst, ◌∙◌, arith, rules}
+use Rattle.std.proofs.Common.{◌≡◌, ◌+◌, ◌<◌, ℕ, Bool, List, [], Ok, false, length, set, map, get_or, sym, subst, ◌∙◌, arith, rules}
 use Rattle.std.specs.Prelude.{slice_index}
 use Rattle.std.proofs.lemmas.List.{get_or_default, get_or-set_same, length-set, set-get_or}
 use Rattle.run_file.specs.Readers.{found_of, run_of}
 use Rattle.run_file.specs.Shelved.{files_on}
-use Rattle.run_merge.specs.Heads.{has_head, AreAtEntries}
+use Rattle.run_merge.specs.Heads.{has_head, AreAtEntries, AreFronts, HasFront}
 use Rattle.run_merge.specs.Merging.{IsLeft}
 use Rattle.run_merge.specs.Giving.{LetsOn}
-use Rattle.run_merge.proofs.Places.{ahead_set, all_let_on, damage_set, head_read, heads_more, kinds_set, left_at, left_by-set, left_set, no_damage, on_shelf, other_ahead, runs_set, stand_set}
+use Rattle.run_merge.proofs.Places.{ahead_set, all_let_on, damage_set, front_set, head_read, heads_more, kinds_set, left_at, left_by-set, left_set, no_damage, on_shelf, other_ahead, runs_set, stand_set}
 use Rattle.run_merge.proofs.heads.let_all_on.Goals as goal
 
 pub let_on-requires-clause-there : goal.let_on-requires-clause-there
 let_on-requires-clause-there g c =
     let lt : c.loop-i.i < length c.loop-i.readers.items = search rules in
     on_shelf (g.H.Shelf.count_of c.loop-i.shelf) c.loop-i.readers.items c.loop-i.i c.index_mut.result.now lt c.index_mut.ensures.value c.loop-i.invariant.there
+
+pub let_on-requires-clause-of_kind : goal.let_on-requires-clause-of_kind
+let_on-requires-clause-of_kind g c =
+    let lt : c.loop-i.i < length c.loop-i.readers.items = search rules in
+    let of_kind = c.loop-i.invariant.of_kind in
+    (of_kind.0, of_kind.1 c.loop-i.i c.index_mut.result.now lt c.index_mut.ensures.value)
 
 pub returns-in-Err-clause-gives : goal.returns-in-Err-clause-gives
 returns-in-Err-clause-gives g c lists left =
@@ -36,6 +42,23 @@ returns-in-Err-clause-stand g c kind of_kind at =
     (λ form was is. c.in-Err.ensures.stands kind form (rw head at was) (sym head ∙ is)) in
     subst (AreAtEntries kind (set readers c.loop-i.i c.let_on.new.reader)) (set-get_or heads c.loop-i.i false) after
 
+pub returns-in-Err-clause-fronts : goal.returns-in-Err-clause-fronts
+returns-in-Err-clause-fronts g c =
+    let readers = c.loop-i.readers.items in
+    let heads = c.loop-i.heads.items in
+    let fronts = c.loop-i.fronts.items in
+    let i = c.loop-i.i in
+    let old = c.index_mut.result.now in
+    let new = c.let_on.new.reader in
+    let lt : i < length readers = search rules in
+    let lt_heads : i < length heads = omega (arith, lt, c.loop-i.invariant.heads) in
+    let lt_fronts : i < length fronts = omega (arith, lt, c.loop-i.invariant.as_many) in
+    let head = head_read heads i c.index-head.result.now lt_heads c.index-head.ensures in
+    let front_was : slice_index fronts i ≡ c.index_mut-in-loop-i-2.result.now = sym (c.index_mut-in-loop-i-2.ensures.value ∙ get_or_default fronts i c.index_mut-in-loop-i-2.result.now 0 lt_fronts) in
+    let after = front_set readers heads fronts i c.let_on.new.front_now old new (has_head heads i) lt lt_heads lt_fronts c.index_mut.ensures.value c.loop-i.invariant.fronts
+    (λ was is. c.in-Err.ensures.front (λ stood. subst (HasFront old) front_was (was (head ∙ stood))) (sym head ∙ is)) in
+    subst (λ (hs : List Bool). AreFronts (set readers i new) hs (set fronts i c.let_on.new.front_now)) (set-get_or heads i false) after
+
 pub returns-in-Err-clause-damaged : goal.returns-in-Err-clause-damaged
 returns-in-Err-clause-damaged g c =
     let lt : c.loop-i.i < length c.loop-i.readers.items = search rules in
@@ -56,13 +79,19 @@ loop-i-preserved g c =
     let lt : i < length readers = search rules in
     let lt_heads : i < length heads = omega (arith, lt, c.loop-i.invariant.heads) in
     let lt_aheads : i < length c.loop-i.aheads.items = omega (arith, lt, c.loop-i.invariant.aheads) in
+    let lt_fronts : i < length c.loop-i.fronts.items = omega (arith, lt, c.loop-i.invariant.as_many) in
     let head = head_read heads i c.index-head.result.now lt_heads c.index-head.ensures in
+    let front_was : slice_index c.loop-i.fronts.items i ≡ c.index_mut-in-loop-i-2.result.now = sym (c.index_mut-in-loop-i-2.ensures.value ∙ get_or_default c.loop-i.fronts.items i c.index_mut-in-loop-i-2.result.now 0 lt_fronts) in
     let on : map run_of (set readers i new) ≡ map run_of readers = runs_set readers i old new c.index_mut.ensures.value c.let_on.ensures.run in
     let was_ahead : found_of old + c.index_mut-in-loop-i.result.now ≡ (run_of old).count =
     omega (arith, c.loop-i.invariant.ahead i old lt c.index_mut.ensures.value, c.index_mut-in-loop-i.ensures.value, get_or_default c.loop-i.aheads.items i c.index_mut-in-loop-i.result.now 0 lt_aheads) in
     record {
       heads = length-set heads i stands ∙ c.loop-i.invariant.heads ∙ sym (length-set readers i new);
       aheads = length-set c.loop-i.aheads.items i c.let_on.new.ahead ∙ c.loop-i.invariant.aheads ∙ sym (length-set readers i new);
+      as_many = length-set c.loop-i.fronts.items i c.let_on.new.front_now ∙ c.loop-i.invariant.as_many ∙ sym (length-set readers i new);
+      of_kind = (c.loop-i.invariant.of_kind.0, kinds_set c.loop-i.invariant.of_kind.0 readers i old new lt c.index_mut.ensures.value c.let_on.ensures.form c.loop-i.invariant.of_kind.1);
+      fronts = front_set readers heads c.loop-i.fronts.items i c.let_on.new.front_now old new stands lt lt_heads lt_fronts c.index_mut.ensures.value c.loop-i.invariant.fronts
+          (λ was is. c.in-Ok.ensures.front (λ stood. subst (HasFront old) front_was (was (head ∙ stood))) is);
       whole = length-set readers i new ∙ c.loop-i.invariant.whole;
       there = rw (on, c.let_on.ensures.shelf.count) c.loop-i.invariant.there;
       ahead = ahead_set readers c.loop-i.aheads.items i c.let_on.new.ahead new lt lt_aheads c.let_on.ensures.ahead c.loop-i.invariant.ahead;

@@ -4,7 +4,7 @@ use Rattle.aggregate.specs.declared.kind.Kind.{Kind}
 use Rattle.run_file.specs.Readers.{run_of}
 use Rattle.run_file.specs.Shelved.{files_on, LeavesFiles}
 use Rattle.run_file.specs.Several.{AreOn}
-use Rattle.run_merge.specs.Heads.{has_head, AreAtEntries, AreOfKind, AreAhead}
+use Rattle.run_merge.specs.Heads.{has_head, AreAtEntries, AreFronts, AreOfKind, AreAhead}
 use Rattle.run_merge.specs.Merging.{AreLeft, left_by}
 use Rattle.run_merge.proofs.heads.let_all_on.Given as goal
 
@@ -14,6 +14,9 @@ invariant-loop-i g l = record {
   aheads : length l.aheads.items ≡ length l.readers.items;
   whole : length l.readers.items ≡ length l.fn.readers.items;
   there : AreOn (g.H.Shelf.count_of l.shelf) (map run_of l.readers.items);
+  as_many : length l.fronts.items ≡ length l.readers.items;
+  of_kind : (kind : Kind) × AreOfKind kind l.readers.items;
+  fronts : AreFronts l.readers.items l.heads.items l.fronts.items;
   ahead : AreAhead l.readers.items l.aheads.items;
   gives : (lists : List (List (List (List ℕ)))) →
       AreLeft (files_on g.H.Shelf.disk_of g.D.Disk.files l.fn.shelf) false l.fn.readers.items l.fn.heads.items lists →

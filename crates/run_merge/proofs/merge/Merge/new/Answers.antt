@@ -23,9 +23,10 @@ loop-run-preserved c =
     let ahead : c.push-in-loop-run-2.new.self.items ≡ aheads ++ (run_of new).count ∷ [] = rw run c.in_ok-push-3.ensures.items in
     let form : form_of new ≡ Entries c.args.kind.now = c.new.ensures.form ∙ ap Entries c.in_ok-copy.ensures in
     let inv = c.loop-run.invariant in
-    rw (put, flag, ahead) (record {
+    rw (put, flag, ahead, c.in_ok-push-4.ensures.items) (record {
       heads = omega (arith, length_push readers new, length_push heads false, inv.heads);
       aheads = omega (arith, length_push readers new, length_push aheads (run_of new).count, inv.aheads);
+      as_many = omega (arith, length_push readers new, length_push c.loop-run.fronts.items 0, inv.as_many);
       runs = runs_push runs i readers new lt run inv.runs;
       none = heads_push heads inv.none;
       ahead = ahead_push readers aheads new inv.aheads c.new.ensures.found inv.ahead;

@@ -11,6 +11,7 @@ abbrev pub invariant-loop-run : goal.invariant-loop-run
 invariant-loop-run l = record {
   heads : length l.heads.items ≡ length l.readers.items;
   aheads : length l.aheads.items ≡ length l.readers.items;
+  as_many : length l.fronts.items ≡ length l.readers.items;
   runs : map run_of l.readers.items ≡ take l.run-index l.runs;
   none : (k : ℕ) → has_head l.heads.items k ≡ false;
   ahead : AreAhead l.readers.items l.aheads.items;
