@@ -43,8 +43,8 @@ GoesTo files after (entry ∷ entries) (Ok true) = (entry_at after ≡ entry) ×
 GoesTo files after (entry ∷ entries) (Ok false) = ⊥
 GoesTo files after (entry ∷ entries) (Err fault) = NotDamaged {T = Bool} (Err fault)
 
--- an entry that it took is of the kind, and is one more that it gave, of those that its run has; where it took none, it is as it was
--- and gave them all
+-- an entry that it took is of the kind, and is one more that it gave, of those that its run has; where it took none, it
+-- is as it was, and gave them all
 abbrev pub Takes : ReaderView → ReaderView → Result Bool RunFault → Type 0
 Takes before after (Ok true) =
     ((kind : Kind) → IsOfKind kind before → IsAtEntry kind after)

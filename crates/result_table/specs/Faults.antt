@@ -23,7 +23,8 @@ TellsRun run (Err (DiskFault disk)) = ⊤
 TellsRun run (Err (Damaged damage)) = (damage ≡ damage_in run damage.found) × (damage.found < run.count)
 TellsRun run (Err NoMemory) = ⊤
 
--- what a call that reads and doesn't write may tell: a fault of a disk where its count rose, and fewer entries than were kept
+-- what a call that reads and doesn't write may tell: a fault of a disk where its count rose, and fewer entries than were
+-- kept
 abbrev pub HasCauseRead : {T : Type 0} → (ℕ → ℕ) → (ℕ → ℕ) → Result T PrintFault → Type 0
 HasCauseRead before now (Ok x) = ⊤
 HasCauseRead before now (Err WriteFault) = ⊥

@@ -74,7 +74,8 @@ abbrev pub TellsAnswer : Option Run → Result (Unit {0}) PrintFault → Type 0
 TellsAnswer None result = FindsNoDamage result
 TellsAnswer (Some run) result = TellsRun run result
 
--- a fault of a disk or of the output is told only where its count rose, and damage where fewer entries were found than kept
+-- a fault of a disk or of the output is told only where its count rose, and damage where fewer entries were found than
+-- kept
 abbrev pub HasCauseIn : (before now : ℕ → ℕ) → (written_before written_now : ℕ) → Result (Unit {0}) PrintFault → Type 0
 HasCauseIn before now written_before written_now (Ok done) = ⊤
 HasCauseIn before now written_before written_now (Err WriteFault) = Rose written_before written_now

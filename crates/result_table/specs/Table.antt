@@ -24,7 +24,8 @@ pub record IsBetweenRows (writer : Writer (Vec ℕ Global)) : Type 0 where
 pub record IsInRow (start : List ℕ) (fields : List (List ℕ)) (writer : Writer (Vec ℕ Global)) : Type 0 where
   pub setup : writer_setup writer ≡ default_writer
   pub count : fields_written writer ≡ min (length fields) (2 ^ 64 - 1)
-  pub blank : is_blank default_writer fields ≡ (not (has_written writer) && ((length fields == 0) || (length fields == 1)))
+  pub blank : is_blank default_writer fields
+      ≡ (not (has_written writer) && ((length fields == 0) || (length fields == 1)))
   pub text : text_in writer ≡ start ++ row_body default_writer fields
 
 -- these fields were put behind those of the row before them

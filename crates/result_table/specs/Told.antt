@@ -29,9 +29,10 @@ pub record AreFirst (told : List Entry) (now : Option Files) (after : ReaderView
   pub are : entries ≡ told ++ rest
   pub ahead : AreAhead now after rest
 
--- these are the entries that were read from one place of a run to another: each can be told, and where the disk tells, they
--- are the first of those that were ahead
-pub record TellsEntries (shape : Shape) (was now : Option Files) (before after : ReaderView) (told : List Entry) : Type 0 where
+-- these are the entries that were read from one place of a run to another: each can be told, and where the disk tells,
+-- they are the first of those that were ahead
+pub record TellsEntries (shape : Shape) (was now : Option Files) (before after : ReaderView) (told : List Entry)
+    : Type 0 where
   pub can : All (IsTold shape) told
   pub counted : before.found + length told ≡ after.found
   pub behind : (entries : List Entry) → AreAhead was before entries → AreFirst told now after entries
@@ -43,9 +44,10 @@ pub record IsUntoldBehind (shape : Shape) (told entries : List Entry) : Type 0 w
   pub are : entries ≡ told ++ entry ∷ rest
   pub untold : IsTold shape entry → ⊥
 
--- these entries were read, and so many of the run were found by then: each can be told, and where the disk tells, the next
--- one can't
-pub record StopsBehind (shape : Shape) (was : Option Files) (before : ReaderView) (found : ℕ) (told : List Entry) : Type 0 where
+-- these entries were read, and so many of the run were found by then: each can be told, and where the disk tells, the
+-- next one can't
+pub record StopsBehind (shape : Shape) (was : Option Files) (before : ReaderView) (found : ℕ) (told : List Entry)
+    : Type 0 where
   pub can : All (IsTold shape) told
   pub counted : before.found + length told ≡ found
   pub untold : (entries : List Entry) → AreAhead was before entries → IsUntoldBehind shape told entries
@@ -68,9 +70,10 @@ HasFound count (Err (DiskFault disk)) = ⊤
 HasFound count (Err (Damaged damage)) = damage.found ≡ count
 HasFound count (Err NoMemory) = ⊤
 
--- what was written is a front of a text and the rows of some entries: each can be told, they are the first of those that the run
--- has, at most so many behind those that were given before, and where damage is told, so many were found
-pub record WritesFront {T : Type 0} (shape : Shape) (Has : List Entry → Type 0) (given count : ℕ) (text : List ℕ) (before after : Option (List ℕ)) (result : Result T PrintFault) : Type 0 where
+-- what was written is a front of a text and the rows of some entries: each can be told, they are the first of those
+-- that the run has, at most so many behind those that were given before, and where damage is told, so many were found
+pub record WritesFront {T : Type 0} (shape : Shape) (Has : List Entry → Type 0) (given count : ℕ) (text : List ℕ)
+    (before after : Option (List ℕ)) (result : Result T PrintFault) : Type 0 where
   pub told : List Entry
   pub can : All (IsTold shape) told
   pub few : given + length told ≤ count

@@ -26,7 +26,8 @@ fn put_field(writer: &mut Writer<Vec<u8>>, field: &[u8]) -> Result<(), AllocErro
 
 // Ends the row.
 pub(crate) fn end_row(writer: &mut Writer<Vec<u8>>) -> Result<(), AllocError>
-    ensures { OnOk result ((start : List ℕ) (fields : List (List ℕ)) → IsInRow start fields writer.old → EndsRow start fields writer.new) }
+    ensures { OnOk result ((start : List ℕ) (fields : List (List ℕ)) →
+        IsInRow start fields writer.old → EndsRow start fields writer.new) }
 {
     match writer.end_record() {
         Ok(()) => Ok(()),
@@ -46,10 +47,10 @@ pub(crate) fn put_pieces(
     let mut rest = bytes;
     let mut count = 0;
     while !rest.is_empty() {
-        let Some((field, behind)) = split_piece(rest) else {
+        let Some((piece, behind)) = split_piece(rest) else {
             return Ok(None);
         };
-        put_field(writer, field)?;
+        put_field(writer, piece)?;
         rest = behind;
         count += 1;
     }
@@ -65,7 +66,8 @@ pub(crate) fn put_key(
 ) -> Result<bool, AllocError>
     ensures row { IfOk result (λ told. told ≡ true → PutsFields writer.old writer.new (key_fields columns key.now)) }
     ensures told { IfOk result (λ told. told ≡ true → IsSpelling columns (key_fields columns key.now) key.now) }
-    ensures untold { IfOk result (λ told. told ≡ false → (fields : List (List ℕ)) → IsSpelling columns fields key.now → ⊥) }
+    ensures untold { IfOk result (λ told. told ≡ false →
+        (fields : List (List ℕ)) → IsSpelling columns fields key.now → ⊥) }
 {
     spellings_are_apart();
     let mut at = 0;

@@ -34,8 +34,8 @@ const BLOCK: usize = 65536;
 /// Prints the table of a query: its heading, then a row for each entry of its result, which is a run of the query's
 /// entries, or none.
 ///
-/// The bytes go out in blocks of about 64 KiB. After an `Err` a part of the table, from the front, was written. An entry
-/// that can't be told as a row is damage, with the entries before it counted, also on a disk that doesn't tell.
+/// The bytes go out in blocks of about 64 KiB. After an `Err` a part of the table, from the front, was written. An
+/// entry that can't be told as a row is damage, with the entries before it counted, also on a disk that doesn't tell.
 pub fn print_table<D: Disk, H: Shelf<D>, W: Sink>(
     alloc: Global,
     shelf: &mut H,
@@ -47,26 +47,33 @@ pub fn print_table<D: Disk, H: Shelf<D>, W: Sink>(
     requires query { query < length (kept_in plan.now) }
     requires there { IfSome (option_map (λ run. run.now) answer) (λ run. run.disk < H.count_of shelf.old) }
     ensures ok { OnOk result ((entries : List Entry) →
-        HasResult (files_on H.disk_of D.files shelf.old) (kind_at plan.now query) (option_map (λ run. run.now) answer.entry) entries →
+        HasResult (files_on H.disk_of D.files shelf.old) (kind_at plan.now query)
+        (option_map (λ run. run.now) answer.entry) entries →
         Appends (W.written output.old) (W.written output.new) (table_of plan.now query entries)) }
     ensures told { OnOk result ((entries : List Entry) →
-        HasResult (files_on H.disk_of D.files shelf.old) (kind_at plan.now query) (option_map (λ run. run.now) answer.entry) entries →
+        HasResult (files_on H.disk_of D.files shelf.old) (kind_at plan.now query)
+        (option_map (λ run. run.now) answer.entry) entries →
         All (IsTold (kept_at plan.now query)) entries) }
-    ensures rows { OnOk result ((told : List Entry) × (length told ≡ count_in (option_map (λ run. run.now) answer.entry))
+    ensures rows { OnOk result ((told : List Entry)
+        × (length told ≡ count_in (option_map (λ run. run.now) answer.entry))
         × All (IsTold (kept_at plan.now query)) told
         × Appends (W.written output.old) (W.written output.new) (table_of plan.now query told)) }
     ensures err { OnErr result ((entries : List Entry) →
-        HasResult (files_on H.disk_of D.files shelf.old) (kind_at plan.now query) (option_map (λ run. run.now) answer.entry) entries →
+        HasResult (files_on H.disk_of D.files shelf.old) (kind_at plan.now query)
+        (option_map (λ run. run.now) answer.entry) entries →
         AppendsPrefix (W.written output.old) (W.written output.new) (table_of plan.now query entries)) }
     ensures front { OnErr result (WritesFront (kept_at plan.now query)
-        (HasResult (files_on H.disk_of D.files shelf.old) (kind_at plan.now query) (option_map (λ run. run.now) answer.entry))
+        (HasResult (files_on H.disk_of D.files shelf.old) (kind_at plan.now query)
+        (option_map (λ run. run.now) answer.entry))
         0 (count_in (option_map (λ run. run.now) answer.entry))
         (row_text default_writer (heading_at plan.now query)) (W.written output.old) (W.written output.new) result) }
     ensures undamaged { (entries : List Entry) →
-        HasResult (files_on H.disk_of D.files shelf.old) (kind_at plan.now query) (option_map (λ run. run.now) answer.entry) entries →
+        HasResult (files_on H.disk_of D.files shelf.old) (kind_at plan.now query)
+        (option_map (λ run. run.now) answer.entry) entries →
         All (IsTold (kept_at plan.now query)) entries → FindsNoDamage result }
     ensures stops { (entries : List Entry) →
-        HasResult (files_on H.disk_of D.files shelf.old) (kind_at plan.now query) (option_map (λ run. run.now) answer.entry) entries →
+        HasResult (files_on H.disk_of D.files shelf.old) (kind_at plan.now query)
+        (option_map (λ run. run.now) answer.entry) entries →
         StopsAmong (kept_at plan.now query) entries result }
     ensures damaged { TellsAnswer (option_map (λ run. run.now) answer.entry) result }
     ensures cause { HasCauseIn (faults_on H.disk_of D.faults shelf.old) (faults_on H.disk_of D.faults shelf.new)
@@ -183,7 +190,8 @@ fn fill_block<D: Disk, H: Shelf<D>>(
     ensures stops { StopsIn shape.now (files_on H.disk_of D.files shelf.old reader.old.run.disk) reader.old result }
     ensures run { reader.new.run ≡ reader.old.run }
     ensures form { IsOfKind kind.now reader.new }
-    ensures cause { HasCauseRead (faults_on H.disk_of D.faults shelf.old) (faults_on H.disk_of D.faults shelf.new) result }
+    ensures cause { HasCauseRead
+        (faults_on H.disk_of D.faults shelf.old) (faults_on H.disk_of D.faults shelf.new) result }
     ensures shelf { LeavesFiles H.count_of H.named H.disk_of D.files D.faults shelf.old shelf.new }
 {
     let mut writer = Writer::from_writer(text);
@@ -216,7 +224,8 @@ fn put_rows<D: Disk, H: Shelf<D>>(
     ensures stops { StopsIn shape.now (files_on H.disk_of D.files shelf.old reader.old.run.disk) reader.old result }
     ensures run { reader.new.run ≡ reader.old.run }
     ensures form { IsOfKind kind.now reader.new }
-    ensures cause { HasCauseRead (faults_on H.disk_of D.faults shelf.old) (faults_on H.disk_of D.faults shelf.new) result }
+    ensures cause { HasCauseRead
+        (faults_on H.disk_of D.faults shelf.old) (faults_on H.disk_of D.faults shelf.new) result }
     ensures shelf { LeavesFiles H.count_of H.named H.disk_of D.files D.faults shelf.old shelf.new }
 {
     'entries: while reader.go_on(shelf)? {

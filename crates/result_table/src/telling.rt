@@ -42,7 +42,8 @@ pub(crate) fn tell(
     ensures row { IfOk result (λ told. told ≡ true →
         EndsRow (text_in writer.old) (row_of shape.now (record { key = key.now; value = value.now })) writer.new) }
     ensures told { IfOk result (λ told. told ≡ true → IsTold shape.now (record { key = key.now; value = value.now })) }
-    ensures untold { IfOk result (λ told. told ≡ false → IsTold shape.now (record { key = key.now; value = value.now }) → ⊥) }
+    ensures untold { IfOk result (λ told. told ≡ false →
+        IsTold shape.now (record { key = key.now; value = value.now }) → ⊥) }
 {
     match shape {
         Shape::Group { columns, .. } => {
@@ -91,8 +92,10 @@ fn tell_order(
 ) -> Result<bool, AllocError>
     requires between { IsBetweenRows writer.old }
     ensures row { IfOk result (λ told. told ≡ true → EndsRow (text_in writer.old) (fields_of value.now) writer.new) }
-    ensures told { IfOk result (λ told. told ≡ true → (key : List ℕ) → IsOrderEntry columns (record { key = key; value = value.now })) }
-    ensures untold { IfOk result (λ told. told ≡ false → (key : List ℕ) → IsOrderEntry columns (record { key = key; value = value.now }) → ⊥) }
+    ensures told { IfOk result (λ told. told ≡ true →
+        (key : List ℕ) → IsOrderEntry columns (record { key = key; value = value.now })) }
+    ensures untold { IfOk result (λ told. told ≡ false →
+        (key : List ℕ) → IsOrderEntry columns (record { key = key; value = value.now }) → ⊥) }
 {
     let Some(count) = put_pieces(writer, value)? else {
         return Ok(false);

@@ -271,8 +271,8 @@ fn an_entry_that_cannot_be_told_is_damaged(rt: HostRuntime) -> Result<(), Fail> 
 fn print_veiled(alloc: Global, byte: usize) -> Result<Result<(), PrintFault>, Fail> {
     let page = page_of_groups(alloc, "|a|a=1 1 1 1/|b|b=1 1 1 1")?;
     let mut bytes = page.bytes().to_vec(alloc)?;
-    let half = bytes.len() / 2;
-    if let Some(length) = bytes.get_mut(half + byte) {
+    let second = bytes.len() / 2;
+    if let Some(length) = bytes.get_mut(second.wrapping_add(byte)) {
         *length = 255;
     }
     let mut disk = VeilDisk::new(alloc, Vec::new(alloc), Vec::new(alloc));

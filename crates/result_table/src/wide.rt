@@ -26,10 +26,12 @@ pub fn too_wide<D: Disk, H: Shelf<D>>(
 ) -> Result<Option<Key>, RunFault>
     requires there { IfSome (option_map (λ run. run.now) answer) (λ run. run.disk < H.count_of shelf.old) }
     ensures ok { IfOk result (λ key. (entries : List Entry) →
-        HasResult (files_on H.disk_of D.files shelf.old) (Group aggs.now) (option_map (λ run. run.now) answer.entry) entries →
+        HasResult (files_on H.disk_of D.files shelf.old) (Group aggs.now)
+        (option_map (λ run. run.now) answer.entry) entries →
         key ≡ wide_key (length aggs.now) entries) }
     ensures undamaged { (entries : List Entry) →
-        HasResult (files_on H.disk_of D.files shelf.old) (Group aggs.now) (option_map (λ run. run.now) answer.entry) entries →
+        HasResult (files_on H.disk_of D.files shelf.old) (Group aggs.now)
+        (option_map (λ run. run.now) answer.entry) entries →
         NotDamaged result }
     ensures damaged { IsDamageOfResult (option_map (λ run. run.now) answer.entry) result }
     ensures cause { HasCauseOfResult (option_map (λ run. run.now) answer.entry)

@@ -16,7 +16,7 @@ pub loop-rest-preserved : goal.loop-rest-preserved
 loop-rest-preserved c =
     let inv = c.loop-rest.invariant in
     let front = c.in-Some.ensures.found in
-    let field = c.in-Some.field.now in
+    let field = c.in-Some.piece.now in
     record {
       fields = inv.fields ++ field ∷ [];
       several = length-append inv.fields (field ∷ []) ∙ omega (arith, inv.several);
