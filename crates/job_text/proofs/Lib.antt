@@ -29,3 +29,4 @@ pub mod FilterShort
 pub mod FilterUses
 pub mod Filtered
 pub mod Ranged
+pub mod Printed

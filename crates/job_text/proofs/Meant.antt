@@ -42,7 +42,7 @@ All-flat P f [] h = All-nil P
 All-flat P f (w ∷ ws) h = All-append P (f w) (flat_map f ws) (h 0 w (omega arith)) (All-flat P f ws (λ k d lt. h (suc k) d (omega (arith, lt))))
 
 -- items that differ by one measure differ by another that tells them apart
-distinct_by : {W X Y : Type 0} (f : W → X) (g : W → Y) (P : W → Type 0) → ((a b : W) → P a → P b → f a ≡ f b → g a ≡ g b)
+pub distinct_by : {W X Y : Type 0} (f : W → X) (g : W → Y) (P : W → Type 0) → ((a b : W) → P a → P b → f a ≡ f b → g a ≡ g b)
     → (ws : List W) → All P ws → IsDistinct (map g ws) → IsDistinct (map f ws)
 distinct_by f g P tells [] all h = λ i j d less within. absurd (omega arith)
 distinct_by f g P tells (w ∷ ws) all h = λ i j d less within. λ same.
@@ -53,7 +53,7 @@ distinct_by f g P tells (w ∷ ws) all h = λ i j d less within. λ same.
     h i j (g w) less (omega (arith, lj, length-map (w ∷ ws) g))
     (get_or-map g (w ∷ ws) i w (g w) li ∙ tells one other (all i w li) (all j w lj) (sym (get_or-map f (w ∷ ws) i w d li) ∙ same ∙ get_or-map f (w ∷ ws) j w d lj) ∙ sym (get_or-map g (w ∷ ws) j w (g w) lj))
 
-short_list : {W X : Type 0} (f : W → X) (ws : List W) → IsShortList ws → IsShortList (map f ws)
+pub short_list : {W X : Type 0} (f : W → X) (ws : List W) → IsShortList ws → IsShortList (map f ws)
 short_list f ws h = record { some = omega (arith, h.some, length-map ws f); few = omega (arith, h.few, length-map ws f) }
 
 -- ---- by the names of the job

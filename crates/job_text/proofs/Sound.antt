@@ -163,6 +163,16 @@ names_of_keys : (keys : List WrittenKey) → map name_of (map (λ key. key.colum
 names_of_keys [] = refl
 names_of_keys (key ∷ keys) = ap (λ (l : List (List ℕ)). key_name key ∷ l) (names_of_keys keys)
 
+pub named_meant : (names : List (List ℕ)) (one other : WrittenAgg) → agg_named one ≡ agg_named other → agg_meant names one ≡ agg_meant names other
+named_meant names one other e = both (ap (λ (p : Agg × Option (List ℕ)). p.0) e) (same (agg_column one) ∙ ap (λ (p : Agg × Option (List ℕ)). option_map (place_of names) p.1) e ∙ sym (same (agg_column other)))
+  where
+    same : (column : Option WrittenColumn) → option_map (column_meant names) column ≡ option_map (place_of names) (option_map name_of column)
+    same None = refl
+    same (Some column) = refl
+
+    both : agg_of one ≡ agg_of other → option_map (column_meant names) (agg_column one) ≡ option_map (column_meant names) (agg_column other) → agg_meant names one ≡ agg_meant names other
+    both e f = rw (e, f) refl
+
 module _ (names base : List (List ℕ)) (r : Read) where
   columns_right : (columns : List ℕ) (ts : List Token) (h : AreWholeColumns names columns ts) → AreColumns h.written
   columns_right columns ts h = record { several = h.several; short = h.fine; distinct = h.distinct }
@@ -212,23 +222,13 @@ module _ (names base : List (List ℕ)) (r : Read) where
       (new_by (column_meant names) name_of c (λ a b same. ap (place_of names) same) h.written
       (subst (All (λ p. p ≢ column_meant names c)) h.items_are (subst (λ (p : ℕ). All (λ q. q ≢ p) columns) e (other_columns columns place free)))))
 
-  named_meant : (one other : WrittenAgg) → agg_named one ≡ agg_named other → agg_meant names one ≡ agg_meant names other
-  named_meant one other e = both (ap (λ (p : Agg × Option (List ℕ)). p.0) e) (same (agg_column one) ∙ ap (λ (p : Agg × Option (List ℕ)). option_map (place_of names) p.1) e ∙ sym (same (agg_column other)))
-    where
-      same : (column : Option WrittenColumn) → option_map (column_meant names) column ≡ option_map (place_of names) (option_map name_of column)
-      same None = refl
-      same (Some column) = refl
-
-      both : agg_of one ≡ agg_of other → option_map (column_meant names) (agg_column one) ≡ option_map (column_meant names) (agg_column other) → agg_meant names one ≡ agg_meant names other
-      both e f = rw (e, f) refl
-
   part_is : (parts : List Part) (ts : List Token) → AreOpenParts names parts ts → (w : WrittenAgg) (part : Part) (more : List Token) → agg_meant names w ≡ part → agg_written w ≡ more → IsShortAgg w → has_part parts part ≡ false
       → AreWholeParts names (parts ++ part ∷ []) (ts ++ more)
   part_is parts ts h w part more em et short free =
       subst (λ (p : Part). AreWholeParts names (parts ++ p ∷ []) (ts ++ more)) em
       (subst (λ (l : List Token). AreWholeParts names (parts ++ agg_meant names w ∷ []) (ts ++ l)) et
       (added agg_written (agg_meant names) agg_named IsShortAgg parts ts h w short
-      (new_by (agg_meant names) agg_named w named_meant h.written (subst (All (λ p. p ≢ agg_meant names w)) h.items_are (other_parts parts (agg_meant names w) (subst (λ (p : Part). has_part parts p ≡ false) (sym em) free))))))
+      (new_by (agg_meant names) agg_named w (named_meant names) h.written (subst (All (λ p. p ≢ agg_meant names w)) h.items_are (other_parts parts (agg_meant names w) (subst (λ (p : Part). has_part parts p ≡ false) (sym em) free))))))
 
   part_more : (parts : List Part) (ts : List Token) → AreOpenParts names parts ts → (agg : Agg) (c : WrittenColumn) (place : ℕ) → is_count agg ≡ false → place ≡ column_meant names c → IsShortColumn c → has_part parts (record { agg = agg; column = Some place }) ≡ false
       → AreWholeParts names (parts ++ record { agg = agg; column = Some place } ∷ []) (ts ++ Fixed (agg_mark agg) ∷ column_written c)

@@ -1,13 +1,18 @@
 -- What is printed token by token is the text of the tokens.
-use Rattle.std.proofs.Common.{◌≡◌, ℕ, zero, suc, ◌+◌, ◌<◌, Bool, true, false, cond, List, [], ◌∷◌, ◌++◌, length, take, get_or, refl, sym, ap, ◌∙◌, arith, append_assoc}
+use Rattle.std.proofs.Common.{◌≡◌, ℕ, zero, suc, ◌+◌, ◌-◌, ◌<◌, ◌≤◌, Bool, true, false, cond, List, [], ◌∷◌, ◌++◌, length, take, get_or, refl, sym, ap, ◌∙◌, arith, append_assoc}
 use Rattle.std.specs.Prelude.{All, map, ◌||◌, not}
 use Rattle.std.proofs.lemmas.List.{take_more, get_or-map, length-map}
 use Rattle.job_text.specs.declared.mark.Mark.{Mark}
 use Rattle.job_text.specs.declared.token.Token.{Token}
-use Rattle.job_text.specs.declared.token.Token.TheVariants.{Fixed}
+use Rattle.job_text.specs.declared.token.Token.TheVariants.{Fixed, Word}
+use Rattle.job_text.specs.declared.mark.Mark.TheVariants as marks
+use Rattle.job_text.specs.declared.job.Dataset.{Dataset}
 use Rattle.job_text.specs.declared.job.KeyItem.{KeyItem}
-use Rattle.job_text.specs.Grammar.{separated}
+use Rattle.job_text.specs.Columns.{dataset_names}
+use Rattle.job_text.specs.Grammar.{separated, ended_by}
+use Rattle.job_text.specs.JobPrinting.{source_token, from_tokens}
 use Rattle.job_text.specs.Printing.{sign_before, token_text, is_attached, is_opening, between, tokens_text}
+use Rattle.job_text.proofs.Spelled.{ended-push}
 use Rattle.job_text.specs.Sheets.{Sheet, blank_sheet, lead, with_token, with_tokens}
 
 pub with_tokens-one : (s : Sheet) (t : Token) → with_tokens s (t ∷ []) ≡ with_token s t
@@ -71,6 +76,31 @@ module _ {A : Type 0} (sign : Mark) (tokens : A → List Token) where
       behind (suc k) e =
           append_assoc (separated sign tokens (take i items)) (Fixed sign ∷ []) (tokens (get_or items i d))
           ∙ sym (separated_more (take i items) (get_or items i d) (omega (arith, e, length-take_at items i lt)))
+
+  -- an item and the sign behind it
+  pub ended_item : (s : Sheet) (items : List A) (i : ℕ) (d : A) → i < length items → with_token (with_tokens (with_tokens s (ended_by sign tokens (take i items))) (tokens (get_or items i d))) (Fixed sign) ≡ with_tokens s (ended_by sign tokens (take (i + 1) items))
+  ended_item s items i d lt =
+      let done = ended_by sign tokens (take i items) in
+      let item = tokens (get_or items i d) in
+      sym (with_tokens-one (with_tokens (with_tokens s done) item) (Fixed sign))
+      ∙ ap (λ (o : Sheet). with_tokens o (Fixed sign ∷ [])) (sym (with_tokens-append done item s)) ∙ sym (with_tokens-append (done ++ item) (Fixed sign ∷ []) s)
+      ∙ ap (with_tokens s) (sym (ended-push sign tokens (take i items) (get_or items i d)))
+      ∙ ap (λ (l : List A). with_tokens s (ended_by sign tokens l)) (sym (take_more items i d lt))
+
+-- a dataset's tokens
+pub dataset_written : (s : Sheet) (a b c d : Token) (ts us : List Token) → with_tokens (with_tokens (with_tokens (with_token (with_token (with_token s a) b) c) (d ∷ [])) ts) us ≡ with_tokens s (a ∷ b ∷ c ∷ d ∷ (ts ++ us))
+unfolding with_tokens
+dataset_written s a b c d ts us = sym (with_tokens-append ts us (with_token (with_token (with_token (with_token s a) b) c) d))
+
+pub source_is : (datasets : List Dataset) (number : ℕ) (d : Dataset) → (number ≡ 0 → ⊥) → number ≤ length datasets → Word (get_or datasets (number - 1) d).name ≡ source_token (dataset_names datasets) number
+source_is datasets zero d some le = absurd (some refl)
+source_is datasets (suc place) d some le =
+    let one : suc place - 1 ≡ place = omega arith in
+    ap (λ (n : ℕ). Word (get_or datasets n d).name) one ∙ ap (λ (n : List ℕ). Word n) (sym (get_or-map (λ dataset. dataset.name) datasets place d [] (omega (arith, le))))
+
+pub from_is : (datasets : List (List ℕ)) (number : ℕ) → (number ≡ 0 → ⊥) → from_tokens datasets number ≡ Fixed marks.From ∷ source_token datasets number ∷ []
+from_is datasets zero some = absurd (some refl)
+from_is datasets (suc place) some = refl
 
 -- ---- the sheet's text
 

@@ -44,7 +44,7 @@ step_then s next t ts e = rw e refl
 
 -- ---- what stands before an item isn't the item
 
-before_is : {X : Type 0} (before after : List X) (x : X) → IsDistinct (before ++ x ∷ after) → All (λ b. b ≢ x) before
+pub before_is : {X : Type 0} (before after : List X) (x : X) → IsDistinct (before ++ x ∷ after) → All (λ b. b ≢ x) before
 before_is before after x h = λ k d lt. λ same.
     h k (length before) d lt (omega (arith, length-append before (x ∷ after)))
     (get_or_append_left before (x ∷ after) d k lt ∙ same ∙ sym (get_or_at before x after d (length before) refl))

@@ -5,6 +5,8 @@ use Rattle.job_text.specs.declared.token.Token.{Token}
 use Rattle.job_text.specs.declared.job.Job.{Job}
 use Rattle.job_text.specs.Begins.{job_of}
 use Rattle.job_text.specs.Grammar.{IsWritten}
+use Rattle.job_text.specs.Jobs.{IsJob}
+use Rattle.job_text.specs.JobPrinting.{job_tokens}
 
 -- tokens are read as a job exactly where the grammar has them as that job
 abbrev pub ReadsTheGrammar : Type 0
@@ -13,3 +15,7 @@ ReadsTheGrammar = (tokens : List Token) (job : Job) → (job_of tokens ≡ Some 
 -- the grammar has tokens as one job at most
 abbrev pub HasOneMeaning : Type 0
 HasOneMeaning = (tokens : List Token) (one other : Job) → IsWritten tokens one → IsWritten tokens other → one ≡ other
+
+-- the printed tokens of a job are read as that job
+abbrev pub ReadsThePrinted : Type 0
+ReadsThePrinted = (job : Job) → IsJob job → job_of (job_tokens job) ≡ Some job

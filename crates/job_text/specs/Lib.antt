@@ -11,8 +11,9 @@ pub mod Step
 pub mod Begins
 pub mod Text
 pub mod Place
-pub mod Laws
 pub mod Printing
 pub mod FilterPrinting
+pub mod JobPrinting
 pub mod FilterLaws
 pub mod Sheets
+pub mod Laws

@@ -1,4 +1,4 @@
--- How a job without datasets is printed: its tokens, and the text of tokens.
+-- How shapes are printed, as tokens, and the text of tokens.
 -- This project's own.
 use Rattle.std.specs.Prelude.{ℕ, zero, suc, List, [], ◌∷◌, ◌++◌, Bool, true, false, ◌||◌, ◌==◌, if◌then◌else◌, Option, Some, None, slice_index_or}
 use Rattle.std.specs.Fmt.{signed_decimal}
@@ -8,10 +8,8 @@ use Rattle.job_text.specs.declared.mark.Mark.{Mark}
 use Rattle.job_text.specs.declared.mark.Mark.TheVariants as marks
 use Rattle.job_text.specs.declared.token.Token.{Token}
 use Rattle.job_text.specs.declared.token.Token.TheVariants.{Fixed, Word, Quoted, Text, Whole}
-use Rattle.job_text.specs.declared.job.Job.{Job}
 use Rattle.job_text.specs.declared.job.Part.{Part}
 use Rattle.job_text.specs.declared.job.KeyItem.{KeyItem}
-use Rattle.job_text.specs.declared.job.Query.{Query}
 use Rattle.job_text.specs.declared.job.Shape.{Shape}
 use Rattle.job_text.specs.declared.job.Shape.TheVariants as shapes
 use Rattle.job_text.specs.Grammar.{separated, optional}
@@ -58,14 +56,6 @@ shape_tokens names (shapes.Group columns parts) =
 shape_tokens names (shapes.Order keys columns) =
     Fixed marks.Order ∷ separated marks.Comma (key_tokens names) keys ++ Fixed marks.Colon ∷ separated marks.Comma (place_tokens names) columns
 
--- a query over the input
-abbrev pub query_tokens : List (List ℕ) → Query → List Token
-query_tokens names query = shape_tokens names query.shape
-
--- a job
-abbrev pub job_tokens : Job → List Token
-job_tokens job = separated marks.Semicolon (query_tokens job.names) job.queries
-
 -- the bytes with each quote doubled
 abbrev pub doubled : ℕ → List ℕ → List ℕ
 doubled quote [] = []
@@ -102,7 +92,3 @@ abbrev pub tokens_text : List Token → List ℕ
 tokens_text [] = []
 tokens_text (token ∷ []) = token_text token
 tokens_text (token ∷ next ∷ more) = token_text token ++ between token next ++ tokens_text (next ∷ more)
-
--- a job's text
-unfoldable pub printed : Job → List ℕ
-printed job = tokens_text (job_tokens job)

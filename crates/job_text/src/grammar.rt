@@ -1,6 +1,6 @@
 //! Laws of the language.
 
-ghost use Rattle.job_text.specs.Laws.{ReadsTheGrammar, HasOneMeaning};
+ghost use Rattle.job_text.specs.Laws.{ReadsTheGrammar, HasOneMeaning, ReadsThePrinted};
 
 /// Tokens are read as a job exactly where the grammar has them as that job.
 pub fn tokens_are_read_by_grammar()
@@ -10,4 +10,9 @@ pub fn tokens_are_read_by_grammar()
 /// The grammar has a list of tokens as one job at most.
 pub fn tokens_have_one_meaning()
     ensures { HasOneMeaning }
+{}
+
+/// The printed tokens of a job are read as that job.
+pub fn printed_tokens_are_read()
+    ensures { ReadsThePrinted }
 {}

@@ -11,6 +11,7 @@ mod filter_state;
 mod filter_step;
 mod grammar;
 mod job;
+mod job_printing;
 mod lists;
 mod mark;
 mod printer;
@@ -26,10 +27,12 @@ pub use filter_laws::{
     filters_are_fine, filters_are_read, filters_are_written, filters_go_on,
     printed_filters_are_written,
 };
-pub use grammar::{tokens_are_read_by_grammar, tokens_have_one_meaning};
+pub use grammar::{
+    printed_tokens_are_read, tokens_are_read_by_grammar, tokens_have_one_meaning,
+};
 pub use job::{
     Dataset, DatasetList, Job, KeyItem, KeyList, NameList, Part, PartList, PlaceList, Query,
     QueryList, Shape,
 };
-pub use printing::print;
+pub use job_printing::print;
 pub use reading::read;

@@ -1,7 +1,7 @@
 //! A text that grows by tokens.
 
 ghost use Rattle.std.specs.Prelude.{◌≡◌, ◌<◌, ◌++◌, ◌∷◌, [], IfOk, Some, string_bytes};
-ghost use Rattle.job_text.specs.declared.token.Token.TheVariants.{Fixed, Text, Whole};
+ghost use Rattle.job_text.specs.declared.token.Token.TheVariants.{Fixed, Text, Whole, Word};
 ghost use Rattle.job_text.specs.Printing.{column_token, doubled, token_text, is_attached};
 ghost use Rattle.job_text.specs.Sheets.{blank_sheet, lead, with_token};
 
@@ -66,6 +66,18 @@ impl Printer {
         } else {
             push_quoted(&mut self.out, '"', name.text())?;
         }
+        self.apart = true;
+        Ok(())
+    }
+
+    /// Adds a word that isn't reserved.
+    pub(crate) fn word(&mut self, name: &Name) -> Result<(), AllocError>
+        ensures { IfOk result (λ _. self.new ≡ with_token self.old (Word name.now)) }
+    {
+        if self.apart {
+            self.out.push(' ')?;
+        }
+        self.out.push_str(name.text())?;
         self.apart = true;
         Ok(())
     }

@@ -1,18 +1,18 @@
-//! A job's text.
+//! The tokens of shapes.
 
-ghost use Rattle.std.specs.Prelude.{◌≡◌, ◌<◌, [], All, IfOk, IfSome, length, string_bytes};
+ghost use Rattle.std.specs.Prelude.{◌≡◌, ◌<◌, All, IfSome, length};
 ghost use Rattle.job_text.specs.declared.mark.Mark.TheVariants as marks;
-ghost use Rattle.job_text.specs.Jobs.{IsJob, IsPart, IsShape};
+ghost use Rattle.job_text.specs.Jobs.{IsPart, IsShape};
 ghost use Rattle.job_text.specs.Grammar.{separated, optional};
-ghost use Rattle.job_text.specs.Printing.{agg_mark, agg_column_tokens, key_tokens, part_tokens, place_tokens, printed, query_tokens, shape_tokens, sign_before};
+ghost use Rattle.job_text.specs.Printing.{agg_mark, agg_column_tokens, key_tokens, part_tokens, place_tokens, shape_tokens, sign_before};
 ghost use Rattle.job_text.specs.Sheets.{Writes};
 
-use crate::job::{Job, KeyItem, Part, Shape};
+use crate::job::{KeyItem, Part, Shape};
 use crate::mark::Mark;
 use crate::printer::Printer;
 use aggregate::Agg;
 use item_lists::Name;
-use std::alloc::{AllocError, Global};
+use std::alloc::AllocError;
 
 fn mark_of(agg: Agg) -> Mark
     ensures { result ≡ agg_mark agg }
@@ -114,7 +114,7 @@ fn print_keys(printer: &mut Printer, names: &[Name], keys: &[KeyItem]) -> Result
     Ok(())
 }
 
-fn print_shape(printer: &mut Printer, names: &[Name], shape: &Shape) -> Result<(), AllocError>
+pub(crate) fn print_shape(printer: &mut Printer, names: &[Name], shape: &Shape) -> Result<(), AllocError>
     requires fine { IsShape (length names.now) shape.now }
     ensures { Writes printer.old printer.new result (shape_tokens names.now shape.now) }
 {
@@ -134,24 +134,4 @@ fn print_shape(printer: &mut Printer, names: &[Name], shape: &Shape) -> Result<(
             Ok(())
         }
     }
-}
-
-/// The text of a job without datasets, in its one printed form.
-///
-/// Two tokens are one blank apart, with none before `,` `:` `;`. A column is a word where that is possible,
-/// and in quotes else. The one error is want of memory.
-pub fn print(alloc: Global, job: &Job) -> Result<String, AllocError>
-    requires whole { IsJob job.now }
-    requires plain { job.now.datasets ≡ [] }
-    // Want of memory is the one answer without a cause; a test shows success.
-    ensures { IfOk result (λ text. string_bytes text ≡ printed job.now) }
-{
-    let mut printer = Printer::new(alloc);
-    let names = job.names.items();
-    let queries = job.queries.items();
-    for i in 0..queries.len() {
-        print_sign(&mut printer, i, Mark::Semicolon)?;
-        print_shape(&mut printer, names, &queries[i].shape)?;
-    }
-    Ok(printer.into_text())
 }
