@@ -4,7 +4,7 @@ use Rattle.std.specs.Prelude.{ℕ, ◌&&◌, Bool, List, Option, Some, None, Res
 use Rattle.std.specs.Str.{bytes_eq}
 use Rattle.pool_ledger.specs.Sizes.{Sizes}
 use Rattle.job_text.specs.Jobs.{is_plain_job}
-use Rattle.job_text.specs.Printing.{printed}
+use Rattle.job_text.specs.JobPrinting.{printed}
 use Rattle.job_text.specs.Text.{read_of}
 use Rattle.job_text.specs.declared.job.Job.{Job}
 use Rattle.csv_program.specs.Words.{Asked, NoWords, Asks, asked}

@@ -30,3 +30,6 @@ pub mod FilterUses
 pub mod Filtered
 pub mod Ranged
 pub mod Printed
+pub mod Again
+pub mod Reread
+pub mod Printable

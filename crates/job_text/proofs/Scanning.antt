@@ -11,7 +11,7 @@ use Rattle.job_text.proofs.Ends.{token_ends, ends_boundary}
 use Rattle.std.specs.Str.{IsUtf8, IsCharBoundary}
 use Rattle.std.proofs.lemmas.Str.{IsCharBoundary-after_ascii, IsCharBoundary-from_rest, IsUtf8-drop}
 
-skipped : (skip place : ℕ) (bytes : List ℕ) → skip ≤ length bytes → scan skip place bytes ≡ scan 0 (place + skip) (drop skip bytes)
+pub skipped : (skip place : ℕ) (bytes : List ℕ) → skip ≤ length bytes → scan skip place bytes ≡ scan 0 (place + skip) (drop skip bytes)
 unfolding scan
 skipped zero place bytes le = ap (λ (p : ℕ). scan 0 p bytes) (omega arith)
 skipped (suc skip) place [] le = absurd (omega arith)

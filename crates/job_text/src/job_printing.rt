@@ -8,6 +8,7 @@ ghost use Rattle.job_text.specs.FilterForms.{IsFilter};
 ghost use Rattle.job_text.specs.Jobs.{AreMade, IsJob, IsQuery, IsShape};
 ghost use Rattle.job_text.specs.Grammar.{ended_by, keep_written, level_written, separated};
 ghost use Rattle.job_text.specs.JobPrinting.{dataset_tokens, from_tokens, printed, query_tokens, source_token, where_tokens};
+ghost use Rattle.job_text.specs.Place.{IsJobText};
 ghost use Rattle.job_text.specs.Sheets.{Writes};
 
 use crate::filter_printing::print_filter;
@@ -165,7 +166,10 @@ fn print_queries(
 pub fn print(alloc: Global, job: &Job) -> Result<String, AllocError>
     requires whole { IsJob job.now }
     // Want of memory is the one answer without a cause; a test shows success.
-    ensures { IfOk result (λ text. string_bytes text ≡ printed job.now) }
+    ensures text { IfOk result (λ text. string_bytes text ≡ printed job.now) }
+
+    // The text is read as the very job.
+    ensures again { IfOk result (λ text. length (string_bytes text) ≤ 16384 → IsJobText (string_bytes text) job.now) }
 {
     let mut printer = Printer::new(alloc);
     let names = job.names.items();

@@ -1,5 +1,4 @@
-use Rattle.std.proofs.Common.{◌∙◌, sym, ap, List}
-use Rattle.job_text.specs.declared.token.Token.{Token}
+use Rattle.std.proofs.Common.{sym, ap}
 use Rattle.job_text.specs.Columns.{dataset_names}
 use Rattle.job_text.specs.Sheets.{with_tokens}
 use Rattle.job_text.proofs.Texts.{from_is}
