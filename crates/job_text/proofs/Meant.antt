@@ -284,7 +284,7 @@ module _ (names : List (List ℕ)) where
       let rest = datasets_fine all datasets (All-tail (λ dataset. IfSome dataset.filter (IsFilterRight names)) dataset datasets right) (All-tail IsDatasetOfText dataset datasets of) (All-right (Knows names) (dataset_uses dataset) (flat_map dataset_uses datasets) k) in (
         All-cons (λ dataset. IfSome dataset.filter (IsFilter (length names))) (dataset_meant all dataset) (map (dataset_meant all) datasets) here.0 rest.0,
         map-append (λ place. get_or names place []) (dataset_places (dataset_meant all dataset)) places
-        ∙ ap (λ (l : List (List ℕ)). l ++ map (λ place. get_or names place []) places) here.1 ∙ ap (λ (l : List (List ℕ)). dataset_uses dataset ++ l) rest.1,
+            ∙ ap (λ (l : List (List ℕ)). l ++ map (λ place. get_or names place []) places) here.1 ∙ ap (λ (l : List (List ℕ)). dataset_uses dataset ++ l) rest.1,
       )
 
 uses_short : (names : List (List ℕ)) (filter : Option WrittenFilter) → IfSome filter (IsFilterRight names) → All (λ name. length name ≤ 1024) (filter_uses filter)
@@ -302,7 +302,7 @@ datasets_made names datasets few h of k =
       new = subst IsDistinct (sym (names_meant all datasets)) (all_new names [] datasets (λ i j d less within. absurd (omega arith)) h);
       filters = (datasets_fine names all datasets (all_right names [] datasets h) of k).0;
       earlier = λ place d lt.
-        let le = all_earlier all names [] datasets h refl place d (omega (arith, lt, length-map datasets (dataset_meant all))) in omega (arith, le);
+          let le = all_earlier all names [] datasets h refl place d (omega (arith, lt, length-map datasets (dataset_meant all))) in omega (arith, le);
     }
 
 from_within : (all : List (List ℕ)) (source : Option WrittenSource) → IfSome source (IsSourceRight all) → from_meant all source ≤ length all
@@ -349,9 +349,9 @@ job_is job h of =
       datasets = datasets_made names job.datasets h.few h.datasets of_text k;
       several = short_list (query_meant names all) job.queries h.several;
       queries = All-map (IsQuery (length names) (length datasets)) (query_meant names all) job.queries (λ i d lt.
-        let query = get_or job.queries i d in
-        record {
-          dataset = omega (arith, from_within all query.source (h.queries i d lt).source, length-map job.datasets (λ dataset. dataset.name), length-map job.datasets (dataset_meant all));
-          shape = shapes_are job h i d lt;
-        });
+          let query = get_or job.queries i d in
+          record {
+            dataset = omega (arith, from_within all query.source (h.queries i d lt).source, length-map job.datasets (λ dataset. dataset.name), length-map job.datasets (dataset_meant all));
+            shape = shapes_are job h i d lt;
+          });
     }

@@ -441,8 +441,8 @@ module _ (names : List (List ℕ)) (r : Read) (front : List Token) (before : Are
   filter_is fs s filter e is = (
     (let w = filter_read base r.names [] fs s filter e is in sym w.1 ∙ ap (with_names base) (filter_uses_are (with_names r.names []) fs w.0 filter w.2)),
     λ later.
-      let w = filter_read base r.names later fs s filter e is in
-      subst (λ (l : List (List ℕ)). IsWrittenFilter (with_names r.names later) fs l filter) (filter_uses_are (with_names r.names later) fs w.0 filter w.2) w.2,
+        let w = filter_read base r.names later fs s filter e is in
+        subst (λ (l : List (List ℕ)). IsWrittenFilter (with_names r.names later) fs l filter) (filter_uses_are (with_names r.names later) fs w.0 filter w.2) w.2,
   )
 
   goes_filter_keep : (back : List Token) (name : List ℕ) (parent : ℕ) (s : FilterState) (o : Option Filter) → filter_at s ≡ o → IsAtWritten names base r back (at.Filter name parent s) → IfSome (filter_ended r name parent o marks.Keep) (Goes (back ++ Fixed marks.Keep ∷ []))
@@ -518,12 +518,12 @@ module _ (names : List (List ℕ)) (r : Read) (front : List Token) (before : Are
   goes_name : (back : List Token) (title : List ℕ) → IsAtWritten names base r back at.DatasetName → IfSome (after_name r title) (Goes (back ++ Word title ∷ []))
   goes_name back title h =
       goes_cond (back ++ Word title ∷ []) (nat_le (length title) 64 && not (is_among (dataset_names r.datasets) title)) (record { read = r; at = at.DatasetEquals title }) (λ t.
-        let both = and_parts (nat_le (length title) 64) (not (is_among (dataset_names r.datasets) title)) t in
-        stays (back ++ Word title ∷ []) (at.DatasetEquals title) (
-          ap (λ (l : List Token). l ++ Word title ∷ []) h.0,
-          record { none = h.1; few = h.2; short = leb-true (length title) 64 both.0; new = not-true (is_among (dataset_names r.datasets) title) both.1 },
-          h.3,
-        ))
+      let both = and_parts (nat_le (length title) 64) (not (is_among (dataset_names r.datasets) title)) t in
+      stays (back ++ Word title ∷ []) (at.DatasetEquals title) (
+        ap (λ (l : List Token). l ++ Word title ∷ []) h.0,
+        record { none = h.1; few = h.2; short = leb-true (length title) 64 both.0; new = not-true (is_among (dataset_names r.datasets) title) both.1 },
+        h.3,
+      ))
 
   goes_query : (back : List Token) (mark : Mark) → back ≡ [] → IfSome (after_query r mark) (Goes (back ++ Fixed mark ∷ []))
   goes_query back marks.Group h = stays (back ++ Fixed marks.Group ∷ []) (at.GroupColumn []) ([], ap (λ (l : List Token). l ++ Fixed marks.Group ∷ []) h, no_items column_written (column_meant names) name_of IsShortColumn)

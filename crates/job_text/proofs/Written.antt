@@ -481,7 +481,7 @@ datasets_read now later all done (dataset ∷ datasets) rest e h few =
     let others = flat_map dataset_uses datasets in
     let names : dataset_names next ≡ dataset_names done ++ dataset.name ∷ [] = map-append (λ dataset. dataset.name) done (one ∷ []) in
     let parent : source_meant (dataset_names done) dataset.source ≡ source_meant all dataset.source =
-      sym (source_same (dataset_names done) (names_written (dataset ∷ datasets)) dataset.source h.0.source) ∙ ap (λ (l : List (List ℕ)). source_meant l dataset.source) (sym e) in
+    sym (source_same (dataset_names done) (names_written (dataset ∷ datasets)) dataset.source h.0.source) ∙ ap (λ (l : List (List ℕ)). source_meant l dataset.source) (sym e) in
     let split : with_names now (uses ++ others) ≡ with_names (with_names now uses) others = with_names-append uses others now in
     let all_split : with_names (with_names now (uses ++ others)) later ≡ with_names (with_names now uses) (others ++ later) = ap (λ (l : List (List ℕ)). with_names l later) split ∙ sym (with_names-append others later (with_names now uses)) in
     ap (steps (put now done [] at.Start)) (append_assoc (dataset_written dataset) (Fixed marks.Semicolon ∷ more) rest)

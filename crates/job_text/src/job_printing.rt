@@ -32,11 +32,7 @@ fn mark_of(level: Level) -> Mark
 
 /// Adds the name of the dataset with this number, or `input`.
 #[tactic(auto, unfolding(crate::specs::Sheets::with_tokens))]
-fn print_source(
-    printer: &mut Printer,
-    datasets: &[Dataset],
-    number: u32,
-) -> Result<(), AllocError>
+fn print_source(printer: &mut Printer, datasets: &[Dataset], number: u32) -> Result<(), AllocError>
     requires there { number ≤ length datasets.now }
     ensures { Writes printer.old printer.new result (source_token (dataset_names datasets.now) number ∷ []) }
 {

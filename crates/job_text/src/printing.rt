@@ -114,7 +114,11 @@ fn print_keys(printer: &mut Printer, names: &[Name], keys: &[KeyItem]) -> Result
     Ok(())
 }
 
-pub(crate) fn print_shape(printer: &mut Printer, names: &[Name], shape: &Shape) -> Result<(), AllocError>
+pub(crate) fn print_shape(
+    printer: &mut Printer,
+    names: &[Name],
+    shape: &Shape,
+) -> Result<(), AllocError>
     requires fine { IsShape (length names.now) shape.now }
     ensures { Writes printer.old printer.new result (shape_tokens names.now shape.now) }
 {

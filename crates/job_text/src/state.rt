@@ -1,9 +1,9 @@
 //! What was read of a text so far.
 
+use crate::filter_state::FilterState;
 use crate::job::{
     Dataset, DatasetList, KeyList, NameList, PartList, PlaceList, Query, QueryList, Shape,
 };
-use crate::filter_state::FilterState;
 use aggregate::Agg;
 use item_lists::Name;
 

@@ -5,7 +5,9 @@ ghost use Rattle.job_text.specs.Step.{step, after_mark as mark_step, after_query
 
 use crate::columns::{after_column, has_aggregate};
 use crate::datasets;
-use crate::datasets::{after_equals, after_keep, after_made, after_name, after_parent, in_filter, number_of};
+use crate::datasets::{
+    after_equals, after_keep, after_made, after_name, after_parent, in_filter, number_of,
+};
 use crate::job::{KeyItem, KeyList, Part, PartList, PlaceList, Query, Shape};
 use crate::lists::{MAX_ITEMS, no_items, with_item};
 use crate::mark::Mark;

@@ -18,7 +18,11 @@ pub fn plain_job_of(alloc: Global, text: &str) -> Result<Option<Job>, JobFault>
     ensures plain { IfOk result (λ found. IfSome found (λ job. job.datasets ≡ [])) }
 {
     let job = read(alloc, text)?;
-    if job.is_plain() { Ok(Some(job)) } else { Ok(None) }
+    if job.is_plain() {
+        Ok(Some(job))
+    } else {
+        Ok(None)
+    }
 }
 
 /// The job's text.

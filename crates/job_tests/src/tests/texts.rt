@@ -182,20 +182,40 @@ fn each_limit_is_refused_at_its_token(rt: HostRuntime) -> Result<(), Fail> {
         ("let ", "n", " = input; group x: count", 64, 4),
         ("group ", "c", ": count", 1024, 6),
         ("order \"", "c", "\": x", 1024, 6),
-        ("let a = input where ", "c", " = 1; group x: count", 1024, 20),
-        ("let a = input where ", "not ", "x = 1; group x: count", 64, 276),
+        (
+            "let a = input where ",
+            "c",
+            " = 1; group x: count",
+            1024,
+            20,
+        ),
+        (
+            "let a = input where ",
+            "not ",
+            "x = 1; group x: count",
+            64,
+            276,
+        ),
     ] {
         let text = repeated(rt.alloc(), head, item, most, tail)?;
         assert_eq!(rt; refused_at(rt.alloc(), &text)?, None, "{most} of {item}");
         let text = repeated(rt.alloc(), head, item, most + 1, tail)?;
-        assert_eq!(rt; refused_at(rt.alloc(), &text)?, Some(place), "one more {item}");
+        assert_eq!(rt;
+            refused_at(rt.alloc(), &text)?,
+            Some(place),
+            "one more {item}"
+        );
     }
     let head = "let a = input where ";
     let text = repeated(rt.alloc(), head, "(", 64, "x = 1")?;
     let inner = repeated(rt.alloc(), &text, ")", 64, "; group x: count")?;
     assert_eq!(rt; refused_at(rt.alloc(), &inner)?, None, "64 parentheses");
     let text = repeated(rt.alloc(), head, "(", 65, "x = 1")?;
-    assert_eq!(rt; refused_at(rt.alloc(), &text)?, Some(84), "one parenthesis more");
+    assert_eq!(rt;
+        refused_at(rt.alloc(), &text)?,
+        Some(84),
+        "one parenthesis more"
+    );
     Ok(())
 }
 
@@ -208,6 +228,7 @@ const MADE: [&str; 6] = [
     "let c=input where (x=1 or y=2)and(x!=3 or not not y<=-4)or(z='') ; let d = c where z>'a';",
     "let e=input;let c=e where((x=1)or(y=2 or w=3));let d=c where not((x=1));",
 ];
+
 const ASKED: [&str; 6] = [
     "group x:count",
     "group \"a b\",x:sum x,max \"a\"\"b\"",
@@ -216,6 +237,7 @@ const ASKED: [&str; 6] = [
     "group x:count;order number \"count\":x",
     "order x,y,z:w;group v:min u;group u:count,sum v",
 ];
+
 const OVER: [&str; 3] = ["", " from input", " from d"];
 
 #[test]

@@ -1,4 +1,4 @@
-use Rattle.std.proofs.Common.{◌≡◌, ◌+◌, drop, map}
+use Rattle.std.proofs.Common.{◌≡◌, ◌+◌, drop}
 use Rattle.job_text.specs.Columns.{place_of, dataset_names}
 use Rattle.job_text.proofs.datasets.number_of.Given as goal
 

@@ -17,7 +17,7 @@ text_is c =
     let made = ended_by marks.Semicolon (dataset_tokens job.names all) job.datasets in
     let queries = separated marks.Semicolon (query_tokens job.names all) job.queries in
     let written : c.print_queries.new.printer ≡ with_tokens blank_sheet (job_tokens job) =
-      rw (c.in_ok-print_queries.ensures, c.in_ok-print_datasets.ensures, c.new-printer.ensures, c.items-names.ensures, c.items-datasets.ensures, c.items.ensures) (sym (with_tokens-append made queries blank_sheet)) in
+    rw (c.in_ok-print_queries.ensures, c.in_ok-print_datasets.ensures, c.new-printer.ensures, c.items-names.ensures, c.items-datasets.ensures, c.items.ensures) (sym (with_tokens-append made queries blank_sheet)) in
     c.into_text.ensures ∙ ap (λ (s : Sheet). s.text) written ∙ text_of (job_tokens job)
 
 pub returns-clause-text : goal.returns-clause-text
