@@ -203,8 +203,8 @@ pub fn land<S: Source, D: Disk, H: Shelf<D>>(
     requires few { max_rows ≤ 10000000 }
     requires one { 1 ≤ workers }
     requires shelf { workers ≤ H.count_of shelf.old }
-    ensures lands { IfOk result (λ landed. Lands (files_on H.disk_of D.files shelf.new) job.now max_rows part_rows workers
-        landed.plan landed.parts.items landed.rows (option_map rows_of (S.left source.old))) }
+    ensures lands { IfOk result (λ landed. Lands (files_on H.disk_of D.files shelf.new) job.now max_rows
+        part_rows workers landed.plan landed.parts.items landed.rows (option_map rows_of (S.left source.old))) }
     ensures only { IfOk result (λ landed. SameOthers (H.named shelf.old)
         (files_on H.disk_of D.files shelf.old) (files_on H.disk_of D.files shelf.new) landed.parts.items) }
     ensures made { IfOk result (λ landed.
@@ -213,7 +213,8 @@ pub fn land<S: Source, D: Disk, H: Shelf<D>>(
     ensures refused { (why : LandFault) → IsOfInput why → IsErrOf result why →
         IfSome (S.left source.old) (λ bytes. checked job.now max_rows (rows_of bytes) ≡ Refused why) }
     ensures read { IsErrOf result LandFault.ReadFault → Rose (S.faults source.old) (S.faults source.new) }
-    ensures cause { IfErr result (HasCauseAmong workers (faults_on H.disk_of D.faults shelf.old) (faults_on H.disk_of D.faults shelf.new)) }
+    ensures cause { IfErr result (HasCauseAmong workers
+        (faults_on H.disk_of D.faults shelf.old) (faults_on H.disk_of D.faults shelf.new)) }
     ensures later { S.faults source.old ≤ S.faults source.new }
     ensures files { KeepsFiles (files_on H.disk_of D.files shelf.old) (files_on H.disk_of D.files shelf.new) }
     ensures shelf { KeepsShelf H.count_of H.named H.disk_of D.files D.faults shelf.old shelf.new }

@@ -49,7 +49,8 @@ fn put_record<D: Disk, H: Shelf<D>>(
     ensures shelf { KeepsShelf H.count_of H.named H.disk_of D.files D.faults shelf.old shelf.new }
     ensures err { IfErr result (Explains
         (λ why. refusal_in rules.now n (fields_of desk.old.row) ≡ Some why) ⊥
-        (FailsOn writer.old.run.disk (faults_on H.disk_of D.faults shelf.old) (faults_on H.disk_of D.faults shelf.new))) }
+        (FailsOn writer.old.run.disk
+        (faults_on H.disk_of D.faults shelf.old) (faults_on H.disk_of D.faults shelf.new))) }
 {
     check_row(rules, n, &desk.row)?;
     make_row(rules, n, &desk.row, &mut desk.landed)?;
@@ -95,7 +96,8 @@ fn fill_part<T: Tap, O: Origin, D: Disk, H: Shelf<D>>(
         (λ why. IfSome (ahead true desk.old.row (rows_left records.old))
         (λ rows. first_refusal_in rules.now (first + 1) rows ≡ Some why))
         (Rose O.faults (T.faults (source_under records.new)))
-        (FailsOn writer.old.run.disk (faults_on H.disk_of D.faults shelf.old) (faults_on H.disk_of D.faults shelf.new))) }
+        (FailsOn writer.old.run.disk
+        (faults_on H.disk_of D.faults shelf.old) (faults_on H.disk_of D.faults shelf.new))) }
 {
     let mut count = 0;
     'rows: while desk.more && count < part_rows {
