@@ -27,6 +27,8 @@ module _ (before after : ℕ → Option Files) (same : (place : ℕ) → after p
       → IfOk result (λ landed. Lands before job max_rows part_rows workers landed.plan landed.parts.items landed.rows records)
       → IfOk result (λ landed. Lands after job max_rows part_rows workers landed.plan landed.parts.items landed.rows records)
   lands_as (Ok landed) job max_rows part_rows workers records is = record {
+    header = is.header;
+    planned = is.planned;
     rows = is.rows;
     counts = is.counts;
     few = is.few;

@@ -101,13 +101,12 @@ module _ (g : ℕ → ℕ) (n m : ℕ) (inside : (c : ℕ) → c < n → g c < m
       (sym (get_or-map (moved_part g) ps i d d earlier) ∙ e ∙ get_or-map (moved_part g) ps j d d later))
 
   pub shape-moved : (s : Shape) → IsShape n s → IsShape m (moved g s)
-  shape-moved (Group cs ps) h =
-      (
-        columns-moved cs h.0,
-        short-moved (moved_part g) ps h.1,
-        All-map (IsPart m) (moved_part g) ps (λ i d lt. part-moved (get_or ps i d) (h.2 i d lt)),
-        parts-apart ps h.2 h.3,
-      )
+  shape-moved (Group cs ps) h = (
+    columns-moved cs h.0,
+    short-moved (moved_part g) ps h.1,
+    All-map (IsPart m) (moved_part g) ps (λ i d lt. part-moved (get_or ps i d) (h.2 i d lt)),
+    parts-apart ps h.2 h.3,
+  )
   shape-moved (Order ks cs) h =
       let same : map g (map (λ (k : KeyItem). k.column) ks) ≡ map (λ (k : KeyItem). k.column) (map (moved_item g) ks) =
       map-map g (λ (k : KeyItem). k.column) ks ∙ sym (map-map (λ (k : KeyItem). k.column) (moved_item g) ks) in

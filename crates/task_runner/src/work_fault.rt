@@ -12,15 +12,9 @@ pub enum WorkFault {
     /// The pool has too little, and no consumer is left to spill. `asked` are the bytes that had to be got, `held` what the
     /// task held, and `floor` the bytes up to which no ask is granted short.
     #[error("no room: asked {asked}, held {held}, floor {floor}")]
-    NoRoom {
-        asked: u64,
-        held: u64,
-        floor: u64,
-    },
+    NoRoom { asked: u64, held: u64, floor: u64 },
     #[error("disk of post {post} failed")]
-    DiskFault {
-        post: u32,
-    },
+    DiskFault { post: u32 },
     /// A file isn't what was written. The damage's disk is the number of a post.
     #[error(transparent)]
     Damaged(Damage),

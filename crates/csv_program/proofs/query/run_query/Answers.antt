@@ -60,7 +60,7 @@ returns-clause-ending g c rows tell landed checked =
       | in-Ok w ↦
           subst (λ (ended : Status). IsOutside ended ⊎ EndsAs (ending_of_totals plan (totals_of plan rows)) ended) (sym w.status-is)
           (w.print_answer-status.ensures.ending (totals_of plan rows) (printed g c rows w.in-Ok.answer _ w.in-Ok.is w.as_ref.ensures.value known) (told_plan plan rows c.short_shapes_are_told.ensures c.requires.one checked))
-      | in-Err w ↦ inl (outside_work says c.run_tasks-answer.result.0 w.in-Err.fault c.match-answer.status w.in-Err.is known (w.status-is ∙ w.work_status-status.ensures))
+      | in-Err w ↦ inl (outside_work says c.run_tasks-answer.result.0 w.in-Err.fault c.match-answer.status w.in-Err.is known (w.status-is ∙ w.from-status.ensures))
     ]
 
 pub returns-clause-done : goal.returns-clause-done
@@ -71,7 +71,7 @@ returns-clause-done g c rows tell landed checked done =
       | in-Ok w ↦
           subst (λ (output : g.row.W.Denot). Appends (g.W.Sink.written c.args.output.now) (g.W.Sink.written output) (printed_in (ending_of_totals plan (totals_of plan rows)))) (sym w.output-is)
           (w.print_answer-status.ensures.done (totals_of plan rows) (printed g c rows w.in-Ok.answer _ w.in-Ok.is w.as_ref.ensures.value known) (sym w.status-is ∙ done))
-      | in-Err w ↦ absurd (fault_not_done w.in-Err.fault c.match-answer.status (w.status-is ∙ w.work_status-status.ensures) done)
+      | in-Err w ↦ absurd (fault_not_done w.in-Err.fault c.match-answer.status (w.status-is ∙ w.from-status.ensures) done)
     ]
 
 pub returns-clause-prefix : goal.returns-clause-prefix
@@ -88,7 +88,7 @@ returns-clause-prefix g c rows tell landed checked cut =
 pub returns-clause-all : goal.returns-clause-all
 returns-clause-all g c done = elim c.match-answer.branch [
   | in-Ok w ↦ ok_holds c.run_tasks-answer.result.0 w.in-Ok.answer w.in-Ok.is (subst (λ (journal : Option (List JournalEntry)). OnOk c.run_tasks-answer.result.0 (IfSome journal (BeginsAll (length c.args.parts.now)))) c.in-Some.is c.run_tasks-answer.ensures.all)
-  | in-Err w ↦ absurd (fault_not_done w.in-Err.fault c.match-answer.status (w.status-is ∙ w.work_status-status.ensures) done)
+  | in-Err w ↦ absurd (fault_not_done w.in-Err.fault c.match-answer.status (w.status-is ∙ w.from-status.ensures) done)
 ]
 
 -- printing leaves the consumers
@@ -105,7 +105,7 @@ returns-clause-fed g c done worker below = elim c.match-answer.branch [
   | in-Ok w ↦
       subst (λ (states : List State). FeedsParts (states_at g.C.Consumer.state c.args.posts.now.items worker) states (place_for (kind_at c.args.plan.now 0)) c.args.parts.now c.args.pool.workers worker) (sym (states_stay g c worker))
       (ok_holds c.run_tasks-answer.result.0 w.in-Ok.answer w.in-Ok.is c.run_tasks-answer.ensures.fed worker below)
-  | in-Err w ↦ absurd (fault_not_done w.in-Err.fault c.match-answer.status (w.status-is ∙ w.work_status-status.ensures) done)
+  | in-Err w ↦ absurd (fault_not_done w.in-Err.fault c.match-answer.status (w.status-is ∙ w.from-status.ensures) done)
 ]
 
 pub returns-clause-others : goal.returns-clause-others

@@ -11,7 +11,7 @@ returns-in-Err-print_table-clause-ending g c entries has told =
     let plan = c.args.plan.now in
     let narrow : wide_total (kept_at plan 0) entries ≡ None = none_there (λ entry. entry.key) (wide_total (kept_at plan 0) entries) (sym c.in-Ok-None.field-0-is ∙ c.in-Ok-None.ensures.ok entries has) in
     let kept = result_kept (files c.args.shelf.now) (files c.find_wide.new.shelf) (kind_at plan 0) _ entries c.find_wide.ensures.shelf.same has in
-    inl (fault_outside c.print_table.result c.in-Err-print_table.fault c.print_status.result c.in-Err-print_table.is (c.print_table.ensures.undamaged entries kept (told narrow)) c.print_status.ensures)
+    inl (fault_outside c.print_table.result c.in-Err-print_table.fault c.from.result c.in-Err-print_table.is (c.print_table.ensures.undamaged entries kept (told narrow)) c.from.ensures)
 
 pub returns-in-Err-print_table-clause-prefix : goal.returns-in-Err-print_table-clause-prefix
 returns-in-Err-print_table-clause-prefix g c entries has cut =
