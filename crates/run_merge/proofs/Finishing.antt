@@ -1,5 +1,5 @@
 -- Where no reader stands at a row once all were let on, nothing is left; and what is given is an entry of some run.
-use Rattle.std.proofs.Common.{◌≡◌, ℕ, zero, suc, ◌-◌, ◌<◌, ◌≤◌, Bool, true, false, List, [], ◌∷◌, length, get_or, map, Option, Ok, refl, sym, ap, subst, ◌∙◌, inl, inr, arith}
+use Rattle.std.proofs.Common.{◌≡◌, ℕ, zero, suc, ◌-◌, ◌<◌, ◌≤◌, Bool, true, false, List, [], ◌∷◌, length, get_or, map, Option, refl, sym, ap, subst, ◌∙◌, inl, inr, arith}
 use Rattle.std.specs.Prelude.{sum_by, slice_index}
 use Rattle.std.proofs.lemmas.Bool.{cases_lt}
 use Rattle.std.proofs.lemmas.List.{get_or_past}
@@ -12,10 +12,9 @@ use Rattle.run_file.specs.declared.form.Form.TheVariants.{Entries}
 use Rattle.run_file.specs.Readers.{ReaderView, found_of, run_of}
 use Rattle.run_file.specs.Forms.{IsWellFormed}
 use Rattle.run_file.specs.Several.{concatenated, greatest_of}
-use Rattle.run_merge.specs.declared.merge.Merge.{Merge}
 use Rattle.run_merge.specs.Giving.{AreComing, Gives}
 use Rattle.run_merge.specs.Heads.{EachReader, has_head, one_if, AreAhead}
-use Rattle.run_merge.specs.Merging.{GoesOn, left_by}
+use Rattle.run_merge.specs.Merging.{left_by}
 use Rattle.run_merge.proofs.Taking.{none_left, lists_left}
 
 abbrev Row : Type 0
@@ -50,12 +49,11 @@ pub nothing_left : (readers : List ReaderView) (heads : List Bool) (aheads : Lis
 nothing_left readers heads aheads count ahead none end =
     omega (arith, no_heads heads (λ k lt. none k (omega (arith, count))), none_ahead readers (λ k reader lt is. omega (arith, ahead k reader lt is, end k (none k lt))))
 
--- what is given is what a merge goes on to
-pub goes_on : (files : ℕ → Option Files) (kind : Kind) (after : Merge) (entries : List Entry) → after.kind ≡ kind → Gives files kind after.readers.items after.heads.items after.row entries → GoesOn files after entries (Ok true)
-goes_on files kind after [] is gives = absurd gives
-goes_on files kind after (entry ∷ entries) is gives =
-    let coming : AreComing files false after.kind after.readers.items after.heads.items entries = subst (λ (k : Kind). AreComing files false k after.readers.items after.heads.items entries) (sym is) gives.1 in
-    (gives.0, record { lists = coming.lists; left = coming.left; formed = coming.formed; ascend = coming.ascend; are = coming.are })
+-- what is given is the first of those that were to come
+pub given_one : (files : ℕ → Option Files) (kind other : Kind) (readers : List ReaderView) (heads : List Bool) (row : Row) (entry : Entry) (entries : List Entry) → other ≡ kind → Gives files kind readers heads row (entry ∷ entries)
+    → (row ≡ entry.key ∷ (entry.value ∷ [])) × AreComing files false other readers heads entries
+given_one files kind other readers heads row entry entries is gives =
+    (gives.0, subst (λ (k : Kind). AreComing files false k readers heads entries) (sym is) gives.1)
 
 -- there is a reader at each place
 pub reader_at : (readers : List ReaderView) (i : ℕ) → i < length readers → (reader : ReaderView) × (reader ≡ get_or readers i reader)

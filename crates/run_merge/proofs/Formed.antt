@@ -1,7 +1,8 @@
 -- Rows of a key and a value are well formed where their parts are as long as those of one that is.
-use Rattle.std.proofs.Common.{◌≡◌, ℕ, ◌+◌, ◌*◌, ◌≤◌, List, [], ◌∷◌, length, refl, sym, ap, subst, ◌∙◌, arith}
+use Rattle.std.proofs.Common.{◌≡◌, ℕ, zero, suc, ◌+◌, ◌*◌, ◌<◌, ◌≤◌, Some, get_or, List, [], ◌∷◌, length, refl, sym, ap, subst, ◌∙◌, arith}
 use Rattle.std.specs.Coded.{Coded-set, coded_ℕ, le_prop}
 use Rattle.std.proofs.Math.Logic.{∥∥₁_elim}
+use Rattle.std.proofs.lemmas.Option.{same_Some}
 use Rattle.std.proofs.lemmas.List.Sums.{sum_by-cons}
 use Rattle.aggregate.specs.declared.agg_list.Agg.{Agg}
 use Rattle.aggregate.specs.declared.kind.Kind.{Kind}
@@ -13,6 +14,7 @@ use Rattle.run_file.specs.Readers.{ReaderView, run_of}
 use Rattle.run_file.specs.Forms.{IsValueOf, IsWellFormed}
 use Rattle.run_file.specs.Reading.{row_at}
 use Rattle.run_file.specs.AtEntries.{entry_at, IsAtEntry}
+use Rattle.run_merge.specs.Heads.{IsLent, row_lent}
 use Rattle.run_file.proofs.Standing.{two_fields, value_is}
 
 -- the value of a group's entry has its bytes
@@ -44,3 +46,25 @@ formed_alike kind reader row value t same row-is =
       cost = omega (arith, cost, same, length_of_two (entry_at reader).key value, length_of_row (row_at reader) (two_fields kind reader t));
     } in
     subst (IsWellFormed (Entries kind) (run_of reader).greatest) (sym row-is) whole
+
+-- the first of the readers may be lent
+pub lends : (kind : Kind) (readers : List ReaderView) (first : ℕ) → first < length readers → ((reader : ReaderView) → reader ≡ get_or readers first reader → ∥ IsAtEntry kind reader ∥₁) → IsLent kind readers (Some first)
+lends kind readers first within at place is =
+    let same : first ≡ place = same_Some first place is in
+    subst (λ (n : ℕ). (n < length readers) × ((reader : ReaderView) → reader ≡ get_or readers n reader → ∥ IsAtEntry kind reader ∥₁)) same (within, at)
+
+-- the row that is lent of a reader is the one at which it stands
+pub lent_row : (readers : List ReaderView) (place : ℕ) (reader : ReaderView) (row : List (List ℕ)) → place < length readers → reader ≡ get_or readers place reader → row_lent readers (Some place) row ≡ row_at reader
+lent_row [] place reader row lt is = absurd (omega arith)
+lent_row (first ∷ readers) zero reader row lt is = ap row_at (sym is)
+lent_row (first ∷ readers) (suc place) reader row lt is = lent_row readers place reader row (omega arith) is
+
+pair_is : (row : List (List ℕ)) → length row ≡ 2 → row ≡ (entry_of row).key ∷ ((entry_of row).value ∷ [])
+pair_is [] e = absurd cc
+pair_is (key ∷ []) e = absurd (omega (arith, e))
+pair_is (key ∷ value ∷ []) e = refl
+pair_is (key ∷ value ∷ field ∷ rest) e = absurd (omega (arith, e))
+
+pub own_row : (kind : Kind) (readers : List ReaderView) (place : ℕ) (reader : ReaderView) (row : List (List ℕ)) → place < length readers → reader ≡ get_or readers place reader → ∥ IsAtEntry kind reader ∥₁ → row_lent readers (Some place) row ≡ (entry_at reader).key ∷ ((entry_at reader).value ∷ [])
+own_row kind readers place reader row lt is t =
+    lent_row readers place reader row lt is ∙ pair_is (row_at reader) (two_fields kind reader t)

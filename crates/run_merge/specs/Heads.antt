@@ -1,6 +1,7 @@
 -- The rows that readers stand at, and what is true of readers that are read side by side.
 -- This project's own.
-use Rattle.std.specs.Prelude.{◌≡◌, ℕ, ◌+◌, ◌<◌, ◌≤◌, Bool, true, false, List, Option, Some, None, length, slice_index_or, slice_index, sum_by}
+use Rattle.std.specs.Prelude.{◌≡◌, ℕ, ◌+◌, ◌<◌, ◌≤◌, Bool, true, false, List, [], Option, Some, None, length, slice_index_or, slice_index, slice_get, sum_by}
+use Rattle.std.specs.Option.{option_map_or}
 use Rattle.std.specs.Ordering.{is_gt}
 use Rattle.std.specs.declared.cmp.Ordering.TheVariants.{Less}
 use Rattle.aggregate.specs.declared.kind.Kind.{Kind}
@@ -8,6 +9,7 @@ use Rattle.aggregate.specs.Fronts.{front_of}
 use Rattle.aggregate.specs.Totals.{key_cmp}
 use Rattle.run_file.specs.declared.form.Form.TheVariants.{Entries}
 use Rattle.run_file.specs.Readers.{ReaderView, form_of, found_of, run_of}
+use Rattle.run_file.specs.Reading.{row_at}
 use Rattle.run_file.specs.AtEntries.{IsAtEntry, entry_at}
 
 -- a fact of each of these readers and its place
@@ -33,6 +35,17 @@ HasFront reader front = (front ≡ front_of (entry_at reader).key) × ((k : ℕ)
 -- beside each reader that stands at a row is the front of its key
 abbrev pub AreFronts : List ReaderView → List Bool → List ℕ → Type 0
 AreFronts readers heads fronts = EachReader readers (λ k reader. has_head heads k ≡ true → HasFront reader (slice_index fronts k))
+
+-- where the row of a reader is lent, this one stands at an entry
+abbrev pub IsLent : Kind → List ReaderView → Option ℕ → Type 0
+IsLent kind readers given =
+    (place : ℕ) → given ≡ Some place
+    → (place < length readers) × ((reader : ReaderView) → reader ≡ slice_index_or readers place reader → ∥ IsAtEntry kind reader ∥₁)
+
+-- the row that is lent: that of a reader, or else one that was put together
+abbrev pub row_lent : List ReaderView → Option ℕ → List (List ℕ) → List (List ℕ)
+row_lent readers None row = row
+row_lent readers (Some place) row = option_map_or row_at (slice_get readers place) []
 
 -- how many rows are ahead of each
 abbrev pub AreAhead : List ReaderView → List ℕ → Type 0

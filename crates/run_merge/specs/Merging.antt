@@ -18,7 +18,7 @@ use Rattle.run_file.specs.Forms.{HasForm, IsWellFormed}
 use Rattle.run_file.specs.Reading.{IsAtRow, IsAhead, IsDamagedAhead}
 use Rattle.run_file.specs.Several.{HaveEntries, concatenated}
 use Rattle.run_merge.specs.declared.merge.Merge.{Merge}
-use Rattle.run_merge.specs.Heads.{one_if}
+use Rattle.run_merge.specs.Heads.{one_if, row_lent}
 
 -- the runs that it merges, in their order
 abbrev pub runs_of : Merge → List Run
@@ -30,7 +30,7 @@ kind_of merge = merge.kind
 
 -- the row that it gave last
 abbrev pub row_of : Merge → List (List ℕ)
-row_of merge = merge.row
+row_of merge = row_lent merge.readers.items merge.given merge.row
 
 -- how many bytes readers keep of their runs' files
 abbrev pub kept_by : List ReaderView → ℕ

@@ -1,6 +1,6 @@
 //! The least entry of readers that are read side by side, as a row.
 
-ghost use Rattle.std.specs.Prelude.{◌≡◌, ◌<◌, ◌+◌, ◌*◌, ◌∷◌, [], List, ℕ, Option, true, length, slice_index, slice_index_or, sum_by, OnOk};
+ghost use Rattle.std.specs.Prelude.{◌≡◌, ◌<◌, ◌+◌, ◌*◌, ◌∷◌, [], List, ℕ, Option, Some, true, false, length, slice_index, slice_index_or, sum_by, IfOk, OnOk};
 ghost use Rattle.aggregate.specs.declared.kind.Kind.TheVariants.{Group, Order};
 ghost use Rattle.aggregate.specs.Fronts.{front_of};
 ghost use Rattle.aggregate.specs.Totals.{Entry};
@@ -9,7 +9,7 @@ ghost use Rattle.run_file.specs.declared.form.Form.TheVariants.{Entries};
 ghost use Rattle.run_file.specs.Readers.{ReaderView, run_of};
 ghost use Rattle.run_file.specs.Forms.{IsWellFormed};
 ghost use Rattle.run_merge.specs.Giving.{AreComing, IsTaken, Gives};
-ghost use Rattle.run_merge.specs.Heads.{AreAtEntries, AreFronts, IsFirst, OnlyFalls, one_if};
+ghost use Rattle.run_merge.specs.Heads.{AreAtEntries, AreFronts, IsFirst, IsLent, OnlyFalls, one_if, row_lent};
 
 use crate::heads::has_key;
 use aggregate::{AggList, combine, combine_is_associative};
@@ -32,32 +32,26 @@ fn put_row(row: &mut RowBuf, key: &[u8], value: &[u8]) -> Result<(), AllocError>
     row.add(value)
 }
 
-/// Gives the entry of one reader as it is.
-pub(crate) fn give_alone(
-    readers: &[RunReader],
-    heads: &mut Vec<bool>,
-    first: usize,
-    row: &mut RowBuf,
-) -> Result<(), AllocError>
+/// Gives the entry of one reader as it is: its own row is lent.
+pub(crate) fn give_alone(readers: &[RunReader], heads: &mut Vec<bool>, first: usize)
     requires heads { length heads.old.items ≡ length readers.now }
     requires stand { AreAtEntries Order readers.now heads.old.items }
     requires first { IsFirst readers.now heads.old.items (length readers.now) first }
-    ensures gives { OnOk result ((files : ℕ → Option Files) (entries : List Entry) →
+    ensures gives { (row : List (List ℕ)) (files : ℕ → Option Files) (entries : List Entry) →
         AreComing files true Order readers.now heads.old.items entries →
-        Gives files Order readers.now heads.new.items row.new entries) }
-    ensures formed { OnOk result ((reader : ReaderView) →
+        Gives files Order readers.now heads.new.items (row_lent readers.now (Some first) row) entries }
+    ensures formed { (row : List (List ℕ)) (reader : ReaderView) →
         reader ≡ slice_index_or readers.now first reader →
-        IsWellFormed (Entries Order) (run_of reader).greatest row.new) }
+        IsWellFormed (Entries Order) (run_of reader).greatest (row_lent readers.now (Some first) row) }
+    ensures lent { IsLent Order readers.now (Some first) }
     ensures heads { OnlyFalls heads.old.items heads.new.items }
-    ensures one { OnOk result (sum_by one_if heads.new.items + 1 ≡ sum_by one_if heads.old.items) }
+    ensures one { sum_by one_if heads.new.items + 1 ≡ sum_by one_if heads.old.items }
 {
-    let reader = &readers[first];
-    put_row(row, reader.key(), reader.value())?;
     heads[first] = false;
-    Ok(())
 }
 
-/// Gives the entry of one reader, with those of its key of later readers joined to it.
+/// Gives the entry of one reader, with those of its key of later readers joined to it. Where there is
+/// none of them, the reader's own row is lent, whose place is answered; else the entry is in `row`.
 pub(crate) fn give_joined(
     aggs: &AggList,
     readers: &[RunReader],
@@ -66,18 +60,19 @@ pub(crate) fn give_joined(
     first: usize,
     value: &mut Vec<u8>,
     row: &mut RowBuf,
-) -> Result<(), AllocError>
+) -> Result<Option<usize>, AllocError>
     requires heads { length heads.old.items ≡ length readers.now }
     requires as_many { length fronts.now ≡ length readers.now }
     requires stand { AreAtEntries (Group aggs.now) readers.now heads.old.items }
     requires fronts { AreFronts readers.now heads.old.items fronts.now }
     requires first { IsFirst readers.now heads.old.items (length readers.now) first }
-    ensures gives { OnOk result ((files : ℕ → Option Files) (entries : List Entry) →
+    ensures gives { IfOk result (λ given. (files : ℕ → Option Files) (entries : List Entry) →
         AreComing files true (Group aggs.now) readers.now heads.old.items entries →
-        Gives files (Group aggs.now) readers.now heads.new.items row.new entries) }
-    ensures formed { OnOk result ((reader : ReaderView) →
+        Gives files (Group aggs.now) readers.now heads.new.items (row_lent readers.now given row.new) entries) }
+    ensures formed { IfOk result (λ given. (reader : ReaderView) →
         reader ≡ slice_index_or readers.now first reader →
-        IsWellFormed (Entries (Group aggs.now)) (run_of reader).greatest row.new) }
+        IsWellFormed (Entries (Group aggs.now)) (run_of reader).greatest (row_lent readers.now given row.new)) }
+    ensures lent { IfOk result (IsLent (Group aggs.now) readers.now) }
     ensures heads { OnlyFalls heads.old.items heads.new.items }
     ensures fewer { OnOk result (sum_by one_if heads.new.items < sum_by one_if heads.old.items) }
 {
@@ -85,11 +80,15 @@ pub(crate) fn give_joined(
     value.clear();
     value.extend_from_slice(reader.value())?;
     heads[first] = false;
-    join_others(aggs, readers, heads, fronts, first, reader.key(), value);
-    put_row(row, reader.key(), value)
+    if !join_others(aggs, readers, heads, fronts, first, reader.key(), value) {
+        return Ok(Some(first));
+    }
+    put_row(row, reader.key(), value)?;
+    Ok(None)
 }
 
-/// Joins the values of later readers that stand at the same key, and takes their rows as given.
+/// Joins the values of later readers that stand at the same key, and takes their rows as given. Says
+/// whether there was one.
 fn join_others(
     aggs: &AggList,
     readers: &[RunReader],
@@ -98,7 +97,7 @@ fn join_others(
     first: usize,
     key: &[u8],
     value: &mut [u8],
-)
+) -> bool
     requires heads { length heads.old.items ≡ length readers.now }
     requires as_many { length fronts.now ≡ length readers.now }
     requires first { first < length readers.now }
@@ -111,14 +110,19 @@ fn join_others(
         (record { key = key.now; value = value.old }) entries →
         IsTaken files (Group aggs.now) readers.now heads.new.items (length readers.now)
         (record { key = key.now; value = value.new }) entries }
+    ensures none { result ≡ false → value.new ≡ value.old }
     ensures heads { OnlyFalls heads.old.items heads.new.items }
 {
+    let mut joined = false;
     for i in first + 1..readers.len() {
-        join_one(aggs, readers, heads, fronts, i, key, fronts[first], value);
+        if join_one(aggs, readers, heads, fronts, i, key, fronts[first], value) {
+            joined = true;
+        }
     }
+    joined
 }
 
-/// Joins the value of one reader, if it stands at this key.
+/// Joins the value of one reader, if it stands at this key, and says whether it did.
 fn join_one(
     aggs: &AggList,
     readers: &[RunReader],
@@ -128,7 +132,7 @@ fn join_one(
     key: &[u8],
     front: u64,
     value: &mut [u8],
-)
+) -> bool
     requires heads { length heads.old.items ≡ length readers.now }
     requires as_many { length fronts.now ≡ length readers.now }
     requires within { i < length readers.now }
@@ -141,16 +145,18 @@ fn join_one(
         (record { key = key.now; value = value.old }) entries →
         IsTaken files (Group aggs.now) readers.now heads.new.items (i + 1)
         (record { key = key.now; value = value.new }) entries }
+    ensures none { result ≡ false → value.new ≡ value.old }
     ensures heads { OnlyFalls heads.old.items heads.new.items }
 {
     combine_is_associative();
     if !heads[i] {
-        return;
+        return false;
     }
     let reader = &readers[i];
     if !has_key(reader, fronts[i], key, front) {
-        return;
+        return false;
     }
     combine(aggs, value, reader.value());
     heads[i] = false;
+    true
 }

@@ -1,7 +1,7 @@
 //! Runs that are read side by side.
 
 ghost use Rattle.std.specs.Prelude.{◌≡◌, length};
-ghost use Rattle.run_merge.specs.Heads.{AreAhead, AreAtEntries, AreFronts, AreOfKind};
+ghost use Rattle.run_merge.specs.Heads.{AreAhead, AreAtEntries, AreFronts, AreOfKind, IsLent};
 
 use crate::giving::{give_alone, give_joined};
 use crate::heads::{buffered_by, least_of, let_all_on};
@@ -27,13 +27,16 @@ pub struct Merge {
     aheads: Vec<u64>,
     kind: Kind,
     value: Vec<u8>,
+    // an entry that was put together, and the reader whose own row was given, if one's was
     row: RowBuf,
+    given: Option<usize>,
     ghost flags: { length heads.items ≡ length readers.items },
     ghost counts: { length aheads.items ≡ length readers.items },
     ghost front_counts: { length fronts.items ≡ length readers.items },
     ghost ahead: { AreAhead readers.items aheads.items },
     ghost of_kind: { AreOfKind kind readers.items },
     ghost stand: { AreAtEntries kind readers.items heads.items },
+    ghost lent: { IsLent kind readers.items given },
     ghost fronts_are: { AreFronts readers.items heads.items fronts.items },
 }
 
@@ -78,6 +81,7 @@ impl Merge {
             kind: kind.copy()?,
             value: Vec::new(alloc),
             row: RowBuf::new(alloc),
+            given: None,
         })
     }
 
@@ -91,11 +95,15 @@ impl Merge {
         buffered_by(&self.readers)
     }
 
-    /// The row that it stands at, a key and a value, lent from its buffer.
+    /// The row that it stands at, a key and a value. It is lent from the buffer of the reader that has it,
+    /// or from the merge's own, where values were combined.
     pub fn row(&self) -> RowView<'_>
         ensures { fields_in result ≡ row_of self.now }
     {
-        self.row.view()
+        match self.given {
+            Some(place) => self.readers[place].row(),
+            None => self.row.view(),
+        }
     }
 
     /// Goes on to the next entry, at which it then stands; `false` comes exactly at the end of all runs.
@@ -116,6 +124,7 @@ impl Merge {
             (faults_on H.disk_of D.faults shelf.old) (faults_on H.disk_of D.faults shelf.new) result }
         ensures shelf { LeavesFiles H.count_of H.named H.disk_of D.files D.faults shelf.old shelf.new }
     {
+        self.given = None;
         let_all_on(
             &mut self.readers,
             &mut self.heads,
@@ -132,7 +141,7 @@ impl Merge {
         }
     }
 
-    /// The next entry as a row, lent from the merge's buffer; `None` comes exactly at the end of all
+    /// The next entry as a row, lent as by `row`; `None` comes exactly at the end of all
     /// runs. All files of the shelf stay. Once the row is let go, the merge stands where `advance` leaves
     /// it.
     pub fn next<D: Disk, H: Shelf<D>>(
@@ -173,16 +182,22 @@ impl Merge {
         ensures kind { self.new.kind ≡ self.old.kind }
     {
         match &self.kind {
-            Kind::Order => give_alone(&self.readers, &mut self.heads, first, &mut self.row),
-            Kind::Group(aggs) => give_joined(
-                aggs,
-                &self.readers,
-                &mut self.heads,
-                &self.fronts,
-                first,
-                &mut self.value,
-                &mut self.row,
-            ),
+            Kind::Order => {
+                give_alone(&self.readers, &mut self.heads, first);
+                self.given = Some(first);
+            }
+            Kind::Group(aggs) => {
+                self.given = give_joined(
+                    aggs,
+                    &self.readers,
+                    &mut self.heads,
+                    &self.fronts,
+                    first,
+                    &mut self.value,
+                    &mut self.row,
+                )?;
+            }
         }
+        Ok(())
     }
 }

@@ -1,4 +1,4 @@
-use Rattle.std.proofs.Common.{◌+◌, ℕ, List}
+use Rattle.std.proofs.Common.{◌≡◌, ◌+◌, ℕ, List, false}
 use Rattle.std.specs.Prelude.{Option}
 use Rattle.aggregate.specs.declared.kind.Kind.TheVariants.{Group}
 use Rattle.aggregate.specs.Totals.{Entry}
@@ -13,5 +13,6 @@ invariant-loop-i l = record {
   joins : (files : ℕ → Option Files) (entries : List Entry) →
       IsTaken files (Group l.aggs) l.readers l.fn.heads.items (l.first + 1) (record { key = l.key; value = l.fn.value }) entries →
       IsTaken files (Group l.aggs) l.readers l.heads.items l.i (record { key = l.key; value = l.value }) entries;
+  none : l.joined ≡ false → l.value ≡ l.fn.value;
   falls : OnlyFalls l.fn.heads.items l.heads.items;
 }
