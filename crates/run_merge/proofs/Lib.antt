@@ -18,3 +18,4 @@ pub mod Gathering
 pub mod Grouping
 pub mod Kept
 pub mod Rounding
+pub mod Turns

@@ -5,3 +5,4 @@ pub mod Lending
 pub mod Merged
 pub mod Causes
 pub mod Becoming
+pub mod Rounds

@@ -32,6 +32,10 @@ kind_of merge = merge.kind
 abbrev pub row_of : Merge → List (List ℕ)
 row_of merge = row_lent merge.readers.items merge.given merge.row
 
+-- how many readers it has open
+abbrev pub open_of : Merge → ℕ
+open_of merge = length merge.readers.items
+
 -- how many bytes readers keep of their runs' files
 abbrev pub kept_by : List ReaderView → ℕ
 kept_by readers = sum_by (λ reader. reader.kept.count) readers

@@ -53,13 +53,14 @@ impl Merge {
     ghost use Rattle.run_merge.specs.Giving.{AreComing};
     ghost use Rattle.run_merge.specs.Heads.{IsFirst};
     ghost use Rattle.run_merge.specs.Lending.{LendsFirst, LendsFormed, StandsAfter};
-    ghost use Rattle.run_merge.specs.Merging.{runs_of, kind_of, kept_of, row_of, left_of, Begins, IsToCome, GoesOn, GivesFormed, Falls, TellsDamage};
+    ghost use Rattle.run_merge.specs.Merging.{runs_of, kind_of, kept_of, open_of, row_of, left_of, Begins, IsToCome, GoesOn, GivesFormed, Falls, TellsDamage};
     ghost use Rattle.run_merge.specs.contracts.merge.Merge.{the_row};
 
     /// A merge of these runs, whose entries are of this kind. It reads nothing yet.
     pub fn new(alloc: Global, runs: &[Run], kind: &Kind) -> Result<Merge, AllocError>
         ensures runs { IfOk result (λ merge. runs_of merge ≡ runs.now) }
         ensures kind { IfOk result (λ merge. kind_of merge ≡ kind.now) }
+        ensures open { IfOk result (λ merge. open_of merge ≡ length runs.now) }
         ensures begins { IfOk result Begins }
         ensures left { IfOk result (λ merge. left_of merge ≡ sum_by (λ run. run.count) runs.now) }
     {
@@ -83,6 +84,13 @@ impl Merge {
             row: RowBuf::new(alloc),
             given: None,
         })
+    }
+
+    /// How many readers it has open: one for each of its runs.
+    pub(crate) fn open(&self) -> usize
+        ensures { result ≡ open_of self.now }
+    {
+        self.readers.len()
     }
 
     /// How many bytes it keeps of its runs' files: for each run less than the greatest cost of a row, once
