@@ -8,6 +8,8 @@ mod run_table;
 mod telling;
 #[cfg(test)]
 mod tests;
+#[cfg(test)]
+mod tests_of_sums;
 mod wide;
 
 pub use print_fault::PrintFault;

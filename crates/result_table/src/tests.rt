@@ -2,15 +2,15 @@
 ghost use Rattle.std.specs.Prelude.{◌≡◌, IfOk};
 ghost use Rattle.job_plan.specs.Entries.{kind_of};
 
+use crate::PrintFault;
 use crate::entry_reader::EntryReader;
 use crate::run_table::{heading_text, print_entries};
-use crate::{PrintFault, too_wide};
 use aggregate::{Agg, AggList, Kind, put_field, put_partial};
 use byte_io::MemorySink;
 use item_lists::Listed;
 use job_text::{KeyItem, Part, Shape};
 use row_page::{Page, RowBuf};
-use run_file::{Damage, Run, RunFault, RunWriter};
+use run_file::{Damage, Run, RunWriter};
 use spill_disk::{Disk, MemoryDisk, One, VeilDisk};
 use std::alloc::Global;
 use std::test::Fail;
@@ -107,7 +107,7 @@ fn value_of(alloc: Global, numbers: &str) -> Result<Vec<u8>, Fail> {
 }
 
 // A page of groups as `|FIELD|FIELD=COUNT SUM MIN MAX`, with a `/` between them.
-fn page_of_groups(alloc: Global, groups: &str) -> Result<Page, Fail> {
+pub(crate) fn page_of_groups(alloc: Global, groups: &str) -> Result<Page, Fail> {
     let mut page = Page::new(alloc, 1_000_000);
     for group in groups.split('/') {
         let (fields, numbers) = group.split_once('=').ok_or("a group without numbers")?;
@@ -143,7 +143,7 @@ fn page_of_orders(alloc: Global, rows: &str) -> Result<Page, Fail> {
 }
 
 // Writes a page as a run.
-fn put_run(disk: &mut MemoryDisk, page: &Page) -> Result<Run, Fail>
+pub(crate) fn put_run(disk: &mut MemoryDisk, page: &Page) -> Result<Run, Fail>
     ensures { IfOk result (λ run. run.disk ≡ 0) }
 {
     let mut writer = RunWriter::start(disk, 0)?;
@@ -380,51 +380,5 @@ fn a_failing_read_is_a_fault_of_its_disk(rt: HostRuntime) -> Result<(), Fail> {
         Err(PrintFault::DiskFault { disk: 0 })
     );
     assert_eq!(rt; print_unread(rt.alloc(), 3)?, Ok(()));
-    Ok(())
-}
-
-// The key of the first of these groups that is too wide, where this call of the disk fails.
-fn wide_of(
-    alloc: Global,
-    groups: &str,
-    failing: u64,
-) -> Result<Result<Option<Vec<u8>>, RunFault>, Fail> {
-    let page = page_of_groups(alloc, groups)?;
-    let mut disk = MemoryDisk::new(alloc, [failing].to_vec(alloc)?);
-    let run = put_run(&mut disk, &page)?;
-    let aggs = AggList::of(alloc, &[Agg::Count, Agg::Sum, Agg::Min, Agg::Max])?;
-    let mut one = One { disk: &mut disk };
-    match too_wide(alloc, &mut one, Some(&run), &aggs) {
-        Ok(Some(key)) => Ok(Ok(Some(key.bytes().to_vec(alloc)?))),
-        Ok(None) => Ok(Ok(None)),
-        Err(fault) => Ok(Err(fault)),
-    }
-}
-
-// Whether a result without a run has a group that is too wide.
-fn none_is_wide(alloc: Global) -> Result<bool, Fail> {
-    let mut disk = MemoryDisk::new(alloc, Vec::new(alloc));
-    let aggs = AggList::of(alloc, &[Agg::Sum])?;
-    Ok(too_wide(alloc, &mut One { disk: &mut disk }, None, &aggs)?.is_none())
-}
-
-// The second and the third of these pass 64 bits, one above and one below.
-const WIDE: &str = "|Bonn=1 9223372036854775807 1 1/\
-    |Oslo=2 9223372036854775808 1 9223372036854775807/|Rome=2 -9223372036854775809 1 1";
-
-#[test]
-fn the_first_group_that_is_too_wide_is_found(rt: HostRuntime) -> Result<(), Fail> {
-    let alloc = rt.alloc();
-    let fits = wide_of(alloc, "|Bonn=1 9223372036854775807 1 1", 9)?;
-    assert_eq!(rt; fits, Ok(None), "all fit");
-    let oslo = b"\x4f\x73\x6c\x6f\0\0".to_vec(alloc)?;
-    assert_eq!(rt;
-        wide_of(alloc, WIDE, 9)?,
-        Ok(Some(oslo)),
-        "the second of three"
-    );
-    let fault = RunFault::DiskFault { disk: 0 };
-    assert_eq!(rt; wide_of(alloc, WIDE, 2)?, Err(fault));
-    assert!(rt; none_is_wide(alloc)?, "no run");
     Ok(())
 }
