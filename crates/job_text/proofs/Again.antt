@@ -71,7 +71,7 @@ no_word : (rest : List ℕ) → StandsApart rest → prefix_len is_word_byte res
 no_word [] h = refl
 no_word (c ∷ rest) h = rw h.0 refl
 
-at_letter : (b : ℕ) (more : List ℕ) → is_letter b ≡ true → token_at (b ∷ more) ≡ word_at (b ∷ more)
+pub at_letter : (b : ℕ) (more : List ℕ) → is_letter b ≡ true → token_at (b ∷ more) ≡ word_at (b ∷ more)
 unfolding token_at
 at_letter b more h = rw h refl
 
@@ -79,11 +79,11 @@ word_is : (w rest : List ℕ) → take_while is_word_byte (w ++ rest) ≡ w → 
 unfolding word_at
 word_is w rest front free = ap (λ (t : List ℕ). Some (word_token t (reserved_as t), length t)) front ∙ ap (λ (o : Option Mark). Some (word_token w o, length w)) free
 
-none_reserved : (o : Option Mark) → not (is_some o) ≡ true → o ≡ None
+pub none_reserved : (o : Option Mark) → not (is_some o) ≡ true → o ≡ None
 none_reserved None h = refl
 none_reserved (Some m) h = absurd cc
 
-three : (a b c : Bool) → (a && b && c) ≡ true → (a ≡ true) × (b ≡ true) × (c ≡ true)
+pub three : (a b c : Bool) → (a && b && c) ≡ true → (a ≡ true) × (b ≡ true) × (c ≡ true)
 three true true true h = (refl, refl, refl)
 three true true false h = absurd cc
 three true false c h = absurd cc
@@ -163,7 +163,7 @@ no_digit (c ∷ rest) h = rw (or_right_false (is_letter c) (is_digit c) h.0) ref
 no_letter : (d : ℕ) → is_digit d ≡ true → is_letter d ≡ false
 no_letter d h = grind arith
 
-no_minus : (d : ℕ) → is_digit d ≡ true → (d == 45) ≡ false
+pub no_minus : (d : ℕ) → is_digit d ≡ true → (d == 45) ≡ false
 no_minus d h = grind arith
 
 no_plus : (d : ℕ) → is_digit d ≡ true → (d == 43) ≡ false
@@ -172,15 +172,15 @@ no_plus d h = grind arith
 whole_is : (bytes : List ℕ) (sign digits more : ℕ) → digits ≡ suc more → whole_of bytes sign digits ≡ Some (Whole (number (take (sign + digits) bytes)), sign + digits)
 whole_is bytes sign digits more e = rw e refl
 
-at_digit : (d : ℕ) (more : List ℕ) → is_digit d ≡ true → token_at (d ∷ more) ≡ whole_at (d ∷ more)
+pub at_digit : (d : ℕ) (more : List ℕ) → is_digit d ≡ true → token_at (d ∷ more) ≡ whole_at (d ∷ more)
 unfolding token_at
 at_digit d more h = rw (no_letter d h, h) refl
 
-at_minus : (more : List ℕ) → token_at (45 ∷ more) ≡ whole_of (45 ∷ more) 1 (prefix_len is_digit more)
+pub at_minus : (more : List ℕ) → token_at (45 ∷ more) ≡ whole_of (45 ∷ more) 1 (prefix_len is_digit more)
 unfolding token_at
 at_minus more = refl
 
-whole_plain : (d : ℕ) (more : List ℕ) → (d == 45) ≡ false → whole_at (d ∷ more) ≡ whole_of (d ∷ more) 0 (prefix_len is_digit (d ∷ more))
+pub whole_plain : (d : ℕ) (more : List ℕ) → (d == 45) ≡ false → whole_at (d ∷ more) ≡ whole_of (d ∷ more) 0 (prefix_len is_digit (d ∷ more))
 whole_plain d more e = rw e refl
 
 digits_again : (d : ℕ) (ds rest : List ℕ) → all_ascii_digits (d ∷ ds) ≡ true → StandsApart rest → token_at (d ∷ (ds ++ rest)) ≡ Some (Whole (number (d ∷ ds)), length (d ∷ ds))

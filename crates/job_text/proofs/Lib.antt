@@ -33,3 +33,4 @@ pub mod Printed
 pub mod Again
 pub mod Reread
 pub mod Printable
+pub mod Longest

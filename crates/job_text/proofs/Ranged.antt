@@ -80,7 +80,7 @@ all_word (b ∷ bytes) = elim (cases_Bool (is_word_byte b)) [
 all_three : (a b c : Bool) → a ≡ true → b ≡ true → c ≡ true → (a && b && c) ≡ true
 all_three a b c e f g = rw (e, f, g) refl
 
-word_plain : (b : ℕ) (bytes : List ℕ) → is_letter b ≡ true → (o : Option Mark) → reserved_as (take_while is_word_byte (b ∷ bytes)) ≡ o → IsOfText (word_token (take_while is_word_byte (b ∷ bytes)) o)
+pub word_plain : (b : ℕ) (bytes : List ℕ) → is_letter b ≡ true → (o : Option Mark) → reserved_as (take_while is_word_byte (b ∷ bytes)) ≡ o → IsOfText (word_token (take_while is_word_byte (b ∷ bytes)) o)
 word_plain b bytes h None e =
     let word = take_while is_word_byte (b ∷ bytes) in
     let front = front_is b bytes (or_left (is_letter b) (is_digit b) h) in

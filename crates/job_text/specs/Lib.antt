@@ -12,6 +12,7 @@ pub mod Begins
 pub mod Text
 pub mod Place
 pub mod Printing
+pub mod Tokens
 pub mod FilterPrinting
 pub mod JobPrinting
 pub mod FilterLaws

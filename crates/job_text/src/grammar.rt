@@ -1,5 +1,6 @@
 //! Laws of the language.
 
+ghost use Rattle.job_text.specs.Tokens.{TakesTheLongest};
 ghost use Rattle.job_text.specs.Laws.{ReadsTheGrammar, HasOneMeaning, ReadsThePrinted};
 
 /// Tokens are read as a job exactly where the grammar has them as that job.
@@ -15,4 +16,9 @@ pub fn tokens_have_one_meaning()
 /// The printed tokens of a job are read as that job.
 pub fn printed_tokens_are_read()
     ensures { ReadsThePrinted }
+{}
+
+/// The token that is read at the front of bytes is the longest one there.
+pub fn the_longest_token_is_taken()
+    ensures { TakesTheLongest }
 {}
