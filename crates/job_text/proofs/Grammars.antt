@@ -5,7 +5,7 @@ use Rattle.job_text.specs.declared.token.Token.{Token}
 use Rattle.job_text.specs.declared.job.Job.{Job}
 use Rattle.job_text.specs.declared.fault.JobFault.{JobFault}
 use Rattle.job_text.specs.Begins.{job_of}
-use Rattle.job_text.specs.Grammar.{job_meant, IsWritten}
+use Rattle.job_text.specs.Meaning.{job_meant, IsWritten}
 use Rattle.job_text.specs.Jobs.{IsJob}
 use Rattle.job_text.specs.Laws.{ReadsTheGrammar, HasOneMeaning}
 use Rattle.job_text.specs.Place.{only_tokens, IsJobText}

@@ -51,8 +51,8 @@ word_covers b bs rest o h all e =
       at = at_letter b (bs ++ rest) h ∙ word_spelled (w ++ rest);
       far = omega (arith, long, prefix_far is_word_byte w rest all);
       same = λ eq.
-        let is : front ≡ w = ap (λ (k : ℕ). take k (w ++ rest)) (sym long ∙ sym eq) ∙ take_at w rest (length w) refl in
-        ap (word_token w) (sym e) ∙ ap (λ (l : List ℕ). word_token l (reserved_as l)) (sym is);
+          let is : front ≡ w = ap (λ (k : ℕ). take k (w ++ rest)) (sym long ∙ sym eq) ∙ take_at w rest (length w) refl in
+          ap (word_token w) (sym e) ∙ ap (λ (l : List ℕ). word_token l (reserved_as l)) (sym is);
     }
 
 sign_covers : (bytes rest : List ℕ) (mark : Mark) → token_at (bytes ++ rest) ≡ Some (Fixed mark, length bytes) → Covers bytes rest (Fixed mark)
@@ -399,9 +399,9 @@ is_longest bytes token n e =
       within = omega (arith, ends.is, ends.within);
       is = rw e at (found bytes);
       longest = λ more other le h.
-        let c = front_covers bytes more other le h in
-        let same = pair_is c.token token c.n n (sym c.at ∙ ap token_at (take-append-drop more bytes) ∙ e) in
-        omega (arith, c.far, same.1, length-take-le more bytes le);
+          let c = front_covers bytes more other le h in
+          let same = pair_is c.token token c.n n (sym c.at ∙ ap token_at (take-append-drop more bytes) ∙ e) in
+          omega (arith, c.far, same.1, length-take-le more bytes le);
     }
 
 is_taken : (bytes : List ℕ) (token : Token) (n : ℕ) → IsLongest bytes token n → token_at bytes ≡ Some (token, n)

@@ -10,7 +10,9 @@ use Rattle.job_text.specs.declared.job.Dataset.{Dataset}
 use Rattle.job_text.specs.declared.job.Part.{Part}
 use Rattle.job_text.specs.Columns.{with_names}
 use Rattle.job_text.specs.Jobs.{IsShortList, IsPart, IsDistinct, IsColumns, IsShape, IsQuery, AreMade, IsJob, shape_places, dataset_places}
-use Rattle.job_text.specs.Grammar.{WrittenColumn, WrittenKey, WrittenAgg, WrittenShape, WrittenJob, name_of, IsShortColumn, IsShortAgg, AreColumns, AreAggs, IsShapeRight, IsFilterRight, IsSourceRight, AreDatasets, IsQueryRight, IsRight, WrittenSource, WrittenFilter, WrittenDataset, dataset_uses, filter_uses, where_written, source_written, keep_written, dataset_written, query_written, job_written, separated, ended_by, names_written, source_meant, from_meant, dataset_meant, agg_of, agg_column, agg_named, column_names, agg_names, shape_names, query_names, job_names, column_meant, key_meant, agg_meant, shape_meant, query_meant, job_meant}
+use Rattle.job_text.specs.Grammar.{WrittenColumn, WrittenKey, WrittenAgg, WrittenShape, WrittenJob, WrittenSource, WrittenFilter, WrittenDataset, where_written, source_written, keep_written, dataset_written, query_written, job_written, separated, ended_by}
+use Rattle.job_text.specs.Rules.{name_of, IsShortColumn, IsShortAgg, AreColumns, AreAggs, IsShapeRight, IsFilterRight, IsSourceRight, AreDatasets, IsQueryRight, IsRight, dataset_uses, filter_uses, names_written, agg_of, agg_column, agg_named, column_names, agg_names, shape_names, query_names, job_names}
+use Rattle.job_text.specs.Meaning.{source_meant, from_meant, dataset_meant, column_meant, key_meant, agg_meant, shape_meant, query_meant, job_meant}
 use Rattle.job_text.specs.Grammar.{count, sum_of, min_of, max_of, group, order, input, by_name}
 use Rattle.job_text.proofs.Fresh.{name_at}
 use Rattle.aggregate.specs.Partial.{fits_i64}

@@ -26,7 +26,9 @@ use Rattle.job_text.specs.Columns.{place_of, is_among, dataset_names, with_names
 use Rattle.job_text.specs.FilterForms.{filter_places, IsFilter}
 use Rattle.job_text.specs.FilterPrinting.{filter_tokens}
 use Rattle.job_text.specs.Jobs.{IsShortList, IsPart, IsDistinct, IsColumns, IsShape, IsJob, is_count, shape_places, dataset_places, columns_named}
-use Rattle.job_text.specs.Grammar.{WrittenColumn, WrittenKey, WrittenAgg, WrittenShape, WrittenSource, WrittenFilter, WrittenDataset, WrittenQuery, WrittenJob, column_written, key_written, agg_written, shape_written, source_written, from_written, where_written, keep_written, dataset_written, query_written, job_written, optional, separated, ended_by, name_of, IsShortColumn, IsShortAgg, AreColumns, AreAggs, IsShapeRight, IsSourceRight, IsFilterRight, AreDatasets, IsQueryRight, IsRight, names_written, agg_named, column_names, agg_names, shape_names, query_names, filter_uses, dataset_uses, job_names, column_meant, key_meant, agg_meant, shape_meant, source_meant, from_meant, dataset_meant, query_meant, job_meant}
+use Rattle.job_text.specs.Grammar.{WrittenColumn, WrittenKey, WrittenAgg, WrittenShape, WrittenSource, WrittenFilter, WrittenDataset, WrittenQuery, WrittenJob, column_written, key_written, agg_written, shape_written, source_written, from_written, where_written, keep_written, dataset_written, query_written, job_written, optional, separated, ended_by}
+use Rattle.job_text.specs.Rules.{name_of, IsShortColumn, IsShortAgg, AreColumns, AreAggs, IsShapeRight, IsSourceRight, IsFilterRight, AreDatasets, IsQueryRight, IsRight, names_written, agg_named, column_names, agg_names, shape_names, query_names, filter_uses, dataset_uses, job_names}
+use Rattle.job_text.specs.Meaning.{column_meant, key_meant, agg_meant, shape_meant, source_meant, from_meant, dataset_meant, query_meant, job_meant}
 use Rattle.job_text.specs.Grammar.{word, in_quotes, count, sum_of, min_of, max_of, group, order, input, by_name}
 use Rattle.job_text.specs.Printing.{place_tokens, part_tokens, key_tokens, shape_tokens}
 use Rattle.job_text.specs.JobPrinting.{source_token, where_tokens, dataset_tokens, from_tokens, query_tokens, job_tokens}

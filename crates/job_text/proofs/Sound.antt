@@ -28,7 +28,9 @@ use Rattle.job_text.specs.Columns.{place_of, dataset_names, is_among, number_of,
 use Rattle.job_text.specs.Step.{step, start, query_of, counted, key, named, after_mark, after_query, after_group_columns, after_part, after_parts, after_keys, after_key_column, after_order_columns, after_source, after_start, after_name, after_equals, after_parent, after_made, after_keep, after_word, after_quoted, after_constant, filter_ended, filtered, in_filter, dataset_ended, input_as, made_from, ended, after_column, one_more, last_query}
 use Rattle.job_text.specs.Begins.{steps, job_with, job_at, job_of}
 use Rattle.job_text.specs.Jobs.{IsDistinct, is_count}
-use Rattle.job_text.specs.Grammar.{WrittenColumn, WrittenKey, WrittenAgg, WrittenShape, WrittenSource, WrittenFilter, WrittenDataset, IsFilterRight, where_written, keep_written, filter_uses, dataset_uses, query_names, WrittenQuery, WrittenJob, IsSourceRight, IsDatasetRight, AreDatasets, IsQueryRight, names_written, ended_by, source_written, level_written, dataset_written, column_written, key_written, agg_written, shape_written, query_written, job_written, optional, separated, name_of, IsShortColumn, IsShortAgg, AreColumns, AreAggs, IsShapeRight, IsRight, agg_of, agg_column, agg_named, column_meant, key_meant, agg_meant}
+use Rattle.job_text.specs.Grammar.{WrittenColumn, WrittenKey, WrittenAgg, WrittenShape, WrittenSource, WrittenFilter, WrittenDataset, where_written, keep_written, WrittenQuery, WrittenJob, ended_by, source_written, level_written, dataset_written, column_written, key_written, agg_written, shape_written, query_written, job_written, optional, separated}
+use Rattle.job_text.specs.Rules.{IsFilterRight, filter_uses, dataset_uses, query_names, IsSourceRight, IsDatasetRight, AreDatasets, IsQueryRight, names_written, name_of, IsShortColumn, IsShortAgg, AreColumns, AreAggs, IsShapeRight, IsRight, agg_of, agg_column, agg_named}
+use Rattle.job_text.specs.Meaning.{column_meant, key_meant, agg_meant}
 use Rattle.job_text.specs.Grammar.{word, in_quotes, count, sum_of, min_of, max_of, group, order, input, by_name}
 use Rattle.job_text.specs.Printing.{agg_mark}
 use Rattle.row_filter.specs.declared.filter.Filter.{Filter}

@@ -24,7 +24,9 @@ use Rattle.job_text.specs.Columns.{place_of, dataset_names, with_name, with_name
 use Rattle.job_text.specs.Step.{step, start, query_of, made_from, after_word, after_quoted, filter_ended, counted, key, named, after_mark, after_column, one_more}
 use Rattle.job_text.specs.Begins.{steps, job_at, job_of}
 use Rattle.job_text.specs.Jobs.{IsShortList, IsDistinct, IsColumns, IsShape}
-use Rattle.job_text.specs.Grammar.{WrittenColumn, WrittenKey, WrittenAgg, WrittenShape, WrittenSource, WrittenFilter, WrittenDataset, IsFilterRight, where_written, filter_uses, dataset_uses, WrittenQuery, WrittenJob, IsSourceRight, IsDatasetRight, AreDatasets, IsQueryRight, IsRight, names_written, ended_by, source_written, keep_written, dataset_written, source_meant, from_meant, dataset_meant, column_written, key_written, agg_written, shape_written, from_written, query_written, job_written, optional, separated, name_of, column_names, agg_names, shape_names, query_names, job_names, column_meant, key_meant, agg_meant, shape_meant, query_meant, job_meant}
+use Rattle.job_text.specs.Grammar.{WrittenColumn, WrittenKey, WrittenAgg, WrittenShape, WrittenSource, WrittenFilter, WrittenDataset, where_written, WrittenQuery, WrittenJob, ended_by, source_written, keep_written, dataset_written, column_written, key_written, agg_written, shape_written, from_written, query_written, job_written, optional, separated}
+use Rattle.job_text.specs.Rules.{IsFilterRight, filter_uses, dataset_uses, IsSourceRight, IsDatasetRight, AreDatasets, IsQueryRight, IsRight, names_written, name_of, column_names, agg_names, shape_names, query_names, job_names}
+use Rattle.job_text.specs.Meaning.{source_meant, from_meant, dataset_meant, column_meant, key_meant, agg_meant, shape_meant, query_meant, job_meant}
 use Rattle.job_text.specs.Grammar.{word, in_quotes, count, sum_of, min_of, max_of, group, order, input, by_name}
 use Rattle.job_text.proofs.Fresh.{name_at}
 use Rattle.std.specs.Option.{option_map}

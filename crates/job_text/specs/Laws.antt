@@ -4,7 +4,7 @@ use Rattle.std.specs.Prelude.{◌≡◌, ◌↔◌, List, Some}
 use Rattle.job_text.specs.declared.token.Token.{Token}
 use Rattle.job_text.specs.declared.job.Job.{Job}
 use Rattle.job_text.specs.Begins.{job_of}
-use Rattle.job_text.specs.Grammar.{IsWritten}
+use Rattle.job_text.specs.Meaning.{IsWritten}
 use Rattle.job_text.specs.Jobs.{IsJob}
 use Rattle.job_text.specs.JobPrinting.{job_tokens}
 

@@ -7,6 +7,8 @@ pub mod FilterGrammar
 pub mod FilterForms
 pub mod Jobs
 pub mod Grammar
+pub mod Rules
+pub mod Meaning
 pub mod Step
 pub mod Begins
 pub mod Text
