@@ -1,15 +1,16 @@
 // Runs that are read side by side.
 ghost use Rattle.std.specs.Prelude.{◌≡◌, IfOk};
 
-use crate::tests::entries::put_run;
+use crate::tests::entries::{put_run, three_entries};
 use crate::tests::lists::{
     Pair, all_sorted, all_summed, group_of, lists_of, page_of, page_of_text, put_lists,
 };
 use crate::tests::merging::{drained, other_step};
+use crate::tests::runs::put_damaged;
 use aggregate::{Agg, Kind};
 use row_page::Page;
 use run_file::{Run, RunFault};
-use spill_disk::{Disk, MemoryDisk};
+use spill_disk::{Disk, MemoryDisk, VeilDisk};
 use std::alloc::Global;
 use std::test::Fail;
 
@@ -160,6 +161,39 @@ fn a_short_file_is_damaged_with_its_place(rt: HostRuntime) -> Result<(), Fail> {
         advance=00000001630000001000000000000000000000000000000001 advance=damaged:7:1:3:2";
     let other = other_step(alloc, &mut disk, &[whole, cut], &Kind::Order, steps)?;
     assert_eq!(rt; other, None);
+    Ok(())
+}
+
+// The first step that a merge of the three entries' run and one of another length answers otherwise.
+fn damaged_otherwise<D: Disk>(
+    alloc: Global,
+    disk: &mut D,
+    length: u32,
+) -> Result<Option<String>, Fail> {
+    let whole = put_run(disk, 0, &three_entries(alloc)?)?;
+    let damaged = put_damaged(alloc, disk, length)?;
+    let steps = "advance=00000001610000000131 advance=00000001610000000131 \
+        advance=damaged:0:1:3:1";
+    other_step(alloc, disk, &[whole, damaged], &Kind::Order, steps)
+}
+
+#[test]
+fn a_length_that_is_another_is_damage_of_its_run(rt: HostRuntime) -> Result<(), Fail> {
+    let alloc = rt.alloc();
+    for length in [0u32, 13, u32::MAX] {
+        let mut told = MemoryDisk::new(alloc, Vec::new(alloc));
+        let mut veiled = VeilDisk::new(alloc, Vec::new(alloc), Vec::new(alloc));
+        assert_eq!(rt;
+            damaged_otherwise(alloc, &mut told, length)?,
+            None,
+            "{length}"
+        );
+        assert_eq!(rt;
+            damaged_otherwise(alloc, &mut veiled, length)?,
+            None,
+            "{length}, not told"
+        );
+    }
     Ok(())
 }
 

@@ -128,8 +128,8 @@ fn a_short_file_is_damaged_and_not_ended(rt: HostRuntime) -> Result<(), Fail> {
     Ok(())
 }
 
-// Writes the run of the three entries with another length of the second one.
-fn put_damaged<D: Disk>(alloc: Global, disk: &mut D, length: u32) -> Result<Run, Fail>
+/// Writes the run of the three entries with another length of the second one.
+pub fn put_damaged<D: Disk>(alloc: Global, disk: &mut D, length: u32) -> Result<Run, Fail>
     ensures { IfOk result (λ run. run.disk ≡ 0) }
 {
     let mut bytes = three_entries(alloc)?.bytes().to_vec(alloc)?;
