@@ -220,22 +220,28 @@ fn each_limit_is_refused_at_its_token(rt: HostRuntime) -> Result<(), Fail> {
 }
 
 // Parts of jobs, of which each combination is a job.
-const MADE: [&str; 6] = [
+const MADE: [&str; 9] = [
     "",
     "let d = input;",
     "let d = input where x = 1 keep memory;",
     "let c = input where not(x<2 and\"y z\">='it''s');let d=c keep disk;",
     "let c=input where (x=1 or y=2)and(x!=3 or not not y<=-4)or(z='') ; let d = c where z>'a';",
     "let e=input;let c=e where((x=1)or(y=2 or w=3));let d=c where not((x=1));",
+    "let d=input where not(not(a=0 and b=1)or not c>=-9223372036854775808)keep disk;",
+    "let b=input where\"\"='' and(x<='a'and y!='' or z!='''');let d=b keep memory;",
+    "let a=input;let b=a;let c=b;let d=c where not((a=1 or b=2)and(c=3 or d=4));",
 ];
 
-const ASKED: [&str; 6] = [
+const ASKED: [&str; 9] = [
     "group x:count",
     "group \"a b\",x:sum x,max \"a\"\"b\"",
     "order x:x",
     "order number y down,x down:z,y",
     "group x:count;order number \"count\":x",
     "order x,y,z:w;group v:min u;group u:count,sum v",
+    "group a,b,c,d,e,f,g,h:count,sum a,min a,max a,sum b,min b,max b,sum c",
+    "order number a down,b,number c,d down:a,b,c,d,e,f,g,h",
+    "group \"let\",\"\",\" \":count;order \"x y\" down:\"number\"",
 ];
 
 const OVER: [&str; 3] = ["", " from input", " from d"];
