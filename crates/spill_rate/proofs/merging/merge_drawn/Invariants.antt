@@ -3,7 +3,7 @@ use Rattle.aggregate.specs.declared.kind.Kind.TheVariants.{Order}
 use Rattle.consumer_trait.specs.States.{Rest}
 use Rattle.row_sorter.specs.Sorters.{state_of}
 use Rattle.run_merge.specs.Merging.{runs_of}
-use Rattle.run_merge.specs.Runs.{AreOn}
+use Rattle.run_file.specs.Several.{AreOn}
 use Rattle.spill_rate.proofs.merging.merge_drawn.Given as goal
 
 -- the sorter rests, the page is empty, and the runs are on the one disk
