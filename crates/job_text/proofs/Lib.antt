@@ -3,6 +3,7 @@ pub mod Fresh
 pub mod Fitting
 pub mod Viable
 pub mod Growing
+pub mod SoFar
 pub mod Sound
 pub mod Ends
 pub mod Scanning
@@ -11,8 +12,10 @@ pub mod Places
 pub mod Doubled
 pub mod Texts
 pub mod Named
+pub mod MeantShapes
 pub mod Meant
 pub mod Spelled
+pub mod WrittenQueries
 pub mod Written
 pub mod Grammars
 pub mod FilterWritten
@@ -29,8 +32,10 @@ pub mod FilterShort
 pub mod FilterUses
 pub mod Filtered
 pub mod Ranged
+pub mod PrintedShapes
 pub mod Printed
 pub mod Again
 pub mod Reread
 pub mod Printable
+pub mod Covering
 pub mod Longest
