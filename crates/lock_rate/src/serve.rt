@@ -53,7 +53,7 @@ pub fn serve_all<B: Basis + Send + Sync, R: Threads + Wait + Sync>(
 
 // Begins a task, keeps so many blocks without rows, asks for 100 bytes and gives them back in each round, and ends
 // the task.
-fn serve<B: Basis, R: Wait + Sync>(
+fn serve<B: Basis, R: Wait>(
     rt: &R,
     alloc: Global,
     manager: &Manager<MemoryDisk, B>,

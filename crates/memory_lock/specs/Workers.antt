@@ -3,14 +3,11 @@
 use Rattle.std.specs.Prelude.{ℕ, ◌≡◌, ◌≤◌, ◌+◌, ◌⊎◌, true, false, Option, Some, None, List, [], ◌∷◌, ◌++◌, length}
 use Rattle.std.specs.Arc.{arc_value}
 use Rattle.std.specs.List.{AllByRecursion}
-use mathlib.Core.List.{IsPrefix}
 use Rattle.pool_ledger.specs.declared.entry.Entry.{Entry}
-use Rattle.pool_ledger.specs.declared.entry.Event.TheVariants.{Attempt, Evict, Admit, Refused as RefusedEvent, Pin, Remove}
-use Rattle.pool_ledger.specs.declared.entry.Fate.{Fate}
-use Rattle.pool_ledger.specs.History.{History, open_task}
+use Rattle.pool_ledger.specs.declared.entry.Event.TheVariants.{Attempt, Admit, Refused as RefusedEvent, Pin, Remove}
+use Rattle.pool_ledger.specs.History.{History}
 use Rattle.pool_ledger.specs.Blocks.{is_resident, worker_pin}
 use Rattle.pool_ledger.specs.Journal.{history_of}
-use Rattle.pool_ledger.specs.Workers.{entries_of}
 use Rattle.pool_laws.specs.Growing.{entry_by}
 use Rattle.block_store.specs.declared.block.Block.{Block}
 use Rattle.memory_core.specs.declared.admission.Admission.{Admission as Answer}
@@ -20,20 +17,9 @@ use Rattle.memory_core.specs.declared.pinned.Pinned.TheVariants.{Hit, OnDisk as 
 use Rattle.memory_core.specs.Caches.{AreGiven, RowsByName}
 use Rattle.memory_core.specs.Changes.{HasPinnedAlone}
 use Rattle.turn_lock.specs.Passes.{PassState}
-
--- the worker has seen more, and nothing else of it changed
-pub record SeesMore (before after : PassState) : Type 0 where
-  pub lock_is : after.lock ≡ before.lock
-  pub number_is : after.number ≡ before.number
-  pub speaks_is : after.speaks ≡ before.speaks
-  pub spare_is : after.spare ≡ before.spare
-  pub begins : IsPrefix before.seen after.seen
+pub use Rattle.task_pool.specs.Workers.{IsEviction, IsFree, IsOpen, KeepsPin, KeepsTask, SeesMore, own_entries, own_of}
 
 -- Evictions
-
--- the entry is an eviction by the worker
-abbrev pub IsEviction : ℕ → Entry → Type 0
-IsEviction worker entry = (dataset part size : ℕ) × (fate : Fate) × (entry ≡ entry_by worker (Evict dataset part size fate))
 
 -- each of them is
 abbrev pub AreEvictions : ℕ → List Entry → Type 0
@@ -103,22 +89,6 @@ HandsRows given Miss dataset part = Unit {0}
 
 -- Workers
 
--- a worker's own entries
-abbrev pub own_entries : PassState → List Entry
-own_entries worker = entries_of worker.number worker.seen
-
--- the same, as a history
-abbrev pub own_of : PassState → History
-own_of worker = history_of (own_entries worker)
-
--- the worker has this task open
-abbrev pub IsOpen : PassState → ℕ → Type 0
-IsOpen worker task = open_task (own_of worker) worker.number ≡ Some task
-
--- the worker has no task
-abbrev pub IsFree : PassState → Type 0
-IsFree worker = open_task (own_of worker) worker.number ≡ None
-
 -- the worker has this block pinned
 abbrev pub HasPin : PassState → ℕ → ℕ → Type 0
 HasPin worker dataset part = worker_pin (own_of worker) worker.number ≡ Some (record { dataset = dataset; part = part })
@@ -126,14 +96,6 @@ HasPin worker dataset part = worker_pin (own_of worker) worker.number ≡ Some (
 -- the worker has no block pinned
 abbrev pub HasNoPin : PassState → Type 0
 HasNoPin worker = worker_pin (own_of worker) worker.number ≡ None
-
--- its task is open as before, if it has one
-abbrev pub KeepsTask : PassState → PassState → Type 0
-KeepsTask before after = open_task (own_of after) after.number ≡ open_task (own_of before) before.number
-
--- its pin is as before, if it has one
-abbrev pub KeepsPin : PassState → PassState → Type 0
-KeepsPin before after = worker_pin (own_of after) after.number ≡ worker_pin (own_of before) before.number
 
 -- its own entries are those before and these
 abbrev pub Adds : PassState → PassState → List Entry → Type 0

@@ -83,7 +83,7 @@ impl<K: Disk, B: Basis> Manager<K, B> {
 
     /// Begins a task of a worker that has none. The worker is the task's owner and has never begun it, so
     /// nobody has. After an `Err` none of the worker's entries was added.
-    pub fn begin<R: Wait + Sync>(
+    pub fn begin<R: Wait>(
         &self,
         rt: &R,
         worker: &mut Worker<B>,
@@ -114,7 +114,7 @@ impl<K: Disk, B: Basis> Manager<K, B> {
     /// Asks for bytes, 1 to 2^50, until the answer isn't to wait, and sleeps between two attempts. Each
     /// attempt has its entry, behind its evictions. After an `Err` the entries that it added are attempts that were
     /// told to wait, and evictions. A grant may be short, and then leaves the task at least the floor.
-    pub fn acquire<R: Wait + Sync>(
+    pub fn acquire<R: Wait>(
         &self,
         rt: &R,
         worker: &mut Worker<B>,
@@ -149,7 +149,7 @@ impl<K: Disk, B: Basis> Manager<K, B> {
 
     /// Gives back bytes of the worker's task, at most what it holds, and answers how many. After an `Err`
     /// none of the worker's entries was added.
-    pub fn release<R: Wait + Sync>(
+    pub fn release<R: Wait>(
         &self,
         rt: &R,
         worker: &mut Worker<B>,
@@ -177,7 +177,7 @@ impl<K: Disk, B: Basis> Manager<K, B> {
 
     /// Ends the worker's task, which frees all that it holds, and answers how much that was. It takes no
     /// memory and has no refusal.
-    pub fn end<R: Wait + Sync>(&self, rt: &R, worker: &mut Worker<B>, task: Task) -> u64
+    pub fn end<R: Wait>(&self, rt: &R, worker: &mut Worker<B>, task: Task) -> u64
         requires manager { worker.old.lock ≡ self.now }
         requires its_task { IsOpen worker.old task }
         ensures freed { result ≡ held (own_of worker.old) task }
@@ -199,7 +199,7 @@ impl<K: Disk, B: Basis> Manager<K, B> {
     /// Pins a block for a worker that has no pin, if it is in memory: no call evicts or removes it until the
     /// worker's unpin. Else reads its copy, which is then no pin, if it has one. After an `Err` none of the
     /// worker's entries was added.
-    pub fn pin<R: Wait + Sync>(
+    pub fn pin<R: Wait>(
         &self,
         rt: &R,
         worker: &mut Worker<B>,
@@ -225,7 +225,7 @@ impl<K: Disk, B: Basis> Manager<K, B> {
     }
 
     /// Gives the worker's pin back. It takes no memory and has no refusal.
-    pub fn unpin<R: Wait + Sync>(&self, rt: &R, worker: &mut Worker<B>, dataset: u32, part: u32)
+    pub fn unpin<R: Wait>(&self, rt: &R, worker: &mut Worker<B>, dataset: u32, part: u32)
         requires manager { worker.old.lock ≡ self.now }
         requires its_pin { HasPin worker.old dataset part }
         ensures adds { Adds worker.old worker.new (entry_by worker.old.number (Unpin dataset part) ∷ []) }
@@ -244,7 +244,7 @@ impl<K: Disk, B: Basis> Manager<K, B> {
     /// Keeps a block in memory that isn't there, if there is room: what storage has free, what it can borrow,
     /// and what blocks of other datasets give that no pin keeps. After an `Err` none of the worker's entries was
     /// added.
-    pub fn admit<R: Wait + Sync>(
+    pub fn admit<R: Wait>(
         &self,
         rt: &R,
         worker: &mut Worker<B>,
@@ -269,7 +269,7 @@ impl<K: Disk, B: Basis> Manager<K, B> {
 
     /// Removes the blocks of a dataset that no pin keeps, ascending by part, and forgets all its copies. After
     /// an `Err` none of the worker's entries was added.
-    pub fn remove<R: Wait + Sync>(
+    pub fn remove<R: Wait>(
         &self,
         rt: &R,
         worker: &mut Worker<B>,
@@ -293,7 +293,7 @@ impl<K: Disk, B: Basis> Manager<K, B> {
 
     // One attempt. Where it raises the wake-up count, what was seen of it rises with it: a task doesn't wake for
     // its own first attempt.
-    fn attempt<R: Wait + Sync>(
+    fn attempt<R: Wait>(
         &self,
         rt: &R,
         worker: &mut Worker<B>,

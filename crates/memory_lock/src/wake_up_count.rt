@@ -30,7 +30,7 @@ impl WakeUpCount {
     }
 
     // Raises it, and wakes all that wait for that.
-    pub(crate) fn raise<R: Wait + Sync>(&self, rt: &R) {
+    pub(crate) fn raise<R: Wait>(&self, rt: &R) {
         self.count.fetch_add(1, Ordering::SeqCst);
         // Whoever is counted only later finds the new number. Whoever is counted has looked at it under the lock, and
         // sleeps by the time that it is free, or looks again.
@@ -41,7 +41,7 @@ impl WakeUpCount {
     }
 
     // Sleeps until it is another number than this one.
-    pub(crate) fn wait_past<R: Wait + Sync>(&self, rt: &R, seen: u64) {
+    pub(crate) fn wait_past<R: Wait>(&self, rt: &R, seen: u64) {
         self.sleepers.fetch_add(1, Ordering::SeqCst);
         let mut held = self.lock.lock(rt);
         for _ in rt.forever() {

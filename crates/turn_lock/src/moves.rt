@@ -19,7 +19,7 @@ use std::thread;
 const LOOKS: u32 = 60;
 
 // Waits for the turn, and takes the value. The slot stays behind with None.
-pub(crate) fn take_value<V: Kept<B>, B, R: Wait + Sync>(
+pub(crate) fn take_value<V: Kept<B>, B, R: Wait>(
     rt: &R,
     turns: &Shared<Option<V>, View, (), Turns<B>>,
     sleepers: &AtomicU64,
@@ -48,7 +48,7 @@ pub(crate) fn take_value<V: Kept<B>, B, R: Wait + Sync>(
 }
 
 // Looks a while whether the turn is free, and then sleeps until it may be: most turns are shorter than a sleep.
-fn wait_for_turn<V: Kept<B>, B, R: Wait + Sync>(
+fn wait_for_turn<V: Kept<B>, B, R: Wait>(
     rt: &R,
     turns: &Shared<Option<V>, View, (), Turns<B>>,
     sleepers: &AtomicU64,

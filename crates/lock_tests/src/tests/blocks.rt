@@ -49,7 +49,7 @@ fn page_of(alloc: Global, byte: u8, count: u8) -> Result<Page, AllocError> {
 }
 
 // Keeps a block.
-fn keep<B: Basis, R: Wait + Sync>(
+fn keep<B: Basis, R: Wait>(
     rt: &R,
     manager: &Manager<MemoryDisk, B>,
     worker: &mut Worker<B>,
@@ -67,7 +67,7 @@ fn keep<B: Basis, R: Wait + Sync>(
 }
 
 // Pins the block that is named like this one, and gives the pin back.
-fn look<B: Basis, R: Wait + Sync>(
+fn look<B: Basis, R: Wait>(
     rt: &R,
     manager: &Manager<MemoryDisk, B>,
     worker: &mut Worker<B>,
@@ -110,7 +110,7 @@ fn kept_word(answer: Admission) -> &'static str {
 }
 
 // A step that keeps a block or looks for one, and what it is answered.
-pub fn take_block_step<B: Basis, R: Wait + Sync>(
+pub fn take_block_step<B: Basis, R: Wait>(
     rt: &R,
     alloc: Global,
     manager: &Manager<MemoryDisk, B>,
@@ -134,7 +134,7 @@ pub fn take_block_step<B: Basis, R: Wait + Sync>(
 }
 
 // Steps that keep blocks or look for them.
-fn take_block_steps<B: Basis, R: Wait + Sync>(
+fn take_block_steps<B: Basis, R: Wait>(
     rt: &R,
     alloc: Global,
     manager: &Manager<MemoryDisk, B>,
@@ -158,7 +158,7 @@ fn take_block_steps<B: Basis, R: Wait + Sync>(
 }
 
 // Asks for these bytes, one after the other.
-fn ask_all<B: Basis, R: Wait + Sync>(
+fn ask_all<B: Basis, R: Wait>(
     rt: &R,
     manager: &Manager<MemoryDisk, B>,
     worker: &mut Worker<B>,
@@ -187,7 +187,7 @@ fn put_grant(notes: &mut String, got: u64) -> Result<(), AllocError> {
 }
 
 // A task that asks for these bytes and ends.
-fn spend<B: Basis, R: Wait + Sync>(
+fn spend<B: Basis, R: Wait>(
     rt: &R,
     manager: &Manager<MemoryDisk, B>,
     worker: &mut Worker<B>,
@@ -211,7 +211,7 @@ fn spend<B: Basis, R: Wait + Sync>(
 }
 
 // Two blocks, the first of which was used last when tasks ask: it has 250 bytes, and the second 200.
-fn use_blocks<B: Basis, R: Wait + Sync>(
+fn use_blocks<B: Basis, R: Wait>(
     rt: &R,
     alloc: Global,
     manager: &Manager<MemoryDisk, B>,
@@ -240,7 +240,7 @@ fn use_blocks<B: Basis, R: Wait + Sync>(
 }
 
 // The same blocks, the first of which was used first when a task asks.
-fn use_copy<B: Basis, R: Wait + Sync>(
+fn use_copy<B: Basis, R: Wait>(
     rt: &R,
     alloc: Global,
     manager: &Manager<MemoryDisk, B>,
@@ -261,7 +261,7 @@ fn use_copy<B: Basis, R: Wait + Sync>(
     Ok(())
 }
 
-fn use_either<B: Basis, R: Wait + Sync>(
+fn use_either<B: Basis, R: Wait>(
     rt: &R,
     alloc: Global,
     manager: &Manager<MemoryDisk, B>,
@@ -287,7 +287,7 @@ fn use_either<B: Basis, R: Wait + Sync>(
 
 /// The journal of one worker that keeps two blocks, how many files its store disk made, and what it was answered: the
 /// first of them is used again before tasks ask, or not.
-pub fn keep_blocks<B: Basis, R: Wait + Sync>(
+pub fn keep_blocks<B: Basis, R: Wait>(
     rt: &R,
     alloc: Global,
     setup: Setup,

@@ -81,7 +81,7 @@ fn begin(worker: u32, task: u32) -> Entry
 }
 
 // Adds these entries, each in a turn of its own.
-fn add_all<R: Wait + Sync>(
+fn add_all<R: Wait>(
     rt: &R,
     lock: &TurnLock<Book, Brand>,
     mut pass: Pass<Brand>,
@@ -151,7 +151,7 @@ fn add_both<R: Threads + Wait + Sync>(
 }
 
 // Takes turns until the last entry is another worker's, and then adds one behind it.
-fn add_behind_other<R: Wait + Sync>(
+fn add_behind_other<R: Wait>(
     rt: &R,
     lock: &TurnLock<Book, Brand>,
     pass: &mut Pass<Brand>,
@@ -177,7 +177,7 @@ fn add_behind_other<R: Wait + Sync>(
 }
 
 // Adds so many entries, each behind one of the other worker.
-fn add_alternately<R: Wait + Sync>(
+fn add_alternately<R: Wait>(
     rt: &R,
     lock: &TurnLock<Book, Brand>,
     mut pass: Pass<Brand>,
@@ -256,7 +256,7 @@ fn one_thread_takes_turns_with_two_passes(rt: HostRuntime) -> Result<(), Fail> {
 }
 
 // Takes the book and gives it back, and compares what stood in it.
-fn look<R: Wait + Sync + Abort>(
+fn look<R: Wait + Abort>(
     rt: &R,
     alloc: Global,
     lock: &TurnLock<Book, Brand>,

@@ -127,7 +127,7 @@ fn put_two<B: Basis>(
 }
 
 /// The journal of one worker alone, and what it knows.
-pub fn share_one<B: Basis, R: Wait + Sync>(
+pub fn share_one<B: Basis, R: Wait>(
     rt: &R,
     alloc: Global,
     setup: Setup,

@@ -16,11 +16,11 @@ impl Sign {
         }
     }
 
-    pub fn is_up<R: Wait + Sync>(&self, rt: &R) -> bool {
+    pub fn is_up<R: Wait>(&self, rt: &R) -> bool {
         *self.is_up.lock(rt)
     }
 
-    pub fn raise<R: Wait + Sync>(&self, rt: &R) {
+    pub fn raise<R: Wait>(&self, rt: &R) {
         let mut is_up = self.is_up.lock(rt);
         *is_up = true;
         drop(is_up);
@@ -28,7 +28,7 @@ impl Sign {
     }
 
     // Sleeps until it is up.
-    pub fn wait<R: Wait + Sync>(&self, rt: &R) {
+    pub fn wait<R: Wait>(&self, rt: &R) {
         let mut is_up = self.is_up.lock(rt);
         for _ in rt.forever() {
             if *is_up {
@@ -67,7 +67,7 @@ impl Signs {
         }
     }
 
-    pub fn raise_all<R: Wait + Sync>(&self, rt: &R) {
+    pub fn raise_all<R: Wait>(&self, rt: &R) {
         self.ready.raise(rt);
         self.taken.raise(rt);
         self.granted.raise(rt);

@@ -26,7 +26,7 @@ pub fn number(text: &str) -> u32 {
 }
 
 // Bytes for a task. Its worker knows from what it has seen that they are the rules' answer, before the manager is closed.
-fn acquire<B: Basis, R: Wait + Sync>(
+fn acquire<B: Basis, R: Wait>(
     rt: &R,
     manager: &Manager<MemoryDisk, B>,
     worker: &mut Worker<B>,
@@ -48,7 +48,7 @@ fn acquire<B: Basis, R: Wait + Sync>(
 }
 
 // An ask. The event is what its caller knows of it: not what moved from storage.
-fn ask<B: Basis, R: Wait + Sync>(
+fn ask<B: Basis, R: Wait>(
     rt: &R,
     manager: &Manager<MemoryDisk, B>,
     worker: &mut Worker<B>,
@@ -73,7 +73,7 @@ fn ask<B: Basis, R: Wait + Sync>(
     })
 }
 
-fn give_back<B: Basis, R: Wait + Sync>(
+fn give_back<B: Basis, R: Wait>(
     rt: &R,
     manager: &Manager<MemoryDisk, B>,
     worker: &mut Worker<B>,
@@ -95,7 +95,7 @@ fn give_back<B: Basis, R: Wait + Sync>(
 }
 
 // Asks for a byte more, and gives it back, until another task counts, so that none is granted, or this sign is up.
-fn probe<B: Basis, R: Wait + Sync>(
+fn probe<B: Basis, R: Wait>(
     rt: &R,
     manager: &Manager<MemoryDisk, B>,
     worker: &mut Worker<B>,
@@ -120,7 +120,7 @@ fn probe<B: Basis, R: Wait + Sync>(
 }
 
 // Takes a step that isn't an ask or a release.
-fn take_other<B: Basis, R: Wait + Sync>(
+fn take_other<B: Basis, R: Wait>(
     rt: &R,
     alloc: Global,
     manager: &Manager<MemoryDisk, B>,
@@ -154,7 +154,7 @@ fn take_other<B: Basis, R: Wait + Sync>(
 }
 
 // Takes a step, and notes an entry for an ask or a release.
-fn take_step<B: Basis, R: Wait + Sync>(
+fn take_step<B: Basis, R: Wait>(
     rt: &R,
     alloc: Global,
     manager: &Manager<MemoryDisk, B>,
@@ -188,7 +188,7 @@ fn take_step<B: Basis, R: Wait + Sync>(
     Ok(())
 }
 
-fn take_steps<B: Basis, R: Wait + Sync>(
+fn take_steps<B: Basis, R: Wait>(
     rt: &R,
     alloc: Global,
     manager: &Manager<MemoryDisk, B>,
@@ -214,7 +214,7 @@ fn take_steps<B: Basis, R: Wait + Sync>(
 
 /// A new worker's thread: it begins its one task, whose number is the worker's, plays the script and ends the task. What it
 /// answers is the worker, and an entry for each of the task's calls, but for waits.
-pub fn play<B: Basis, R: Wait + Sync>(
+pub fn play<B: Basis, R: Wait>(
     rt: &R,
     alloc: Global,
     manager: &Manager<MemoryDisk, B>,
@@ -233,7 +233,7 @@ pub fn play<B: Basis, R: Wait + Sync>(
     played
 }
 
-fn play_task<B: Basis, R: Wait + Sync>(
+fn play_task<B: Basis, R: Wait>(
     rt: &R,
     alloc: Global,
     manager: &Manager<MemoryDisk, B>,

@@ -1,0 +1,4 @@
+pub mod Accounts
+pub mod Asks
+pub mod Pools
+pub mod Workers
