@@ -1,7 +1,7 @@
 -- What contracts see of a disk in a folder: its counts, and the files that it has open. They don't see the bytes
 -- of a file.
 -- This project's own.
-use Rattle.std.specs.Prelude.{◌≡◌, ◌≢◌, ℕ, ◌-◌, List, [], ◌++◌, length, nat_le, nat_eq, if◌then◌else◌, Option, Some, None, ⊤, ◌⊎◌}
+use Rattle.std.specs.Prelude.{◌≡◌, ◌≢◌, ℕ, ◌-◌, List, [], ◌++◌, length, nat_le, nat_eq, slice_get, if◌then◌else◌, Option, Some, None, ⊤, ◌⊎◌}
 use Rattle.std.specs.Option.{option_map_or}
 use Rattle.indexmap.specs.IndexMap.{IndexMap, get}
 use Rattle.spill_disk.specs.declared.folder_disk.FolderDisk.{FolderDisk}
@@ -64,3 +64,9 @@ GivesAgain None after place count = ⊤
 GivesAgain (Some opened) None place count = ⊥
 GivesAgain (Some opened) (Some later) place count = Covers opened.ahead_at opened.ahead.items place count
     → (later.ahead_at ≡ opened.ahead_at) × (later.ahead.items ≡ opened.ahead.items)
+
+-- the file stands at this place among the open ones
+pub record IsOpenAt {F S : Type 0} (kept : IndexMap ℕ (Opened F) S) (file at : ℕ) : Type 0 where
+  pub opened : Opened F
+  pub entry : slice_get kept.entries at ≡ Some (file, opened)
+  pub found : get nat_eq kept file ≡ Some opened

@@ -4,9 +4,10 @@ ghost use Rattle.std.specs.Prelude.{◌≡◌, ◌≢◌, ◌<◌, ◌≤◌, �
 ghost use Rattle.indexmap.specs.IndexMap.{get, spare, Updates};
 ghost use Rattle.fault_count.specs.Faults.{CountsAt, HasCauseAt};
 ghost use Rattle.spill_disk.specs.Ahead.{Covers};
-ghost use Rattle.spill_disk.specs.Folder.{folder_faults, folder_next, open_of, collected_of, collected_in, collected_with, IsNew, HoldsOthers, Gives, GivesAgain, IsAhead, StaysOpen};
+ghost use Rattle.spill_disk.specs.Folder.{folder_faults, folder_next, open_of, collected_of, collected_in, collected_with, IsNew, HoldsOthers, Gives, GivesAgain, IsAhead, IsOpenAt, StaysOpen};
 
 use crate::opened::Opened;
+use crate::places::{PLACES, place_of};
 use crate::{Disk, DiskError};
 use indexmap::IndexMap;
 use std::alloc::{AllocError, Global};
@@ -32,6 +33,7 @@ pub struct FolderDisk<R: Files + Drop> {
     is_made: bool,
     next: u64,
     kept: IndexMap<u64, Opened<R::File>>,
+    places: [u8; PLACES],
     faults: u64,
 }
 
@@ -49,6 +51,7 @@ impl<R: Files + Drop> FolderDisk<R> {
             is_made: false,
             next: 0,
             kept: IndexMap::new(alloc),
+            places: [0; PLACES],
             faults: 0,
         }
     }
@@ -147,6 +150,7 @@ impl<R: Files + Drop> Disk for FolderDisk<R> {
             self.alloc,
             self.folder.as_str(),
             &mut self.kept,
+            &mut self.places,
             file,
             place,
             buf,
@@ -313,6 +317,7 @@ fn read_in<R: Files + Drop>(
     alloc: Global,
     folder: &str,
     kept: &mut IndexMap<u64, Opened<R::File>>,
+    places: &mut [u8; PLACES],
     number: u64,
     place: u64,
     buf: &mut [u8],
@@ -328,13 +333,39 @@ fn read_in<R: Files + Drop>(
         → IsAhead (get nat_eq kept.old number) place (length buf.old) → length buf.old < 65536
         → IsOk result }
 {
-    if let Some(opened) = kept.get_mut(&number) {
-        return opened.read_at(place, buf);
+    if let Some(at) = place_of(kept, places, number) {
+        return read_open(kept, at, number, place, buf);
     }
     let mut opened = open_file(rt, alloc, folder, false, kept, number)?;
     let read = opened.read_at(place, buf);
     keep_open(kept, number, opened);
     read
+}
+
+/// Reads from a file that stands there among the open ones.
+fn read_open<F: Read + Write + Seek + Drop>(
+    kept: &mut IndexMap<u64, Opened<F>>,
+    at: usize,
+    number: u64,
+    place: u64,
+    buf: &mut [u8],
+) -> Result<usize, DiskError>
+    requires open { IsOpenAt kept.old number at }
+    ensures bound { IfOk result (λ count. count ≤ length buf.old) }
+    ensures collected { OnOk result (collected_in kept.new number ≡ []) }
+    ensures given { length buf.old < 65536
+        → IfOk result (Gives (get nat_eq kept.new number) place buf.old buf.new) }
+    ensures again { OnOk result
+        (GivesAgain (get nat_eq kept.old number) (get nat_eq kept.new number) place (length buf.old)) }
+    ensures others { HoldsOthers kept.old kept.new number }
+    ensures still { collected_in kept.old number ≡ []
+        → IsAhead (get nat_eq kept.old number) place (length buf.old) → length buf.old < 65536
+        → IsOk result }
+{
+    let Some(opened) = kept.get_index_mut(at) else {
+        unreachable!()
+    };
+    opened.read_at(place, buf)
 }
 
 /// Takes a file away; one that isn't there is no fault.

@@ -6,6 +6,7 @@ mod folder_disk;
 mod has_disk;
 mod memory_disk;
 mod opened;
+mod places;
 mod shelf;
 mod slots;
 mod veil_disk;
