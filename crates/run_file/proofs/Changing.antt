@@ -86,7 +86,3 @@ same_but named before after files i file old new changed other j q apart = elim 
 pub gone_on : {D : Type 0} (named : ℕ → ℕ) (before after : ℕ → Option D) (files : D → Option Files) (i file : ℕ) (old new : D) → IsChanged named before after i old new → IsGone (files new) file → IsGoneOn named (λ j. option_and_then files (after j)) i file
 gone_on named before after files i file old new changed gone j same =
     subst (λ o. IsGone (option_and_then files o) file) (sym (changed.is j same)) gone
-
-pub fresh_on : {D : Type 0} (named : ℕ → ℕ) (before after : ℕ → Option D) (files : D → Option Files) (i file : ℕ) (old new : D) → IsChanged named before after i old new → IsGone (files old) file → IsGoneOn named (λ j. option_and_then files (before j)) i file
-fresh_on named before after files i file old new changed gone j same =
-    subst (λ o. IsGone (option_and_then files o) file) (sym (changed.was j same)) gone

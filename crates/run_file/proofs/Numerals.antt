@@ -1,5 +1,5 @@
 -- What `parse` reads, by the definition of numbers.
-use Rattle.std.proofs.Common.{◌≡◌, ◌<◌, ◌∷◌, [], ℕ, zero, suc, ◌^◌, List, None, Ok, Err, Bool, true, false, length, refl, inl, inr, arith, ℤ, pos, negsuc, w64, nat_lt, get_or}
+use Rattle.std.proofs.Common.{◌≡◌, ◌<◌, ◌∷◌, [], ℕ, zero, suc, ◌^◌, List, None, Ok, Err, Bool, true, false, length, refl, sym, ◌∙◌, ◌≤◌, inl, inr, arith, ℤ, pos, negsuc, w64, nat_lt, get_or}
 use Rattle.std.specs.Prelude.{◌&&◌, ◌==◌, Result}
 use Rattle.std.specs.Result.{result_ok}
 use Rattle.std.specs.Char.{is_ascii_digit}
@@ -9,7 +9,8 @@ use Rattle.std.specs.Str.Parse.{IsNumeral, ParsesSigned, digits_value, signed_di
 use Rattle.std.proofs.lemmas.Bool.{cases_Bool, ltb-true, lt-ltb, eqb-true}
 use Rattle.std.proofs.lemmas.Bool.Decides.{nat_tests}
 use Rattle.std.proofs.lemmas.Str.{IsUtf8-from_ascii}
-use Rattle.std.proofs.lemmas.Str.Parse.{IsNumeralModel, numerals_by_value, tells_all_ascii_digits}
+use Rattle.std.proofs.lemmas.Str.Parse.{IsNumeralModel, digits_value_short, numerals_by_value, tells_all_ascii_digits}
+use lib.IntN.{neg_ℤ}
 use Rattle.run_file.specs.Numbers.{fits_i64, is_number, number}
 
 model : IsNumeralModel (λ ds. all_ascii_digits ds ≡ true) (digits_value 10)
@@ -93,3 +94,27 @@ number-ascii (c ∷ cs) e = signed-ascii c cs (and-parts _ _ _ e).1
 -- what is no text spells no number
 pub no-text : (bs : List ℕ) → (IsUtf8 bs → ⊥) → None ≡ number bs
 no-text bs n = rw (not-true (is_number bs) (λ e. n (IsUtf8-from_ascii bs (number-ascii bs e)))) refl
+
+-- so small a number is in range behind a minus too
+neg-fits : (n : ℕ) → n < 2 ^ 63 → fits_i64 (neg_ℤ (pos n)) ≡ true
+neg-fits zero low = refl
+neg-fits (suc n) low = lt-ltb n (2 ^ 63) (omega (arith, low))
+
+-- a sign and so small a number are in range
+signed-fits : (bs : List ℕ) → digits_value 10 (without_leading_sign bs) < 2 ^ 63 → fits_i64 (signed_digits_value 10 bs) ≡ true
+signed-fits [] low = refl
+signed-fits (c ∷ cs) low = elim (cases_Bool (c == 45)) [
+  | inl minus ↦ rw minus (neg-fits (digits_value 10 cs) (rw minus at low))
+  | inr other ↦ rw other (lt-ltb _ (2 ^ 63) (rw other at low))
+]
+
+-- up to 18 digits, and at least one, are a number exactly where all are digits
+pub short_fits : (bs : List ℕ) → 0 < length (without_leading_sign bs) → length (without_leading_sign bs) ≤ 18 → all_ascii_digits (without_leading_sign bs) ≡ is_number bs
+short_fits bs some few = elim (cases_Bool (all_ascii_digits (without_leading_sign bs))) [
+  | inl are ↦
+      let short = digits_value_short model (without_leading_sign bs) 18 are few in
+      are ∙ sym (and-three _ _ _ (lt-ltb 0 (length (without_leading_sign bs)) some) are (signed-fits bs (omega (arith, short))))
+  | inr not ↦
+      let no : is_number bs ≡ true → ⊥ = λ e. let are = (and-parts (nat_lt 0 (length (without_leading_sign bs))) (all_ascii_digits (without_leading_sign bs)) (fits_i64 (signed_digits_value 10 bs)) e).1 in cc (not, are) in
+      not ∙ sym (not-true (is_number bs) no)
+]

@@ -1,5 +1,5 @@
 -- Calls on a shelf one after another: what they keep.
-use Rattle.std.proofs.Common.{◌≡◌, ℕ, ◌≤◌, Option, Ok, Err, refl, sym, ap, ◌∙◌, arith}
+use Rattle.std.proofs.Common.{◌≡◌, ℕ, Option, Ok, Err, refl, sym, ap, ◌∙◌, arith}
 use Rattle.std.specs.Prelude.{Result, OnOk, is_some}
 use Rattle.spill_disk.specs.Files.{Files}
 use Rattle.run_file.specs.Shelved.{LeavesFiles, KeepsShelf, file_in, SameBut}

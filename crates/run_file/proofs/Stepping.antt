@@ -1,20 +1,17 @@
 -- A reader's step: rows that are ahead are given, one by one, and no damage is told of them.
-use Rattle.std.proofs.Common.{◌≡◌, ℕ, ◌+◌, ◌<◌, Bool, true, false, List, [], ◌∷◌, ◌++◌, length, take, drop, Option, Some, None, Result, Ok, Err, refl, sym, ap, subst, ◌∙◌, append_assoc, arith}
+use Rattle.std.proofs.Common.{◌≡◌, ℕ, ◌+◌, ◌<◌, Bool, true, false, List, [], ◌∷◌, ◌++◌, take, drop, Option, Some, None, Result, Ok, Err, refl, sym, ap, subst, ◌∙◌, arith}
 use Rattle.std.specs.Prelude.{IfSome, OnOk, OnErr, IfErr}
 use Rattle.std.proofs.lemmas.List.{drop-drop, take_at, drop_at}
 use Rattle.row_page.proofs.Fronts.{one_front, front-append}
 use Rattle.row_page.specs.Grammar.{IsPieceThen, IsRow, IsPage}
-use Rattle.row_page.specs.Views.{fields_in}
-use Rattle.row_page.specs.declared.row_view.RowView.{RowView}
 use Rattle.spill_disk.specs.Files.{Files, bytes_of}
 use Rattle.run_file.specs.declared.run.Run.{Run}
 use Rattle.run_file.specs.declared.run.RunFault.{RunFault}
 use Rattle.run_file.specs.declared.run.RunFault.TheVariants.{DiskFault, Damaged, NoMemory}
 use Rattle.run_file.specs.Causes.{damage_by}
-use Rattle.run_file.specs.Forms.{IsWellFormed}
-use Rattle.run_file.specs.Filling.{ShowsFront, BeginsRow, Takes}
-use Rattle.run_file.specs.Readers.{ReaderView, Kept, ahead_of, known_ahead}
-use Rattle.run_file.specs.Reading.{IsAtRow, IsAhead, GoesOn, GivesFirst, GivesFormed, TellsDamage, TakesRow, Moves, BeginsDamaged, ExplainsDamage, ArePage}
+use Rattle.run_file.specs.Filling.{ShowsFront, Takes}
+use Rattle.run_file.specs.Readers.{ReaderView, known_ahead}
+use Rattle.run_file.specs.Reading.{IsAhead, GoesOn, TellsDamage, Moves, BeginsDamaged, ExplainsDamage, ArePage}
 use Rattle.run_file.proofs.Reaching.{front_tells}
 
 piece_parts : (bytes piece behind : List ℕ) → IsPieceThen bytes piece behind → drop 4 bytes ≡ piece ++ behind
@@ -93,12 +90,3 @@ goes_on (Some files) new before middle after (row ∷ rows) (Ok true) same reach
         bytes = subst (λ (f : Option Files). ArePage (known_ahead f after) rows) (sym same) left_page;
       },
     )
-
--- the row that a reader went on to is the first of those that were ahead
-pub first_given : (files : Option Files) (after : ReaderView) (rows : List (List (List ℕ))) (given : RowView) → ((row : List (List ℕ)) → IsAtRow after row → fields_in given ≡ row) → GoesOn files after rows (Ok true) → GivesFirst rows (Ok (Some given))
-first_given files after [] given at went = absurd went
-first_given files after (row ∷ rows) given at went = at row went.0
-
--- the row that it lends is well formed
-pub formed_given : (before after : ReaderView) (given : RowView) → ((row : List (List ℕ)) → IsAtRow after row → fields_in given ≡ row) → after.run ≡ before.run → after.form ≡ before.form → TakesRow after (Ok true) → GivesFormed before (Ok (Some given))
-formed_given before after given at run form (row, here, formed) = rw (at row here, ← run, ← form) formed

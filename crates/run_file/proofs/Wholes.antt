@@ -1,15 +1,12 @@
 -- The rows of a run, checked one by one.
-use Rattle.std.proofs.Common.{◌≡◌, ℕ, zero, suc, ◌+◌, ◌-◌, ◌<◌, ◌≤◌, List, [], ◌∷◌, ◌++◌, length, take, drop, Option, Some, None, Result, Ok, Err, refl, sym, ap, subst, ◌∙◌, arith}
+use Rattle.std.proofs.Common.{◌≡◌, ℕ, zero, suc, ◌+◌, ◌<◌, ◌≤◌, List, [], ◌∷◌, ◌++◌, length, take, drop, Option, Some, None, Result, Ok, Err, refl, sym, ap, subst, ◌∙◌, arith}
 use Rattle.std.specs.List.{AllByRecursion}
-use Rattle.std.proofs.lemmas.List.{take-append-drop, drop-drop, take_all, take_at, length-append, length-take, length-drop, append-nil}
+use Rattle.std.proofs.lemmas.List.{drop-drop, length-append, length-take, length-drop}
 use Rattle.row_page.proofs.Fronts.{one_front, front_length}
 use Rattle.row_page.proofs.PagePlaces.{drop_front}
 use Rattle.row_page.proofs.Shown.{rows_shown}
-use Rattle.row_page.specs.Grammar.{IsPieceThen, IsRow, IsPage}
-use Rattle.row_page.specs.Reading.{rows_of}
-use Rattle.row_page.specs.Spelling.{row_length}
-use Rattle.row_page.specs.Pages.{PageView}
-use Rattle.spill_disk.specs.Files.{Files, bytes_of}
+use Rattle.row_page.specs.Grammar.{IsPieceThen, IsPage}
+use Rattle.spill_disk.specs.Files.{Files}
 use Rattle.run_file.specs.declared.run.Run.{Run}
 use Rattle.run_file.specs.declared.run.RunFault.{RunFault}
 use Rattle.run_file.specs.declared.form.Form.{Form}
@@ -18,8 +15,8 @@ use Rattle.run_file.specs.Causes.{HasCauseOn, NoDiskFault}
 use Rattle.run_file.specs.Filling.{BeginsRow}
 use Rattle.run_file.specs.Forms.{HasForm, IsWellFormed}
 use Rattle.run_file.specs.Reading.{BeginsDamaged}
-use Rattle.run_file.specs.Runs.{Stands, Counts, greatest_cost}
-use Rattle.run_file.specs.Whole.{AreRowsOf, BeginsRows, GivesPage, ReadsRun, UsesAll}
+use Rattle.run_file.specs.Runs.{Stands, greatest_cost}
+use Rattle.run_file.specs.Whole.{AreRowsOf, BeginsRows, ReadsRun}
 use Rattle.run_file.proofs.Reaching.{front_cut}
 use Rattle.run_file.proofs.Writing.{is_page-append}
 
@@ -30,14 +27,6 @@ pub record Checked (form : Form) (run : Run) (bytes : List ℕ) (at found : ℕ)
   pub few : found ≤ run.count
   pub left : (all : List (List (List ℕ))) → AreRowsOf form run bytes all
       → (rest : List (List (List ℕ))) × IsPage (drop at bytes) rest × (length rest + found ≡ run.count) × AllByRecursion (IsWellFormed form run.greatest) rest
-
-pub none_checked : (form : Form) (run : Run) (bytes : List ℕ) → Checked form run bytes 0 0
-none_checked form run bytes = record {
-  begins = record { rows = []; page = refl; count_is = refl; formed = tt };
-  inside = omega arith;
-  few = omega arith;
-  left = λ all are. (all, are.page, omega (arith, are.count), are.formed);
-}
 
 -- the first piece of bytes, and nothing behind it
 piece_alone : (bytes piece behind : List ℕ) → IsPieceThen bytes piece behind → IsPieceThen (take (4 + length piece) bytes) piece []

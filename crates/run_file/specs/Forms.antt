@@ -1,8 +1,8 @@
 -- Which rows a reader takes: entries of a query, or landed rows.
 -- This project's own.
 use Rattle.std.specs.Prelude.{◌≡◌, ℕ, ◌+◌, ◌≤◌, IsTrue, List, [], length, slice_index, slice_index_or, EachIndex}
+use Rattle.row_page.specs.Grammar.{ArePieces, IsRow}
 use Rattle.row_page.specs.Spelling.{row_length}
-use Rattle.aggregate.specs.declared.kind.Kind.{Kind}
 pub use Rattle.aggregate.specs.Values.{IsValueOf}
 use Rattle.run_file.specs.Numbers.{is_number}
 use Rattle.run_file.specs.declared.form.Form.{Form}
@@ -22,3 +22,11 @@ HasForm (Landed columns numbers) row =
 pub record IsWellFormed (form : Form) (greatest : ℕ) (row : List (List ℕ)) : Type 0 where
   pub has_form : HasForm form row
   pub cost : 24 + row_length row ≤ greatest
+
+-- the bytes are those of a row whose fields are of the form
+abbrev pub IsOfForm : Form → List ℕ → Type 0
+IsOfForm form bytes = (row : List (List ℕ)) × ArePieces bytes row × HasForm form row
+
+-- the bytes are those of a row that is well formed for the form, and costs at most so much
+abbrev pub IsFormed : Form → ℕ → List ℕ → Type 0
+IsFormed form greatest bytes = (row : List (List ℕ)) × IsRow bytes row × IsWellFormed form greatest row

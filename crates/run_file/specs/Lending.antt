@@ -1,6 +1,6 @@
 -- Where a reader stands once the row that it lent is no longer borrowed.
 -- This project's own.
-use Rattle.std.specs.Prelude.{◌≡◌, ℕ, List, Option, Some, None, Result, Ok, Err, Bool, true, false, ⊤}
+use Rattle.std.specs.Prelude.{ℕ, List, Option, Some, None, Result, Ok, Err, Bool, true, false, ⊤}
 use Rattle.row_page.specs.Views.{fields_in}
 use Rattle.row_page.specs.declared.row_view.RowView.{RowView}
 use Rattle.spill_disk.specs.Files.{Files}

@@ -1,6 +1,6 @@
 -- What contracts see of a reader: what it keeps of its run's file, and the bytes that are ahead of it.
 -- This project's own.
-use Rattle.std.specs.Prelude.{◌≡◌, ◌≤◌, ◌^◌, ◌-◌, ◌++◌, ℕ, min, List, length, take, drop, Option, Some, IfSome, option_map}
+use Rattle.std.specs.Prelude.{◌≤◌, ◌^◌, ◌-◌, ◌++◌, ℕ, min, List, take, drop, Option, option_map}
 use Rattle.spill_disk.specs.Files.{Files, bytes_of}
 use Rattle.run_file.specs.declared.run.Run.{Run}
 use Rattle.run_file.specs.declared.form.Form.{Form}

@@ -1,6 +1,6 @@
 -- A reader between two rows: the row that it stands at, and the rows that are ahead.
 -- This project's own.
-use Rattle.std.specs.Prelude.{◌≡◌, ◌<◌, ◌≤◌, ℕ, ◌+◌, List, [], ◌∷◌, length, take, drop, Option, Some, None, IfSome, Result, Ok, Err, true, false, ⊤}
+use Rattle.std.specs.Prelude.{◌≡◌, ◌<◌, ℕ, ◌+◌, List, [], ◌∷◌, length, Option, Some, None, IfSome, Result, Ok, Err, true, false, ⊤}
 use Rattle.std.specs.Prelude.{Bool}
 use Rattle.std.specs.List.{AllByRecursion}
 use Rattle.row_page.specs.Grammar.{IsPieceThen, IsRow, IsPage}
@@ -8,11 +8,10 @@ use Rattle.row_page.specs.Reading.{fields_of}
 use Rattle.row_page.specs.Views.{fields_in}
 use Rattle.row_page.specs.declared.row_view.RowView.{RowView}
 use Rattle.spill_disk.specs.Files.{Files}
-use Rattle.run_file.specs.declared.run.Run.{Run}
 use Rattle.run_file.specs.declared.form.Form.{Form}
 use Rattle.run_file.specs.declared.run.RunFault.{RunFault}
 use Rattle.run_file.specs.declared.run.RunFault.TheVariants.{DiskFault, Damaged, NoMemory}
-use Rattle.run_file.specs.Readers.{ReaderView, Kept, known_ahead, ahead_of, rest_of}
+use Rattle.run_file.specs.Readers.{ReaderView, known_ahead, rest_of}
 use Rattle.run_file.specs.Runs.{Stands}
 use Rattle.run_file.specs.Forms.{IsWellFormed}
 use Rattle.run_file.specs.Causes.{NotDamaged, damage_in}

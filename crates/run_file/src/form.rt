@@ -1,14 +1,16 @@
 //! Which rows a reader takes.
 
-ghost use Rattle.std.specs.Prelude.{◌≡◌, ◌+◌, ◌↔◌, [], length, slice_index, slice_index_or, EachIndex, IsTrue, IfOk};
+ghost use Rattle.std.specs.Prelude.{◌≡◌, ◌+◌, ◌<◌, ◌↔◌, [], length, slice_index, slice_index_or, EachIndex, IsTrue, IfOk};
 ghost use Rattle.row_page.specs.Views.{fields_in};
 ghost use Rattle.aggregate.specs.Values.{IsValueOf};
-ghost use Rattle.run_file.specs.Forms.{IsWellFormed, IsNumberAt};
+ghost use Rattle.run_file.specs.Forms.{IsFormed, IsOfForm, IsWellFormed};
+ghost use Rattle.run_file.specs.declared.form.Form.TheVariants.{Entries, Landed};
+ghost use Rattle.run_file.specs.Numbers.{is_number};
 
 use crate::NumberList;
 use crate::number::is_decimal;
 use aggregate::Kind;
-use row_page::RowView;
+use row_page::{RowView, split_piece};
 use std::alloc::AllocError;
 
 /// What the rows of a run are. A reader is made for a form, and takes a row of another for damage.
@@ -38,41 +40,78 @@ impl Form {
     pub fn accepts(&self, row: RowView<'_>, greatest: u64) -> bool
         ensures { IsTrue result ↔ IsWellFormed self.now greatest (fields_in row.entry) }
     {
-        if row.bytes().len() as u64 + 24 > greatest {
+        self.takes(row.bytes(), greatest)
+    }
+
+    /// Whether the bytes are those of a row that `accepts` takes. It goes over them once.
+    pub(crate) fn takes(&self, bytes: &[u8], greatest: u64) -> bool
+        ensures { IsTrue result ↔ IsFormed self.now greatest bytes.now }
+    {
+        if bytes.len() > u32::MAX as usize || bytes.len() as u64 + 24 > greatest {
             return false;
         }
         match self {
-            Form::Entries(kind) => is_entry(kind, &row),
-            Form::Landed { columns, numbers } => is_landed(*columns, numbers, &row),
+            Form::Entries(kind) => is_entry(kind, bytes),
+            Form::Landed { columns, numbers } => is_landed(*columns, numbers, bytes),
         }
     }
 }
 
-/// Whether a row is a key and a value of this kind.
-fn is_entry(kind: &Kind, row: &RowView<'_>) -> bool
-    ensures { IsTrue result
-        ↔ ((length (fields_in row.now) ≡ 2)
-        × IsValueOf kind.now (slice_index_or (fields_in row.now) 1 [])) }
+/// Whether the bytes are a key and a value of this kind.
+fn is_entry(kind: &Kind, bytes: &[u8]) -> bool
+    ensures { IsTrue result ↔ IsOfForm (Entries kind.now) bytes.now }
 {
-    match row.pair() {
-        Some((_, value)) => kind.takes(value),
-        None => false,
-    }
+    let Some((_, behind)) = split_piece(bytes) else {
+        return false;
+    };
+    let Some((value, rest)) = split_piece(behind) else {
+        return false;
+    };
+    rest.is_empty() && kind.takes(value)
 }
 
-/// Whether a row is a landed one.
-fn is_landed(columns: u32, numbers: &NumberList, row: &RowView<'_>) -> bool
-    ensures { IsTrue result
-        ↔ ((length (fields_in row.now) ≡ columns + 1)
-        × (length (slice_index_or (fields_in row.now) 0 []) ≡ 8)
-        × EachIndex numbers.now
-        (λ k. IsNumberAt (fields_in row.now) (slice_index numbers.now k))) }
+/// Whether the bytes are those of a landed row.
+fn is_landed(columns: u32, numbers: &NumberList, bytes: &[u8]) -> bool
+    ensures { IsTrue result ↔ IsOfForm (Landed columns numbers.now) bytes.now }
 {
-    if row.count() != columns as usize + 1 || row.field(0).len() != 8 {
+    let Some((number, behind)) = split_piece(bytes) else {
+        return false;
+    };
+    if number.len() != 8 {
         return false;
     }
+    let mut rest = behind;
+    for place in 0..columns {
+        let Some((field, behind)) = split_piece(rest) else {
+            return false;
+        };
+        if !may_stand(numbers, place, field) {
+            return false;
+        }
+        rest = behind;
+    }
+    rest.is_empty() && are_below(numbers, columns)
+}
+
+/// Whether a field may stand in the column at this place: where numbers have to, it is one.
+fn may_stand(numbers: &NumberList, column: u32, field: &[u8]) -> bool
+    ensures { IsTrue result ↔ EachIndex numbers.now
+        (λ k. slice_index numbers.now k ≡ column → IsTrue (is_number field.now)) }
+{
     for place in numbers.items() {
-        if *place >= columns || !is_decimal(row.field(*place as usize + 1)) {
+        if *place == column {
+            return is_decimal(field);
+        }
+    }
+    true
+}
+
+/// Whether there are more columns than any of these places.
+fn are_below(numbers: &NumberList, columns: u32) -> bool
+    ensures { IsTrue result ↔ EachIndex numbers.now (λ k. slice_index numbers.now k < columns) }
+{
+    for place in numbers.items() {
+        if *place >= columns {
             return false;
         }
     }

@@ -128,7 +128,7 @@ impl KeptBytes {
         }
     }
 
-    /// Moves the rest to the front.
+    /// Moves the rest to the front, where there is one and it doesn't stand there.
     fn keep_rest(&mut self)
         ensures rest { self.new.rest ≡ self.old.rest }
         ensures count { self.new.count ≡ length self.old.rest }
@@ -137,7 +137,9 @@ impl KeptBytes {
     {
         let next = self.next;
         let end = self.end;
-        self.bytes.copy_within(next..end, 0);
+        if 0 < next && next < end {
+            self.bytes.copy_within(next..end, 0);
+        }
         self.from = 0;
         self.next = 0;
         self.end = end - next;

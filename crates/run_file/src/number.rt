@@ -8,6 +8,9 @@ ghost use Rattle.run_file.specs.Numbers.{number, is_number};
 // The greatest number behind which any digit may stand.
 const MOST: u64 = 922_337_203_685_477_579;
 
+// So many digits are in range whichever they are.
+const MOST_DIGITS: usize = 18;
+
 // The number that digits spell, where there are some, and no digit stands behind a number beyond `MOST`.
 fn short_value(digits: &[u8]) -> Option<u64>
     ensures some { IfSome result (λ value. 0 < length digits.now) }
@@ -67,9 +70,26 @@ pub fn parse_number(field: &[u8]) -> Option<i64>
     }
 }
 
-/// Whether a field is a number.
+// Whether all of these bytes are digits.
+fn are_digits(digits: &[u8]) -> bool
+    ensures { result ≡ all_ascii_digits digits.now }
+{
+    for byte in digits {
+        if byte.wrapping_sub(b'0') > 9 {
+            return false;
+        }
+    }
+    true
+}
+
+/// Whether a field is a number. No number is worked out of up to 18 digits: they are in range whichever they are.
+#[tactic(auto, using(crate::proofs::Numerals::short_fits))]
 pub fn is_decimal(field: &[u8]) -> bool
     ensures { result ≡ is_number field.now }
 {
-    parse_number(field).is_some()
+    let digits = digits_of(field);
+    if digits.is_empty() || digits.len() > MOST_DIGITS {
+        return parse_number(field).is_some();
+    }
+    are_digits(digits)
 }

@@ -18,7 +18,7 @@ ghost use Rattle.run_file.specs.contracts.run_reader.RunReader.{the_row};
 
 use crate::kept::KeptBytes;
 use crate::{Damage, Form, Run, RunFault};
-use row_page::{RowView, no_encoding_begins_another, split_piece};
+use row_page::{RowView, split_piece};
 use spill_disk::{Disk, Shelf};
 use std::alloc::Global;
 use std::marker::Model;
@@ -60,7 +60,8 @@ impl RunReader {
         }
     }
 
-    /// How many bytes it keeps of its file: less than its run's greatest cost of a row, once it has read.
+    /// How many bytes it keeps of its run's file, those of the row that it stands at among them: none
+    /// before the first read, and never more than the greatest row takes there behind its length.
     pub fn buffered(&self) -> usize
         ensures count { result ≡ self.now.kept.count }
         ensures bound { result ≤ self.now.run.greatest }
@@ -200,14 +201,10 @@ pub(crate) fn front_of(form: &Form, run: &Run, found: u64, bytes: &[u8]) -> Resu
     ensures damaged { OnErr result (BeginsDamaged form.now run.now.greatest bytes.now) }
     ensures only { IfErr result (λ fault. fault ≡ damage_by run.now found) }
 {
-    no_encoding_begins_another();
     let Some((piece, _)) = split_piece(bytes) else {
         return Err(damage_of(run, found));
     };
-    let Some(row) = RowView::of(piece) else {
-        return Err(damage_of(run, found));
-    };
-    if !form.accepts(row, run.greatest) {
+    if !form.takes(piece, run.greatest) {
         return Err(damage_of(run, found));
     }
     Ok(piece.len())

@@ -1,4 +1,4 @@
-use Rattle.std.proofs.Common.{◌≡◌, ◌+◌, ◌-◌, ◌<◌, ◌≤◌, length, take, drop, rules, arith}
+use Rattle.std.proofs.Common.{◌≡◌, ◌+◌, ◌-◌, ◌<◌, ◌≤◌, length, take, drop, rules}
 use Rattle.std.proofs.lemmas.List.{take_rest}
 use Rattle.run_file.specs.Filling.{BeginsRow}
 use Rattle.run_file.specs.Reading.{BeginsDamaged}

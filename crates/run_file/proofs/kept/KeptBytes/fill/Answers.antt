@@ -1,6 +1,5 @@
-use Rattle.std.proofs.Common.{◌≡◌, ◌+◌, ◌-◌, ◌≤◌, min, length, ap, sym, subst, rules, arith, ◌∙◌}
-use Rattle.run_file.specs.Readers.{Kept, ahead_of, most_kept}
-use Rattle.run_file.specs.Filling.{ReadsMore}
+use Rattle.std.proofs.Common.{◌≡◌, ◌+◌, ◌-◌, ◌≤◌, min, length, rules, ◌∙◌}
+use Rattle.run_file.specs.Readers.{most_kept}
 use Rattle.run_file.proofs.Reaching.{ahead_stays, front_shown, same_ahead}
 use Rattle.run_file.proofs.kept.KeptBytes.fill.Goals as goal
 

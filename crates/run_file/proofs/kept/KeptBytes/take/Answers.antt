@@ -1,4 +1,4 @@
-use Rattle.std.proofs.Common.{◌≡◌, ◌+◌, ◌-◌, ◌≤◌, drop, length, take, ap, arith, ◌∙◌}
+use Rattle.std.proofs.Common.{◌+◌, ◌-◌, ◌≤◌, drop, length, take, ap, arith, ◌∙◌}
 use Rattle.run_file.specs.Readers.{Kept}
 use Rattle.std.proofs.lemmas.List.{length-take}
 use Rattle.run_file.proofs.Keeping.{row_taken, rest_taken}
