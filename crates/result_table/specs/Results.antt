@@ -8,9 +8,9 @@ use Rattle.aggregate.specs.declared.kind.Kind.{Kind}
 use Rattle.spill_disk.specs.Files.{Files}
 use Rattle.run_file.specs.declared.run.Run.{Run}
 use Rattle.run_file.specs.declared.run.RunFault.{RunFault}
-use Rattle.run_file.specs.declared.run.RunFault.TheVariants as run_fault
-use Rattle.run_file.specs.Causes.{HasCauseOn, NoDiskFault, NotDamaged, damage_in}
+use Rattle.run_file.specs.Causes.{HasCauseOn, NoDiskFault, NotDamaged}
 use Rattle.run_file.specs.Several.{HasEntries}
+use Rattle.run_file.specs.Whole.{TellsDamageOf}
 use Rattle.job_plan.specs.Plans.{heading_at, kept_at}
 use Rattle.job_plan.specs.Telling.{IsTold, is_wide, row_of}
 use Rattle.job_plan.specs.declared.query_plan.Plan.{Plan}
@@ -52,17 +52,10 @@ abbrev pub FindsNoDamage : Result (Unit {0}) PrintFault → Type 0
 FindsNoDamage (Err (Damaged damage)) = ⊥
 FindsNoDamage _ = ⊤
 
--- damage is told of this run, of which fewer entries were found than it has
-abbrev pub IsDamageOf : {T : Type 0} → Run → Result T RunFault → Type 0
-IsDamageOf run (Ok x) = ⊤
-IsDamageOf run (Err (run_fault.DiskFault disk)) = ⊤
-IsDamageOf run (Err (run_fault.Damaged damage)) = (damage ≡ damage_in run damage.found) × (damage.found < run.count)
-IsDamageOf run (Err run_fault.NoMemory) = ⊤
-
 -- damage is told of the answer's run; without one there is none
 abbrev pub IsDamageOfResult : {T : Type 0} → Option Run → Result T RunFault → Type 0
 IsDamageOfResult None result = NotDamaged result
-IsDamageOfResult (Some run) result = IsDamageOf run result
+IsDamageOfResult (Some run) result = TellsDamageOf run result
 
 -- a fault of a disk is one of the answer's run's disk, whose count rose; without a run there is none
 abbrev pub HasCauseOfResult : {T : Type 0} → Option Run → (before now : ℕ → ℕ) → Result T RunFault → Type 0

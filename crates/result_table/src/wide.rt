@@ -6,9 +6,10 @@ ghost use Rattle.aggregate.specs.Totals.{Entry};
 ghost use Rattle.aggregate.specs.declared.kind.Kind.TheVariants.{Group};
 ghost use Rattle.run_file.specs.Causes.{HasCauseOn, NotDamaged};
 ghost use Rattle.run_file.specs.Shelved.{LeavesFiles, faults_on, files_on};
+ghost use Rattle.run_file.specs.Whole.{TellsDamageOf};
 ghost use Rattle.job_plan.specs.Telling.{value_numbers};
 ghost use Rattle.result_table.specs.Ahead.{AreAhead, IsOfKind};
-ghost use Rattle.result_table.specs.Results.{HasCauseOfResult, HasResult, IsDamageOf, IsDamageOfResult, wide_key};
+ghost use Rattle.result_table.specs.Results.{HasCauseOfResult, HasResult, IsDamageOfResult, wide_key};
 
 use crate::entry_reader::EntryReader;
 use aggregate::{AggList, Key, Kind, finish};
@@ -65,7 +66,7 @@ fn first_wide<D: Disk, H: Shelf<D>>(
     ensures whole { IfOk result (λ key. key ≡ None → reader.new.found ≡ reader.old.run.count) }
     ensures undamaged { (entries : List Entry) →
         AreAhead (files_on H.disk_of D.files shelf.old reader.old.run.disk) reader.old entries → NotDamaged result }
-    ensures damaged { IsDamageOf reader.old.run result }
+    ensures damaged { TellsDamageOf reader.old.run result }
     ensures cause { HasCauseOn reader.old.run.disk
         (faults_on H.disk_of D.faults shelf.old reader.old.run.disk)
         (faults_on H.disk_of D.faults shelf.new reader.old.run.disk) result }

@@ -1,6 +1,6 @@
 -- Readers of runs that stand with their entries have those entries still to give.
-use Rattle.std.proofs.Common.{◌≡◌, ℕ, zero, suc, ◌+◌, ◌-◌, ◌<◌, ◌≤◌, Bool, false, List, [], ◌∷◌, ◌++◌, length, map, take, Option, None, Some, refl, sym, ap, subst, ◌∙◌, inl, inr, arith}
-use Rattle.std.specs.Prelude.{sum_by, slice_index}
+use Rattle.std.proofs.Common.{◌≡◌, ℕ, zero, suc, ◌+◌, ◌<◌, ◌≤◌, Bool, false, List, [], ◌∷◌, ◌++◌, length, map, take, Option, None, Some, refl, sym, ap, subst, ◌∙◌, inl, inr, arith}
+use Rattle.std.specs.Prelude.{sum_by}
 use Rattle.std.specs.List.{AllByRecursion}
 use Rattle.std.proofs.lemmas.Bool.{cases_lt}
 use Rattle.std.proofs.lemmas.List.{get_or_append_left, get_or_at, length_push, map-append, map_push, take_more}
@@ -18,8 +18,8 @@ use Rattle.run_file.specs.Reading.{IsAhead, Begins}
 use Rattle.run_file.specs.Runs.{Stands, greatest_cost}
 use Rattle.run_file.specs.Several.{HasEntries, HaveEntries, concatenated, no_run, run_at}
 use Rattle.run_merge.specs.Giving.{AreComing}
-use Rattle.run_merge.specs.Heads.{EachReader, has_head, one_if, AreAhead}
-use Rattle.run_merge.specs.Merging.{AreLeft, IsLeft, left_by}
+use Rattle.run_merge.specs.Heads.{EachReader, has_head, one_if}
+use Rattle.run_merge.specs.Merging.{AreLeft, IsLeft, left_by, rows_ahead}
 
 abbrev Row : Type 0
 Row = List (List ℕ)
@@ -90,13 +90,6 @@ heads_push [] none (suc k) = refl
 heads_push (head ∷ heads) none zero = none 0
 heads_push (head ∷ heads) none (suc k) = heads_push heads (λ n. none (suc n)) k
 
-pub ahead_push : (readers : List ReaderView) (aheads : List ℕ) (new : ReaderView) → length aheads ≡ length readers → found_of new ≡ 0 → AreAhead readers aheads → AreAhead (readers ++ new ∷ []) (aheads ++ (run_of new).count ∷ [])
-ahead_push readers aheads new count found ahead =
-    let n = (run_of new).count in
-    each_push readers new (λ k reader. found_of reader + slice_index aheads k ≡ (run_of reader).count) (λ k reader. found_of reader + slice_index (aheads ++ n ∷ []) k ≡ (run_of reader).count) ahead
-    (λ k reader lt h. ap (λ (m : ℕ). found_of reader + m) (get_or_append_left aheads (n ∷ []) 0 k (omega (arith, count))) ∙ h)
-    (omega (arith, found, get_or_at aheads n [] 0 (length readers) count))
-
 pub runs_push : (runs : List Run) (i : ℕ) (readers : List ReaderView) (new : ReaderView) → i < length runs → run_of new ≡ run_at runs i → map run_of readers ≡ take i runs → map run_of (readers ++ new ∷ []) ≡ take (i + 1) runs
 runs_push runs i readers new lt run so_far =
     map_push run_of readers new ∙ ap (λ (rs : List Run). rs ++ run_of new ∷ []) so_far ∙ ap (λ (r : Run). take i runs ++ r ∷ []) run ∙ sym (take_more runs i no_run lt)
@@ -104,7 +97,7 @@ runs_push runs i readers new lt run so_far =
 pub left_push : (runs : List Run) (i : ℕ) (readers : List ReaderView) (heads : List Bool) (new : ReaderView) → i < length runs → run_of new ≡ run_at runs i → found_of new ≡ 0 → left_by readers heads ≡ sum_by (λ run. run.count) (take i runs)
     → left_by (readers ++ new ∷ []) (heads ++ false ∷ []) ≡ sum_by (λ run. run.count) (take (i + 1) runs)
 left_push runs i readers heads new lt run found left =
-    let rows = sum_by-append (λ (reader : ReaderView). (run_of reader).count - found_of reader) readers (new ∷ []) in
+    let rows = sum_by-append rows_ahead readers (new ∷ []) in
     let ones = sum_by-append one_if heads (false ∷ []) in
     let counts = sum_by-append (λ (r : Run). r.count) (take i runs) (run_at runs i ∷ []) in
     let more : sum_by (λ run. run.count) (take (i + 1) runs) ≡ sum_by (λ run. run.count) (take i runs ++ run_at runs i ∷ []) = ap (sum_by (λ (r : Run). r.count)) (take_more runs i no_run lt) in

@@ -1,21 +1,19 @@
 -- Where no reader stands at a row once all were let on, nothing is left; and what is given is an entry of some run.
-use Rattle.std.proofs.Common.{◌≡◌, ℕ, zero, suc, ◌-◌, ◌<◌, ◌≤◌, Bool, true, false, List, [], ◌∷◌, length, get_or, map, Option, refl, sym, ap, subst, ◌∙◌, inl, inr, arith}
-use Rattle.std.specs.Prelude.{sum_by, slice_index}
-use Rattle.std.proofs.lemmas.Bool.{cases_lt}
-use Rattle.std.proofs.lemmas.List.{get_or_past}
+use Rattle.std.proofs.Common.{◌≡◌, ℕ, zero, suc, ◌<◌, ◌≤◌, Bool, true, false, List, [], ◌∷◌, length, get_or, map, Option, refl, sym, ap, subst, ◌∙◌, arith}
+use Rattle.std.specs.Prelude.{sum_by}
 use Rattle.std.proofs.lemmas.List.Sums.{sum_by-cons}
 use Rattle.aggregate.specs.declared.kind.Kind.{Kind}
 use Rattle.aggregate.specs.Rows.{entries_of}
 use Rattle.aggregate.specs.Totals.{Entry, total}
 use Rattle.spill_disk.specs.Files.{Files}
 use Rattle.run_file.specs.declared.form.Form.TheVariants.{Entries}
-use Rattle.run_file.specs.Readers.{ReaderView, found_of, run_of}
+use Rattle.run_file.specs.Readers.{ReaderView, run_of}
 use Rattle.run_file.specs.Forms.{IsWellFormed}
 use Rattle.run_file.specs.Several.{concatenated, greatest_of}
 use Rattle.run_merge.specs.Giving.{AreComing, Gives}
-use Rattle.run_merge.specs.Heads.{EachReader, has_head, one_if, AreAhead}
-use Rattle.run_merge.specs.Merging.{left_by}
-use Rattle.run_merge.proofs.Taking.{none_left, lists_left}
+use Rattle.run_merge.specs.Heads.{EachReader, has_head, one_if}
+use Rattle.run_merge.specs.Merging.{left_by, rows_ahead}
+use Rattle.run_merge.proofs.Taking.{none_left}
 
 abbrev Row : Type 0
 Row = List (List ℕ)
@@ -24,14 +22,11 @@ none_in_all : (lists : List (List Row)) → ((k : ℕ) → get_or lists k [] ≡
 none_in_all [] none = refl
 none_in_all (list ∷ lists) none = rw (none 0) (none_in_all lists (λ k. none (suc k)))
 
-pub none_coming : (files : ℕ → Option Files) (kind : Kind) (readers : List ReaderView) (heads : List Bool) (entries : List Entry) → ((k : ℕ) → k < length readers → has_head heads k ≡ false) → AreComing files true kind readers heads entries → entries ≡ []
+pub none_coming : (files : ℕ → Option Files) (kind : Kind) (readers : List ReaderView) (heads : List Bool) (entries : List Entry) → ((k : ℕ) → has_head heads k ≡ false) → AreComing files true kind readers heads entries → entries ≡ []
 unfolding total
 none_coming files kind readers heads entries none coming =
     let each : (k : ℕ) → get_or coming.lists k [] ≡ [] = λ k.
-    elim (cases_lt k (length readers)) [
-      | inl within ↦ none_left files readers heads coming.lists coming.left k (none k within)
-      | inr past ↦ get_or_past coming.lists k [] (omega (arith, lists_left files true readers heads coming.lists coming.left))
-    ] in
+    none_left files readers heads coming.lists coming.left k (none k) in
     coming.are ∙ ap (λ (rows : List Row). total kind (entries_of rows)) (none_in_all coming.lists each)
 
 -- no row is ahead, and none is stood at
@@ -40,14 +35,14 @@ no_heads [] none = refl
 no_heads (head ∷ heads) none =
     omega (arith, sum_by-cons one_if head heads, no_heads heads (λ k lt. none (suc k) (omega arith)), ap one_if (none 0 (omega arith)))
 
-none_ahead : (readers : List ReaderView) → EachReader readers (λ k reader. (run_of reader).count - found_of reader ≡ 0) → sum_by (λ reader. (run_of reader).count - found_of reader) readers ≡ 0
+none_ahead : (readers : List ReaderView) → EachReader readers (λ k reader. rows_ahead reader ≡ 0) → sum_by rows_ahead readers ≡ 0
 none_ahead [] none = refl
 none_ahead (reader ∷ readers) none =
-    omega (arith, sum_by-cons (λ (r : ReaderView). (run_of r).count - found_of r) reader readers, none 0 reader (omega arith) refl, none_ahead readers (λ k r lt is. none (suc k) r (omega arith) is))
+    omega (arith, sum_by-cons rows_ahead reader readers, none 0 reader (omega arith) refl, none_ahead readers (λ k r lt is. none (suc k) r (omega arith) is))
 
-pub nothing_left : (readers : List ReaderView) (heads : List Bool) (aheads : List ℕ) → length heads ≡ length readers → AreAhead readers aheads → ((k : ℕ) → k < length readers → has_head heads k ≡ false) → ((k : ℕ) → has_head heads k ≡ false → slice_index aheads k ≡ 0) → left_by readers heads ≡ 0
-nothing_left readers heads aheads count ahead none end =
-    omega (arith, no_heads heads (λ k lt. none k (omega (arith, count))), none_ahead readers (λ k reader lt is. omega (arith, ahead k reader lt is, end k (none k lt))))
+pub nothing_left : (readers : List ReaderView) (heads : List Bool) → length heads ≡ length readers → ((k : ℕ) → has_head heads k ≡ false) → EachReader readers (λ k reader. has_head heads k ≡ false → rows_ahead reader ≡ 0) → left_by readers heads ≡ 0
+nothing_left readers heads count none end =
+    omega (arith, no_heads heads (λ k lt. none k), none_ahead readers (λ k reader lt is. end k reader lt is (none k)))
 
 -- what is given is the first of those that were to come
 pub given_one : (files : ℕ → Option Files) (kind other : Kind) (readers : List ReaderView) (heads : List Bool) (row : Row) (entry : Entry) (entries : List Entry) → other ≡ kind → Gives files kind readers heads row (entry ∷ entries)

@@ -1,5 +1,5 @@
 -- Rows of a key and a value are well formed where their parts are as long as those of one that is.
-use Rattle.std.proofs.Common.{◌≡◌, ℕ, zero, suc, ◌+◌, ◌*◌, ◌<◌, ◌≤◌, Some, get_or, List, [], ◌∷◌, length, refl, sym, ap, subst, ◌∙◌, arith}
+use Rattle.std.proofs.Common.{◌≡◌, ℕ, zero, suc, ◌+◌, ◌<◌, ◌≤◌, Some, get_or, List, [], ◌∷◌, length, refl, sym, ap, subst, ◌∙◌, arith}
 use Rattle.std.specs.Coded.{Coded-set, coded_ℕ, le_prop}
 use Rattle.std.proofs.Math.Logic.{∥∥₁_elim}
 use Rattle.std.proofs.lemmas.Option.{same_Some}
@@ -8,6 +8,7 @@ use Rattle.aggregate.specs.declared.agg_list.Agg.{Agg}
 use Rattle.aggregate.specs.declared.kind.Kind.{Kind}
 use Rattle.aggregate.specs.declared.kind.Kind.TheVariants.{Group, Order}
 use Rattle.aggregate.specs.Rows.{entry_of}
+use Rattle.aggregate.specs.Values.{width}
 use Rattle.row_page.specs.Spelling.{row_length}
 use Rattle.run_file.specs.declared.form.Form.TheVariants.{Entries}
 use Rattle.run_file.specs.Readers.{ReaderView, run_of}
@@ -18,7 +19,7 @@ use Rattle.run_merge.specs.Heads.{IsLent, row_lent}
 use Rattle.run_file.proofs.Standing.{two_fields, value_is}
 
 -- the value of a group's entry has its bytes
-pub value_size : (aggs : List Agg) (reader : ReaderView) → ∥ IsAtEntry (Group aggs) reader ∥₁ → length (entry_at reader).value ≡ 16 * length aggs
+pub value_size : (aggs : List Agg) (reader : ReaderView) → ∥ IsAtEntry (Group aggs) reader ∥₁ → length (entry_at reader).value ≡ width aggs
 value_size aggs reader t =
     ∥∥₁_elim t (Coded-set coded_ℕ _ _) (λ h. ap length (sym (value_is (row_at reader) h.formed.has_form.0)) ∙ h.formed.has_form.1)
 

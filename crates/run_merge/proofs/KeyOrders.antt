@@ -48,6 +48,31 @@ less_upto a b c less upto = by_cmp (key_cmp b c) refl upto
     by_cmp Equal e h = ap (key_cmp a) (sym (same_key b c e)) ∙ less
     by_cmp Greater e h = absurd cc
 
+pub upto_less : (a b c : List ℕ) → is_gt (key_cmp a b) ≡ false → key_cmp b c ≡ Less → key_cmp a c ≡ Less
+upto_less a b c upto less = by_cmp (key_cmp a b) refl upto
+  where
+    by_cmp : (o : Ordering) → key_cmp a b ≡ o → is_gt o ≡ false → key_cmp a c ≡ Less
+    by_cmp Less e h = nat_list_cmp_total.trans a b c e less
+    by_cmp Equal e h = ap (λ (k : List ℕ). key_cmp k c) (same_key a b e) ∙ less
+    by_cmp Greater e h = absurd cc
+
+pub upto_upto : (a b c : List ℕ) → is_gt (key_cmp a b) ≡ false → is_gt (key_cmp b c) ≡ false → is_gt (key_cmp a c) ≡ false
+upto_upto a b c upto next = by_cmp (key_cmp a b) refl upto
+  where
+    by_cmp : (o : Ordering) → key_cmp a b ≡ o → is_gt o ≡ false → is_gt (key_cmp a c) ≡ false
+    by_cmp Less e h = less_not_gt (key_cmp a c) (less_upto a b c e next)
+    by_cmp Equal e h = ap (λ (k : List ℕ). is_gt (key_cmp k c)) (same_key a b e) ∙ next
+    by_cmp Greater e h = absurd cc
+
+-- no key is below itself
+pub not_below_itself : (a : List ℕ) → key_cmp a a ≡ Less → ⊥
+not_below_itself a less = by_cmp (key_cmp a a) less (tied_itself nat_list_cmp_total a)
+  where
+    by_cmp : (o : Ordering) → o ≡ Less → o ≡ Equal → ⊥
+    by_cmp Less e h = absurd cc
+    by_cmp Equal e h = absurd cc
+    by_cmp Greater e h = absurd cc
+
 -- a key that isn't below another is not above it the other way round
 pub not_lt_back : (a b : List ℕ) → is_lt (key_cmp a b) ≡ false → is_gt (key_cmp b a) ≡ false
 not_lt_back a b h = by_cmp (key_cmp a b) refl h

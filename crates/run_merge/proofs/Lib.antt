@@ -4,6 +4,7 @@ pub mod Firsts
 pub mod Inserting
 pub mod Rising
 pub mod Taking
+pub mod Orders
 pub mod Joining
 pub mod Formed
 pub mod Beginning

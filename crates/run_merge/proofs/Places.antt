@@ -1,5 +1,5 @@
 -- One of several readers is let on: what that changes of the facts of all of them.
-use Rattle.std.proofs.Common.{◌≡◌, ℕ, zero, suc, ◌+◌, ◌-◌, ◌<◌, Bool, true, false, List, [], ◌∷◌, length, get_or, set, map, Option, Some, Ok, Err, refl, sym, ap, subst, ◌∙◌, inl, inr, arith}
+use Rattle.std.proofs.Common.{◌≡◌, ℕ, zero, suc, ◌+◌, ◌<◌, Bool, true, false, List, [], ◌∷◌, length, get_or, set, map, Option, Some, Ok, Err, refl, sym, ap, subst, ◌∙◌, inl, inr, arith}
 use Rattle.std.specs.Prelude.{slice_get, slice_index}
 use Rattle.std.proofs.Math.Logic.{∥∥₁_elim}
 use mathlib.Core.Logic.{∥∥₁_prop}
@@ -20,8 +20,8 @@ use Rattle.run_file.specs.Reading.{IsAhead, TellsDamage}
 use Rattle.run_file.specs.AtEntries.{IsAtEntry}
 use Rattle.run_file.specs.Several.{AreOn}
 use Rattle.run_merge.specs.Giving.{LetsOn}
-use Rattle.run_merge.specs.Heads.{EachReader, has_head, HasFront, AreFronts, AreAtEntries, AreOfKind, AreAhead, one_if}
-use Rattle.run_merge.specs.Merging.{IsLeft, AreLeft, TellsDamageIn, left_by}
+use Rattle.run_merge.specs.Heads.{EachReader, has_head, HasFront, AreFronts, AreAtEntries, AreOfKind, one_if}
+use Rattle.run_merge.specs.Merging.{IsLeft, AreLeft, TellsDamageIn, left_by, rows_ahead}
 
 -- a fact of each reader, after one of them became another
 pub each_set : (readers : List ReaderView) (i : ℕ) (new : ReaderView) (P Q : ℕ → ReaderView → Type 0) → i < length readers → EachReader readers P
@@ -39,12 +39,15 @@ each_set readers i new P Q within each keep here k reader lt is =
 pub other_head : (heads : List Bool) (i k : ℕ) (b : Bool) → (k ≡ i → ⊥) → has_head (set heads i b) k ≡ has_head heads k
 other_head heads i k b apart = get_or-set_other heads i k b false apart
 
-pub other_ahead : (aheads : List ℕ) (i k n : ℕ) → (k ≡ i → ⊥) → slice_index (set aheads i n) k ≡ slice_index aheads k
-other_ahead aheads i k n apart = get_or-set_other aheads i k n 0 apart
+pub other_number : (numbers : List ℕ) (i k n : ℕ) → (k ≡ i → ⊥) → slice_index (set numbers i n) k ≡ slice_index numbers k
+other_number numbers i k n apart = get_or-set_other numbers i k n 0 apart
 
--- what is read at a place is the flag there
+-- what is read at a place is the flag or the number there
 pub head_read : (heads : List Bool) (i : ℕ) (b : Bool) → i < length heads → b ≡ get_or heads i b → has_head heads i ≡ b
 head_read heads i b lt is = sym (is ∙ get_or_default heads i b false lt)
+
+pub number_read : (numbers : List ℕ) (i n : ℕ) → i < length numbers → n ≡ get_or numbers i n → slice_index numbers i ≡ n
+number_read numbers i n lt is = sym (is ∙ get_or_default numbers i n 0 lt)
 
 -- the rows that are left stay where the files do
 left_moved_one : (files moved : ℕ → Option Files) → ((j : ℕ) → moved j ≡ files j) → (reader : ReaderView) (head : Bool) (rows : List (List (List ℕ))) → IsLeft files reader head rows → IsLeft moved reader head rows
@@ -100,12 +103,12 @@ no_damage NoMemory h = tt
 
 -- how many rows are left, once one of them was let on
 pub left_by-set : (readers : List ReaderView) (heads : List Bool) (i : ℕ) (old new : ReaderView) (stands : Bool) → i < length readers → i < length heads → old ≡ get_or readers i old
-    → ((run_of new).count - found_of new) + one_if stands ≡ ((run_of old).count - found_of old) + one_if (has_head heads i)
+    → rows_ahead new + one_if stands ≡ rows_ahead old + one_if (has_head heads i)
     → left_by (set readers i new) (set heads i stands) ≡ left_by readers heads
 left_by-set readers heads i old new stands lt lt_heads is e =
-    let rows = sum_by-set (λ (reader : ReaderView). (run_of reader).count - found_of reader) readers i new old lt in
+    let rows = sum_by-set rows_ahead readers i new old lt in
     let ones = sum_by-set one_if heads i stands false lt_heads in
-    let same = ap (λ (reader : ReaderView). (run_of reader).count - found_of reader) is in
+    let same = ap rows_ahead is in
     omega (arith, rows, ones, same, e)
 
 -- one that can't be let on, as its next row isn't well formed
@@ -160,14 +163,8 @@ pub front_set : (readers : List ReaderView) (heads : List Bool) (fronts : List �
     → ((has_head heads i ≡ true → HasFront old (slice_index fronts i)) → stands ≡ true → HasFront new front) → AreFronts (set readers i new) (set heads i stands) (set fronts i front)
 front_set readers heads fronts i front old new stands lt lt_heads lt_fronts is each lets =
     each_set readers i new (λ k reader. has_head heads k ≡ true → HasFront reader (slice_index fronts k)) (λ k reader. has_head (set heads i stands) k ≡ true → HasFront reader (slice_index (set fronts i front) k)) lt each
-    (λ k reader apart h head. subst (HasFront reader) (sym (other_ahead fronts i k front apart)) (h (sym (other_head heads i k stands apart) ∙ head)))
+    (λ k reader apart h head. subst (HasFront reader) (sym (other_number fronts i k front apart)) (h (sym (other_head heads i k stands apart) ∙ head)))
     (λ head. subst (HasFront new) (sym (get_or-set_same fronts i front 0 lt_fronts)) (lets (each i old lt is) (sym (get_or-set_same heads i stands false lt_heads) ∙ head)))
-
-pub ahead_set : (readers : List ReaderView) (aheads : List ℕ) (i ahead : ℕ) (new : ReaderView) → i < length readers → i < length aheads → found_of new + ahead ≡ (run_of new).count → AreAhead readers aheads → AreAhead (set readers i new) (set aheads i ahead)
-ahead_set readers aheads i ahead new lt lt_aheads here each =
-    each_set readers i new (λ k reader. found_of reader + slice_index aheads k ≡ (run_of reader).count) (λ k reader. found_of reader + slice_index (set aheads i ahead) k ≡ (run_of reader).count) lt each
-    (λ k reader apart h. ap (λ (n : ℕ). found_of reader + n) (other_ahead aheads i k ahead apart) ∙ h)
-    (ap (λ (n : ℕ). found_of new + n) (get_or-set_same aheads i ahead 0 lt_aheads) ∙ here)
 
 -- what holds of each flag or number below i + 1, where it did below i
 pub heads_more : (heads : List Bool) (i : ℕ) (stands : Bool) (P Q : ℕ → Type 0) → i < length heads → ((k : ℕ) → k < i → has_head heads k ≡ false → P k) → ((k : ℕ) → (k ≡ i → ⊥) → P k → Q k) → (stands ≡ false → Q i)

@@ -6,7 +6,6 @@ use Rattle.spill_disk.specs.Files.{Files}
 use Rattle.run_file.specs.declared.run.Run.{Run}
 use Rattle.run_file.specs.declared.run.RunFault.{RunFault}
 use Rattle.run_file.specs.declared.run.RunFault.TheVariants.{DiskFault, Damaged, NoMemory}
-use Rattle.run_file.specs.Causes.{damage_in}
 use Rattle.run_file.specs.Several.{IsFileAmong}
 use Rattle.run_file.specs.Shelved.{IsGone}
 
@@ -16,13 +15,6 @@ HasCauseAmong before now (Ok x) = ⊤
 HasCauseAmong before now (Err (DiskFault disk)) = Rose (before disk) (now disk)
 HasCauseAmong before now (Err (Damaged damage)) = ⊤
 HasCauseAmong before now (Err NoMemory) = ⊤
-
--- damage is told of this run, of which fewer rows were found than it has
-abbrev pub IsDamageOf : {T : Type 0} → Run → Result T RunFault → Type 0
-IsDamageOf run (Ok x) = ⊤
-IsDamageOf run (Err (DiskFault disk)) = ⊤
-IsDamageOf run (Err (Damaged damage)) = (damage ≡ damage_in run damage.found) × (damage.found < run.count)
-IsDamageOf run (Err NoMemory) = ⊤
 
 -- whether a run is this file of this disk, with so many rows; and whether one of several is
 abbrev pub is_run : Run → ℕ → ℕ → ℕ → Bool

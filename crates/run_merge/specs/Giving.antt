@@ -1,6 +1,6 @@
 -- What readers have still to give, and what is left once an entry was taken.
 -- This project's own.
-use Rattle.std.specs.Prelude.{◌≡◌, ℕ, ◌<◌, ◌≤◌, Bool, true, false, List, [], ◌∷◌, Option, Some, Result, Ok, Err, slice_index_or}
+use Rattle.std.specs.Prelude.{◌≡◌, ℕ, Bool, true, false, List, [], ◌∷◌, Option, Some, Result, Ok, Err, slice_index_or}
 use Rattle.std.specs.List.{AllByRecursion}
 use Rattle.std.specs.Ordering.{is_gt}
 use Rattle.std.specs.declared.cmp.Ordering.TheVariants.{Less}
@@ -33,15 +33,14 @@ AllAbove key rows = AllByRecursion (λ row. key_cmp key (entry_of row).key ≡ L
 abbrev pub NoneBelow : List ℕ → List (List (List ℕ)) → Type 0
 NoneBelow key rows = AllByRecursion (λ row. is_gt (key_cmp key (entry_of row).key) ≡ false) rows
 
--- the entry was taken out, with those of its key of the first n readers; no key that is left is below its own
-pub record IsTaken (files : ℕ → Option Files) (kind : Kind) (readers : List ReaderView) (heads : List Bool) (n : ℕ) (entry : Entry) (entries : List Entry) : Type 0 where
+-- the entry was taken out, with those of its key of readers that stand at no row now; no key that is left is below its own
+pub record IsTaken (files : ℕ → Option Files) (kind : Kind) (readers : List ReaderView) (heads : List Bool) (entry : Entry) (entries : List Entry) : Type 0 where
   pub lists : List (List (List (List ℕ)))
   pub left : AreLeft files false readers heads lists
   pub formed : AllByRecursion (λ rows. AllByRecursion (HasForm (Entries kind)) rows) lists
   pub ascend : AllByRecursion (λ rows. Ascends (Some kind) (entries_of rows)) lists
-  pub done : (k : ℕ) → k < n → AllAbove entry.key (slice_index_or lists k [])
-  pub todo : (k : ℕ) → n ≤ k → NoneBelow entry.key (slice_index_or lists k [])
-  pub ended : (k : ℕ) → n ≤ k → has_head heads k ≡ false → slice_index_or lists k [] ≡ []
+  pub none_below : (k : ℕ) → NoneBelow entry.key (slice_index_or lists k [])
+  pub taken : (k : ℕ) → has_head heads k ≡ false → AllAbove entry.key (slice_index_or lists k [])
   pub are : entries ≡ insert_entry kind entry (total kind (entries_of (concatenated lists)))
 
 -- the row is the first of these entries, and the others are still to come

@@ -1,6 +1,6 @@
 -- The rows that readers stand at, and what is true of readers that are read side by side.
 -- This project's own.
-use Rattle.std.specs.Prelude.{◌≡◌, ℕ, ◌+◌, ◌<◌, ◌≤◌, Bool, true, false, List, [], Option, Some, None, length, slice_index_or, slice_index, slice_get, sum_by}
+use Rattle.std.specs.Prelude.{◌≡◌, ℕ, ◌<◌, ◌≤◌, Bool, true, false, List, [], Option, Some, None, length, slice_index_or, slice_index, slice_get, sum_by}
 use Rattle.std.specs.Option.{option_map_or}
 use Rattle.std.specs.Ordering.{is_gt}
 use Rattle.std.specs.declared.cmp.Ordering.TheVariants.{Less}
@@ -8,7 +8,7 @@ use Rattle.aggregate.specs.declared.kind.Kind.{Kind}
 use Rattle.aggregate.specs.Fronts.{front_of}
 use Rattle.aggregate.specs.Totals.{key_cmp}
 use Rattle.run_file.specs.declared.form.Form.TheVariants.{Entries}
-use Rattle.run_file.specs.Readers.{ReaderView, form_of, found_of, run_of}
+use Rattle.run_file.specs.Readers.{ReaderView, form_of}
 use Rattle.run_file.specs.Reading.{row_at}
 use Rattle.run_file.specs.AtEntries.{IsAtEntry, entry_at}
 
@@ -47,23 +47,14 @@ abbrev pub row_lent : List ReaderView → Option ℕ → List (List ℕ) → Lis
 row_lent readers None row = row
 row_lent readers (Some place) row = option_map_or row_at (slice_get readers place) []
 
--- how many rows are ahead of each
-abbrev pub AreAhead : List ReaderView → List ℕ → Type 0
-AreAhead readers aheads = EachReader readers (λ k reader. found_of reader + slice_index aheads k ≡ (run_of reader).count)
-
--- of the first n readers that stand at a row this one has the least key, and is the first of those with this key
-pub record IsFirst (readers : List ReaderView) (heads : List Bool) (n place : ℕ) : Type 0 where
-  pub within : place < n
+-- of the readers that stand at a row this one has the least key, and is the first of those with this key
+pub record IsFirst (readers : List ReaderView) (heads : List Bool) (place : ℕ) : Type 0 where
+  pub within : place < length readers
   pub stands : has_head heads place ≡ true
   pub before : (first : ReaderView) → first ≡ slice_index_or readers place first →
       EachReader readers (λ k reader. k < place → has_head heads k ≡ true → key_cmp (entry_at first).key (entry_at reader).key ≡ Less)
   pub behind : (first : ReaderView) → first ≡ slice_index_or readers place first →
-      EachReader readers (λ k reader. place ≤ k → k < n → has_head heads k ≡ true → is_gt (key_cmp (entry_at first).key (entry_at reader).key) ≡ false)
-
--- the same where there is one
-abbrev pub IsFirstOf : List ReaderView → List Bool → ℕ → Option ℕ → Type 0
-IsFirstOf readers heads n None = (k : ℕ) → k < n → has_head heads k ≡ false
-IsFirstOf readers heads n (Some place) = IsFirst readers heads n place
+      EachReader readers (λ k reader. place ≤ k → has_head heads k ≡ true → is_gt (key_cmp (entry_at first).key (entry_at reader).key) ≡ false)
 
 -- 1 for a reader that stands at a row that was not given yet
 abbrev pub one_if : Bool → ℕ

@@ -1,4 +1,5 @@
 pub mod Heads
+pub mod Orders
 pub mod Merging
 pub mod Giving
 pub mod Lending

@@ -44,9 +44,13 @@ kept_by readers = sum_by (λ reader. reader.kept.count) readers
 abbrev pub kept_of : Merge → ℕ
 kept_of merge = kept_by merge.readers.items
 
+-- how many rows of its run a reader has still ahead of it
+abbrev pub rows_ahead : ReaderView → ℕ
+rows_ahead reader = (run_of reader).count - found_of reader
+
 -- how many rows are ahead of readers, and how many they stand at
 abbrev pub left_by : List ReaderView → List Bool → ℕ
-left_by readers heads = sum_by (λ reader. (run_of reader).count - found_of reader) readers + sum_by one_if heads
+left_by readers heads = sum_by rows_ahead readers + sum_by one_if heads
 
 -- how many rows of the runs it has still to give
 abbrev pub left_of : Merge → ℕ

@@ -6,6 +6,7 @@ mod heads;
 mod merge;
 mod one_group;
 mod one_run;
+mod order;
 mod rounds;
 
 pub use merge::Merge;

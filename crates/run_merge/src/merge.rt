@@ -1,10 +1,11 @@
 //! Runs that are read side by side.
 
 ghost use Rattle.std.specs.Prelude.{◌≡◌, length};
-ghost use Rattle.run_merge.specs.Heads.{AreAhead, AreAtEntries, AreFronts, AreOfKind, IsLent};
+ghost use Rattle.run_merge.specs.Heads.{AreAtEntries, AreFronts, AreOfKind, IsLent};
+ghost use Rattle.run_merge.specs.Orders.{IsOrder};
 
 use crate::giving::{give_alone, give_joined};
-use crate::heads::{buffered_by, least_of, let_all_on};
+use crate::heads::{buffered_by, let_all_on};
 use aggregate::Kind;
 use row_page::{RowBuf, RowView};
 use run_file::{Form, Run, RunFault, RunReader};
@@ -23,21 +24,20 @@ pub struct Merge {
     heads: Vec<bool>,
     // the fronts of the keys of those
     fronts: Vec<u64>,
-    // how many rows of its run each has still ahead of it
-    aheads: Vec<u64>,
+    // the places of those, the least key first, and of equal keys the first reader
+    order: Vec<usize>,
     kind: Kind,
     value: Vec<u8>,
     // an entry that was put together, and the reader whose own row was given, if one's was
     row: RowBuf,
     given: Option<usize>,
     ghost flags: { length heads.items ≡ length readers.items },
-    ghost counts: { length aheads.items ≡ length readers.items },
     ghost front_counts: { length fronts.items ≡ length readers.items },
-    ghost ahead: { AreAhead readers.items aheads.items },
     ghost of_kind: { AreOfKind kind readers.items },
     ghost stand: { AreAtEntries kind readers.items heads.items },
     ghost lent: { IsLent kind readers.items given },
     ghost fronts_are: { AreFronts readers.items heads.items fronts.items },
+    ghost in_order: { IsOrder readers.items heads.items order.items },
 }
 
 impl Merge {
@@ -51,7 +51,6 @@ impl Merge {
     ghost use Rattle.run_file.specs.Several.{AreOn, greatest_of};
     ghost use Rattle.run_merge.specs.Causes.{HasCauseAmong, IsDamageIn};
     ghost use Rattle.run_merge.specs.Giving.{AreComing};
-    ghost use Rattle.run_merge.specs.Heads.{IsFirst};
     ghost use Rattle.run_merge.specs.Lending.{LendsFirst, LendsFormed, StandsAfter};
     ghost use Rattle.run_merge.specs.Merging.{runs_of, kind_of, kept_of, open_of, row_of, left_of, Begins, IsToCome, GoesOn, GivesFormed, Falls, TellsDamage};
     ghost use Rattle.run_merge.specs.contracts.merge.Merge.{the_row};
@@ -66,19 +65,17 @@ impl Merge {
     {
         let mut readers = Vec::new(alloc);
         let mut heads = Vec::new(alloc);
-        let mut aheads = Vec::new(alloc);
         let mut fronts = Vec::new(alloc);
         for run in runs {
             readers.push(RunReader::new(alloc, run, Form::Entries(kind.copy()?)))?;
             heads.push(false)?;
-            aheads.push(run.count)?;
             fronts.push(0)?;
         }
         Ok(Merge {
             readers,
             heads,
             fronts,
-            aheads,
+            order: Vec::new(alloc),
             kind: kind.copy()?,
             value: Vec::new(alloc),
             row: RowBuf::new(alloc),
@@ -93,8 +90,8 @@ impl Merge {
         self.readers.len()
     }
 
-    /// How many bytes it keeps of its runs' files: for each run less than the greatest cost of a row, once
-    /// that was read.
+    /// How many bytes its readers keep of its runs' files: in all at most the sum of the runs' greatest
+    /// costs of a row.
     pub fn buffered(&self) -> usize
         requires few { length (runs_of self.now) ≤ 2 ^ 16 }
         ensures count { result ≡ kept_of self.now }
@@ -136,14 +133,14 @@ impl Merge {
         let_all_on(
             &mut self.readers,
             &mut self.heads,
-            &mut self.aheads,
             &mut self.fronts,
+            &mut self.order,
             shelf,
         )?;
-        let Some(first) = least_of(&self.readers, &self.heads, &self.fronts) else {
+        if self.order.is_empty() {
             return Ok(false);
-        };
-        match self.give(first) {
+        }
+        match self.give() {
             Ok(()) => Ok(true),
             Err(_) => Err(RunFault::NoMemory),
         }
@@ -177,10 +174,9 @@ impl Merge {
         }
     }
 
-    /// Gives the entry of the reader that has the least key.
-    fn give(&mut self, first: usize) -> Result<(), AllocError>
-        requires first { IsFirst self.old.readers.items self.old.heads.items
-            (length self.old.readers.items) first }
+    /// Gives the entry of the first reader in the order, which has the least key.
+    fn give(&mut self) -> Result<(), AllocError>
+        requires some { 0 < length self.old.order.items }
         ensures gives { OnOk result ((files : ℕ → Option Files) (entries : List Entry) →
             AreComing files true self.old.kind self.old.readers.items self.old.heads.items entries →
             GoesOn files self.new entries (Ok true)) }
@@ -191,8 +187,7 @@ impl Merge {
     {
         match &self.kind {
             Kind::Order => {
-                give_alone(&self.readers, &mut self.heads, first);
-                self.given = Some(first);
+                self.given = Some(give_alone(&self.readers, &mut self.heads, &mut self.order));
             }
             Kind::Group(aggs) => {
                 self.given = give_joined(
@@ -200,7 +195,7 @@ impl Merge {
                     &self.readers,
                     &mut self.heads,
                     &self.fronts,
-                    first,
+                    &mut self.order,
                     &mut self.value,
                     &mut self.row,
                 )?;

@@ -1,18 +1,22 @@
-use Rattle.std.proofs.Common.{◌≡◌, ◌+◌, ℕ, List, false}
+use Rattle.std.proofs.Common.{◌≡◌, ℕ, List, false, length}
 use Rattle.std.specs.Prelude.{Option}
 use Rattle.aggregate.specs.declared.kind.Kind.TheVariants.{Group}
 use Rattle.aggregate.specs.Totals.{Entry}
 use Rattle.spill_disk.specs.Files.{Files}
 use Rattle.run_merge.specs.Giving.{IsTaken}
-use Rattle.run_merge.specs.Heads.{AreAtEntries, OnlyFalls}
+use Rattle.run_merge.specs.Heads.{OnlyFalls}
+use Rattle.run_merge.specs.Orders.{IsOrder}
 use Rattle.run_merge.proofs.giving.join_others.Given as goal
 
-abbrev pub invariant-loop-i : goal.invariant-loop-i
-invariant-loop-i l = record {
-  stand : AreAtEntries (Group l.aggs) l.readers l.heads.items;
+abbrev pub invariant-others : goal.invariant-others
+invariant-others l = record {
+  order : IsOrder l.readers l.heads.items l.order.items;
   joins : (files : ℕ → Option Files) (entries : List Entry) →
-      IsTaken files (Group l.aggs) l.readers l.fn.heads.items (l.first + 1) (record { key = l.key; value = l.fn.value }) entries →
-      IsTaken files (Group l.aggs) l.readers l.heads.items l.i (record { key = l.key; value = l.value }) entries;
+      IsTaken files (Group l.aggs) l.readers l.fn.heads.items (record { key = l.key; value = l.fn.value }) entries →
+      IsTaken files (Group l.aggs) l.readers l.heads.items (record { key = l.key; value = l.value }) entries;
   none : l.joined ≡ false → l.value ≡ l.fn.value;
   falls : OnlyFalls l.fn.heads.items l.heads.items;
 }
+
+abbrev pub decreases-others : goal.decreases-others
+decreases-others l = length l.order.items

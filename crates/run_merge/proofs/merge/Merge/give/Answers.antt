@@ -7,7 +7,7 @@ use Rattle.run_file.specs.Forms.{IsWellFormed}
 use Rattle.run_file.specs.Readers.{run_of}
 use Rattle.run_file.specs.Several.{greatest_of}
 use Rattle.run_merge.specs.Heads.{row_lent}
-use Rattle.run_merge.proofs.Finishing.{formed_among, given_one}
+use Rattle.run_merge.proofs.Finishing.{given_one}
 use Rattle.run_merge.proofs.merge.Merge.give.Goals as goal
 
 pub returns-in-Order-clause-gives : goal.returns-in-Order-clause-gives
@@ -16,14 +16,14 @@ returns-in-Order-clause-gives c files [] coming =
 returns-in-Order-clause-gives c files (entry ∷ entries) coming =
     let readers = c.args.self.now.readers.items in
     let gives = rw c.deref.ensures.value at (c.give_alone.ensures.gives c.args.self.now.row files (entry ∷ entries) (rw (c.deref.ensures.value) (rw c.in-Order.is at coming))) in
-    let one = given_one files Order c.args.self.now.kind readers c.give_alone.new.heads.items (row_lent readers (Some c.args.first) c.args.self.now.row) entry entries c.in-Order.is gives in
+    let one = given_one files Order c.args.self.now.kind readers c.give_alone.new.heads.items (row_lent readers (Some c.give_alone.result) c.args.self.now.row) entry entries c.in-Order.is gives in
     (one.0, record { lists = one.1.lists; left = one.1.left; formed = one.1.formed; ascend = one.1.ascend; are = one.1.are })
 
 pub returns-in-Order-clause-formed : goal.returns-in-Order-clause-formed
 returns-in-Order-clause-formed c =
     let readers = c.args.self.now.readers.items in
-    subst (λ (k : Kind). IsWellFormed (Entries k) (greatest_of (map run_of readers)) (row_lent readers (Some c.args.first) c.args.self.now.row)) (sym c.in-Order.is)
-    (formed_among Order readers c.args.first (row_lent readers (Some c.args.first) c.args.self.now.row) c.requires.first.within (rw c.deref.ensures.value at (c.give_alone.ensures.formed c.args.self.now.row)))
+    subst (λ (k : Kind). IsWellFormed (Entries k) (greatest_of (map run_of readers)) (row_lent readers (Some c.give_alone.result) c.args.self.now.row)) (sym c.in-Order.is)
+    (rw c.deref.ensures.value at (c.give_alone.ensures.formed c.args.self.now.row))
 
 pub returns-in_ok-self-in-Group-clause-gives : goal.returns-in_ok-self-in-Group-clause-gives
 returns-in_ok-self-in-Group-clause-gives c files [] coming =
@@ -40,4 +40,4 @@ returns-in_ok-self-in-Group-clause-formed c =
     let readers = c.args.self.now.readers.items in
     let given = c.in_ok-self-in-Group.field-0 in
     subst (λ (k : Kind). IsWellFormed (Entries k) (greatest_of (map run_of readers)) (row_lent readers given c.give_joined.new.row)) (sym c.in-Group.is)
-    (formed_among (Group c.in-Group.aggs) readers c.args.first (row_lent readers given c.give_joined.new.row) c.requires.first.within (rw c.deref-in-Group.ensures.value at c.in_ok-self-in-Group.ensures.formed))
+    (rw c.deref-in-Group.ensures.value at c.in_ok-self-in-Group.ensures.formed)

@@ -5,14 +5,13 @@ use Rattle.run_file.specs.Readers.{form_of, run_of}
 use Rattle.run_file.specs.Reading.{Begins}
 use Rattle.run_file.specs.Several.{run_at}
 use Rattle.run_merge.specs.Heads.{EachReader}
-use Rattle.run_merge.proofs.Beginning.{ahead_push, all_begin, each_push, heads_push, left_push, runs_push}
+use Rattle.run_merge.proofs.Beginning.{all_begin, each_push, heads_push, left_push, runs_push}
 use Rattle.run_merge.proofs.merge.Merge.new.Goals as goal
 
 pub loop-run-preserved : goal.loop-run-preserved
 loop-run-preserved c =
     let readers = c.loop-run.readers.items in
     let heads = c.loop-run.heads.items in
-    let aheads = c.loop-run.aheads.items in
     let new = c.new.result in
     let runs = c.args.runs.now in
     let i = c.loop-run.run-index in
@@ -20,16 +19,13 @@ loop-run-preserved c =
     let run : run_of new ≡ run_at runs i = c.new.ensures.run in
     let put : c.push.new.self.items ≡ readers ++ new ∷ [] = c.in_ok-push.ensures.items in
     let flag : c.push-in-loop-run.new.self.items ≡ heads ++ false ∷ [] = c.in_ok-push-2.ensures.items in
-    let ahead : c.push-in-loop-run-2.new.self.items ≡ aheads ++ (run_of new).count ∷ [] = rw run c.in_ok-push-3.ensures.items in
     let form : form_of new ≡ Entries c.args.kind.now = c.new.ensures.form ∙ ap Entries c.in_ok-copy.ensures in
     let inv = c.loop-run.invariant in
-    rw (put, flag, ahead, c.in_ok-push-4.ensures.items) (record {
+    rw (put, flag, c.in_ok-push-3.ensures.items) (record {
       heads = omega (arith, length_push readers new, length_push heads false, inv.heads);
-      aheads = omega (arith, length_push readers new, length_push aheads (run_of new).count, inv.aheads);
       as_many = omega (arith, length_push readers new, length_push c.loop-run.fronts.items 0, inv.as_many);
       runs = runs_push runs i readers new lt run inv.runs;
       none = heads_push heads inv.none;
-      ahead = ahead_push readers aheads new inv.aheads c.new.ensures.found inv.ahead;
       forms = each_push readers new (λ k reader. form_of reader ≡ Entries c.args.kind.now) (λ k reader. form_of reader ≡ Entries c.args.kind.now) inv.forms (λ k reader below h. h) form;
       begins = each_push readers new (λ k reader. Begins reader) (λ k reader. Begins reader) inv.begins (λ k reader below h. h) c.new.ensures.begins;
       left = left_push runs i readers heads new lt run c.new.ensures.found inv.left;
