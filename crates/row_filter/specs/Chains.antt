@@ -1,6 +1,6 @@
 -- A chain of datasets, by their numbers: 0 is the input, which is made from nothing and never kept.
 -- This project's own; Spark's resilient distributed datasets know their parents so.
-use Rattle.std.specs.Prelude.{ℕ, zero, suc, List, Option, Some, None, option_and_then, slice_get}
+use Rattle.std.specs.Prelude.{ℕ, zero, suc, List, Option, None, option_and_then, slice_get}
 use Rattle.std.specs.Option.{option_map_or}
 use Rattle.pool_ledger.specs.declared.entry.Level.{Level}
 use Rattle.run_file.specs.declared.form.Form.{Form}

@@ -1,1 +1,3 @@
 pub mod Chains
+pub mod Meaning
+pub mod Rows

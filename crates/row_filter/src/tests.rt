@@ -1,4 +1,8 @@
-// Chains and filters that are built by hand.
+// Chains and filters.
+mod filters;
+mod keeping;
+mod selecting;
+
 use crate::{Chain, Comparison, Constant, Filter, Link};
 use item_lists::{Boxed, Listed, Name};
 use pool_ledger::Level;

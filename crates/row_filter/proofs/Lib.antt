@@ -1,0 +1,4 @@
+mod Meanings
+mod Columns
+mod Negations
+mod Selections
