@@ -1,5 +1,5 @@
 """A model of a task's memory that shares nothing with the Rattle code. It is written from the rules of asks and spills
-alone, and computes what the scripts of `crates/task_memory/src/tests/*scripts.rt` are answered. Run it at the top of the
+alone, and computes what the scripts of `crates/spill_tests/src/tests/*scripts.rt` are answered. Run it at the top of the
 repository.
 
     python3 tools/spill_model.py table NAME..   these tables as they stand there
@@ -356,7 +356,7 @@ def faults():
 
 
 def check():
-    folder = 'crates/task_memory/src/tests/'
+    folder = 'crates/spill_tests/src/tests/'
     source = ''.join(open(folder + name + '.rt').read() for name in FILES)
     row = (r'name: "([^"]*)",\s*max: ([\d_]+),\s*parts: \[([^\]]*)\],\s*fails: &\[([^\]]*)\],\s*script: "([^"]*)",'
            r'\s*pool: "([^"]*)",\s*held: ([\d_]+),\s*runs: "([^"]*)",\s*created: (\d+),')

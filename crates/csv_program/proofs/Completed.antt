@@ -1,6 +1,6 @@
 -- A valid run with whole grants, in which nothing fails, prints its table.
 use Rattle.std.proofs.Common.{◌≡◌, ◌≤◌, ◌∷◌, ◌∙◌, [], ℕ, List, Option, Some, None, refl, sym, ap, subst, inl, inr, arith}
-use Rattle.std.specs.Prelude.{◌⊎◌, ◌==◌, IfSome}
+use Rattle.std.specs.Prelude.{◌⊎◌, ◌==◌, IfSome, unwrap_or}
 use Rattle.std.specs.Global.{Vec}
 use Rattle.std.specs.List.{AllByRecursion}
 use Rattle.std.proofs.lemmas.Bool.{cases_Bool, le-ltb}
@@ -15,7 +15,7 @@ use Rattle.pool_ledger.specs.Workers.{entries_of}
 use Rattle.pool_ledger.specs.declared.entry.Entry.{Entry}
 use Rattle.pool_ledger.specs.declared.entry.Event.{Event}
 use Rattle.pool_ledger.specs.declared.entry.Event.TheVariants.{Attempt}
-use Rattle.spill_stack.specs.Attempts.{Answered, last_after, last_attempt}
+use Rattle.task_account.specs.Attempts.{Answered, last_after, last_attempt}
 use Rattle.csv_program.specs.Calls.{Call, ForJob, Runs, call_by, call_of, call_with, job_of}
 use Rattle.csv_program.specs.Complete.{FailsNothing, GrantsAll, IsWhole}
 use Rattle.csv_program.specs.Endings.{EndsAs, Ending, Prints, ending_of}
@@ -45,14 +45,14 @@ own_whole worker (entry ∷ journal) all = elim (cases_Bool (entry.worker == wor
   | inr other ↦ rw other (own_whole worker journal all.1)
 ]
 
-after_whole : (task : ℕ) (event : Event) (was : Answered) → IsWhole event → was.asked ≤ was.got → (last_after task event was).asked ≤ (last_after task event was).got
+after_whole : (task : ℕ) (event : Event) (was : Answered) → IsWhole event → was.asked ≤ unwrap_or was.got 0 → (last_after task event was).asked ≤ unwrap_or (last_after task event was).got 0
 after_whole task (Attempt t asked moved evictions got) was whole before = elim (cases_Bool (t == task)) [
   | inl same ↦ rw same whole
   | inr other ↦ rw other before
 ]
 after_whole task _ was whole before = before
 
-last_whole : (task : ℕ) (history : History) → AllByRecursion (λ entry. IsWhole entry.event) history → (last_attempt history task).asked ≤ (last_attempt history task).got
+last_whole : (task : ℕ) (history : History) → AllByRecursion (λ entry. IsWhole entry.event) history → (last_attempt history task).asked ≤ unwrap_or (last_attempt history task).got 0
 last_whole task [] all = omega arith
 last_whole task (entry ∷ before) all = after_whole task entry.event (last_attempt before task) all.0 (last_whole task before all.1)
 
@@ -60,7 +60,8 @@ not_short : (pool : Sizes) (journal : List Entry) (asked held floor : ℕ) → G
 not_short pool journal asked held floor all shows =
     let whole = last_whole shows.task (history_of (entries_of shows.worker journal)) (all_reverse (λ entry. IsWhole entry.event) (entries_of shows.worker journal) (own_whole shows.worker journal all)) in
     let short = shows.shows.short in
-    absurd (omega (arith, whole, short))
+    let granted : unwrap_or (last_attempt (history_of (entries_of shows.worker journal)) shows.task).got 0 ≡ shows.shows.granted = ap (λ (got : Option ℕ). unwrap_or got 0) shows.shows.got in
+    absurd (omega (arith, whole, short, granted))
 
 -- ---- the status
 

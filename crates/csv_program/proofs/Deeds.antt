@@ -13,7 +13,7 @@ use Rattle.pool_ledger.specs.declared.entry.Event.TheVariants.{Begin, End}
 use Rattle.pool_laws.specs.Growing.{entry_by}
 use Rattle.pool_laws.specs.Owners.{IsByOwner}
 use Rattle.memory_lock.proofs.Staying.{all_append, all_imply}
-use Rattle.spill_stack.specs.Going.{IsOfTask}
+use Rattle.task_pool.specs.Asks.{IsOfTask}
 use Rattle.task_runner.specs.Workers.{AreTasks, part_at}
 use Rattle.task_runner.specs.Works.{IsTaskOf}
 use Rattle.csv_program.specs.Doing.{HasDone}

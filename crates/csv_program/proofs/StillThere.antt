@@ -6,7 +6,7 @@ use Rattle.spill_disk.specs.Files.{Files}
 use Rattle.run_file.specs.declared.run.Run.{Run}
 use Rattle.run_file.specs.Several.{IsFileAmong, KeepsFile, KeepsOthers}
 use Rattle.run_file.specs.Several.{no_run, run_at}
-use Rattle.spill_stack.specs.Writing.{WasNotThere}
+use Rattle.task_memory.specs.Writing.{WasNotThere}
 use Rattle.task_runner.specs.Pass.{AreInNewFiles, KeepsAll}
 
 keeps_itself : (files : Option Files) (file : ℕ) → KeepsFile files files file

@@ -37,12 +37,14 @@ use run_file::Run;
 use spill_disk::Disk;
 use std::alloc::Global;
 use std::sync::Wait;
-use task_runner::{Post, WorkFault, run_final, run_workers, swap_consumers, take_consumers};
+use task_runner::{
+    Executor, Post, WorkFault, run_final, run_workers, swap_consumers, take_consumers,
+};
 
 /// Does all tasks of a plan of one query over landed partitions, in a pool of these sizes: those of the partitions, worker after
 /// worker on this thread, and then the final one, which merges their runs into the answer. There is no journal exactly where no
 /// pool could be made.
-pub fn run_tasks<K: Disk, D: Disk, C: Consumer, B: Basis, R: Wait + Sync>(
+pub fn run_tasks<K: Disk, D: Disk, C: Consumer, B: Basis, R: Wait>(
     rt: &R,
     alloc: Global,
     pool: Setup,
@@ -93,22 +95,25 @@ pub fn run_tasks<K: Disk, D: Disk, C: Consumer, B: Basis, R: Wait + Sync>(
     let Ok((manager, mut workers)) = Manager::<K, B>::start(alloc, pool, store) else {
         return (Err(WorkFault::NoMemory), None);
     };
-    let answer = work(rt, alloc, &manager, &mut workers, plan, parts, posts);
+    let executor = Executor {
+        rt,
+        alloc,
+        manager: &manager,
+    };
+    let answer = work(&executor, &mut workers, plan, parts, posts);
     let (journal, _store) = manager.close(workers);
     (answer, Some(journal))
 }
 
 // Does all tasks with these workers: each worker's own, and the final one by the first.
-fn work<K: Disk, D: Disk, C: Consumer, B: Basis, R: Wait + Sync>(
-    rt: &R,
-    alloc: Global,
-    manager: &Manager<K, B>,
+fn work<K: Disk, D: Disk, C: Consumer, B: Basis, R: Wait>(
+    executor: &Executor<'_, R, K, B>,
     workers: &mut Vec<Worker<B>>,
     plan: &Plan,
     parts: &[Run],
     posts: &mut Vec<Post<D, C>>,
 ) -> Result<Option<Run>, WorkFault>
-    requires workers { AreWorkers manager.now B.sizes.workers workers.old.items }
+    requires workers { AreWorkers executor.now.manager.now B.sizes.workers workers.old.items }
     requires fresh { AreNew workers.old.items }
     requires some { 1 ≤ B.sizes.workers }
     requires owner { (task : ℕ) → B.owner task ≡ owner_of B.sizes.workers (length parts.now) task }
@@ -139,7 +144,7 @@ fn work<K: Disk, D: Disk, C: Consumer, B: Basis, R: Wait + Sync>(
     ensures named { DamagedOn result (λ post. post < B.sizes.workers) }
 
     // The workers' own entries.
-    ensures workers { AreWorkers manager.now B.sizes.workers workers.new.items }
+    ensures workers { AreWorkers executor.now.manager.now B.sizes.workers workers.new.items }
     ensures done { (worker : ℕ) (any : PassState) → worker < B.sizes.workers → HasDone B.sizes.workers (length parts.now) worker
         (own_entries (slice_index_or workers.new.items worker any)) }
     ensures all { OnOk result ((worker : ℕ) (any : PassState) → worker < B.sizes.workers → BeginsOwn B.sizes.workers (length parts.now) worker
@@ -148,21 +153,19 @@ fn work<K: Disk, D: Disk, C: Consumer, B: Basis, R: Wait + Sync>(
         × ((any : PassState) → ShowsNoRoom B.sizes (own_of (slice_index_or workers.new.items worker any)) task asked held floor)) }
 {
     if parts.is_empty() {
-        let none = Vec::new(alloc);
+        let none = Vec::new(executor.alloc);
         // Without a run nothing is read, so memory alone can be wanting.
-        return match finish(rt, alloc, manager, workers, plan.kind(0), posts, none, 0) {
+        return match finish(executor, workers, plan.kind(0), posts, none, 0) {
             Ok(answer) => Ok(answer),
             Err(_) => Err(WorkFault::NoMemory),
         };
     }
-    let runs = match run_workers(rt, alloc, manager, workers, plan, parts, posts) {
+    let runs = match run_workers(executor, workers, plan, parts, posts) {
         Ok(runs) => runs,
         Err(fault) => return Err(fault),
     };
     finish(
-        rt,
-        alloc,
-        manager,
+        executor,
         workers,
         plan.kind(0),
         posts,
@@ -172,17 +175,15 @@ fn work<K: Disk, D: Disk, C: Consumer, B: Basis, R: Wait + Sync>(
 }
 
 // Does the final task, by the first worker.
-fn finish<K: Disk, D: Disk, C: Consumer, B: Basis, R: Wait + Sync>(
-    rt: &R,
-    alloc: Global,
-    manager: &Manager<K, B>,
+fn finish<K: Disk, D: Disk, C: Consumer, B: Basis, R: Wait>(
+    executor: &Executor<'_, R, K, B>,
     workers: &mut Vec<Worker<B>>,
     kind: &Kind,
     posts: &mut Vec<Post<D, C>>,
     runs: Vec<Run>,
     number: u32,
 ) -> Result<Option<Run>, WorkFault>
-    requires workers { AreWorkers manager.now B.sizes.workers workers.old.items }
+    requires workers { AreWorkers executor.now.manager.now B.sizes.workers workers.old.items }
     requires some { 1 ≤ B.sizes.workers }
     requires owner { B.owner number ≡ Some 0 }
     requires free { (any : PassState) → IsFree (slice_index_or workers.old.items 0 any) }
@@ -201,7 +202,7 @@ fn finish<K: Disk, D: Disk, C: Consumer, B: Basis, R: Wait + Sync>(
         MergesTotal (post_files D.files posts.new) kind.now lists result }
 
     // The first worker's own entries.
-    ensures workers { AreWorkers manager.now B.sizes.workers workers.new.items }
+    ensures workers { AreWorkers executor.now.manager.now B.sizes.workers workers.new.items }
     ensures works { OnOk result ((any : PassState) → Works number (slice_index_or workers.old.items 0 any) (slice_index_or workers.new.items 0 any)) }
     ensures may_work { (any : PassState) → MayWork number (slice_index_or workers.old.items 0 any) (slice_index_or workers.new.items 0 any) }
     ensures no_room { IfNoRoom result (λ asked held floor. (any : PassState)
@@ -218,30 +219,19 @@ fn finish<K: Disk, D: Disk, C: Consumer, B: Basis, R: Wait + Sync>(
     ensures cause { HasCauseAmong (post_faults D.faults posts.old) (post_faults D.faults posts.new) result }
     ensures named { (count : ℕ) → 0 < count → AreOn count runs.items → DamagedOn result (λ post. post < count) }
 {
-    merge_aside(
-        rt,
-        alloc,
-        manager,
-        &mut workers[0],
-        kind,
-        posts,
-        runs,
-        number,
-    )
+    merge_aside(executor, &mut workers[0], kind, posts, runs, number)
 }
 
 // The same by this worker. The consumers are kept aside: a merge on the posts as a shelf says nothing of them.
-fn merge_aside<K: Disk, D: Disk, C: Consumer, B: Basis, R: Wait + Sync>(
-    rt: &R,
-    alloc: Global,
-    manager: &Manager<K, B>,
+fn merge_aside<K: Disk, D: Disk, C: Consumer, B: Basis, R: Wait>(
+    executor: &Executor<'_, R, K, B>,
     worker: &mut Worker<B>,
     kind: &Kind,
     posts: &mut Vec<Post<D, C>>,
     runs: Vec<Run>,
     number: u32,
 ) -> Result<Option<Run>, WorkFault>
-    requires manager { worker.old.lock ≡ manager.now }
+    requires manager { worker.old.lock ≡ executor.now.manager.now }
     requires owner { B.owner number ≡ Some worker.old.number }
     requires free { IsFree worker.old }
     requires fresh { was_begun (own_of worker.old) number ≡ false }
@@ -274,11 +264,11 @@ fn merge_aside<K: Disk, D: Disk, C: Consumer, B: Basis, R: Wait + Sync>(
     ensures cause { HasCauseAmong (post_faults D.faults posts.old) (post_faults D.faults posts.new) result }
     ensures named { (count : ℕ) → 0 < count → AreOn count runs.items → DamagedOn result (λ post. post < count) }
 {
-    let Ok(mut aside) = take_consumers(alloc, posts) else {
+    let Ok(mut aside) = take_consumers(executor.alloc, posts) else {
         let _number = worker.number();
         return Err(WorkFault::NoMemory);
     };
-    let answer = run_final(rt, alloc, manager, worker, kind, posts, runs, number);
+    let answer = run_final(executor, worker, kind, posts, runs, number);
     swap_consumers(posts, &mut aside);
     // That it rests is known with its number.
     let _number = worker.number();

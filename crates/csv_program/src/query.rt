@@ -33,7 +33,7 @@ use std::sync::Wait;
 use task_runner::{Post, WorkFault};
 
 /// Does the tasks of a plan of one query over landed partitions, in a pool of these sizes, checks the sums, and prints the table.
-pub fn run_query<K: Disk, D: Disk, C: Consumer, W: Sink, B: Basis, R: Wait + Sync>(
+pub fn run_query<K: Disk, D: Disk, C: Consumer, W: Sink, B: Basis, R: Wait>(
     rt: &R,
     alloc: Global,
     pool: Setup,

@@ -1,4 +1,4 @@
-//! Tests of `part_spiller` and `spill_stack`, apart from them so that neither is proved a second time.
+//! Tests of `part_spiller`, `task_account` and `task_memory`, apart from them so that none is proved a second time.
 #![tactic(auto)]
 
 #[cfg(test)]

@@ -1,5 +1,14 @@
-//! Spillers that are fed and spilled by hand, an account of a task, and the picks of its spills. What spills do is
-//! tested in `task_memory`, by scripts.
+//! Spillers that are fed and spilled by hand, an account of a task, and a task's memory, by scripts of what is called.
 
 mod accounts;
+mod choice_scripts;
+mod lives;
+mod memories;
+mod nested_scripts;
+mod part_scripts;
+mod playing;
+mod scripts;
 mod spillers;
+mod steps;
+mod texts;
+mod threads;

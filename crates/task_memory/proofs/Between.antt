@@ -1,17 +1,123 @@
--- A task's memory is ready for the next call after bytes were got for a consumer.
-use Rattle.std.proofs.Common.{ℕ, ◌<◌, List, Option, length, subst, sym, arith}
+-- A task's memory is ready for the next call.
+use Rattle.std.proofs.Common.{◌≡◌, ℕ, ◌<◌, List, [], Bool, Option, length, set, sym, ap, subst, ◌∙◌, arith, inl, inr}
 use Rattle.std.specs.Prelude.{IsSome, slice_index}
+use Rattle.std.proofs.lemmas.List.Elements.{All-nil}
+use Rattle.std.proofs.lemmas.List.{length-set, get_or-set_other}
 use Rattle.aggregate.specs.declared.kind.Kind.{Kind}
+use Rattle.aggregate.specs.Totals.{Entry}
+use Rattle.row_page.specs.Pages.{PageView}
+use Rattle.run_file.specs.declared.run.Run.{Run}
 use Rattle.consumer_trait.specs.Members.{state_at}
-use Rattle.spill_stack.specs.Pauses.{AllSame}
-use Rattle.spill_stack.specs.Scenes.{Scene}
-use Rattle.spill_stack.specs.Feeding.{Raises}
-use Rattle.task_memory.specs.Live.{IsBetween}
+use Rattle.task_memory.specs.declared.ask.Ask.{Ask}
+use Rattle.task_memory.specs.Asking.{Keeps}
+use Rattle.task_memory.specs.Feeding.{FedTo, Raises}
+use Rattle.task_memory.specs.Pauses.{AllSame}
+use Rattle.task_memory.specs.RunLists.{AreBounded, IsBounded}
+use Rattle.task_memory.specs.Scenes.{Drains, GoesOn, IsBetween, Scene, Stays}
+use Rattle.task_memory.specs.Stacks.{IsPick, Stack}
+use Rattle.task_pool.specs.Pools.{IsAtWork}
+use Rattle.task_memory.proofs.Places.{at_or_not}
+use Rattle.task_memory.proofs.Taken.{none_left}
 
-pub between_told : (old new : Scene) (who must leasts roomed : ℕ) → IsBetween old leasts roomed → Raises old new who must → AllSame old.states new.states → IsBetween new leasts roomed
-between_told old new who must leasts roomed between raises same = record {
-  ready = raises.ready;
-  begun = subst (λ (picks : List ℕ). (j : ℕ) → j < length picks → IsSome (state_at new.states (slice_index picks j)).kind) (sym raises.picks)
-      (λ j below. subst (λ (kind : Option Kind). IsSome kind) (sym (same.each (slice_index old.picks j) (between.ready.picked.within j below)).kind) (between.begun j below));
-  holds = omega (arith, between.holds, raises.balance);
+-- the task's own are among all
+pub pick_within : (scene : Scene) (who : ℕ) → IsBetween scene → IsPick scene.stack.picks who → who < length scene.stack.states
+pick_within scene who between pick = subst (λ (place : ℕ). place < length scene.stack.states) pick.there (between.rests.ready.picked.within pick.place pick.within)
+
+-- and were begun
+pub pick_begun : (scene : Scene) (who : ℕ) → IsBetween scene → IsPick scene.stack.picks who → IsSome (state_at scene.stack.states who).kind
+pick_begun scene who between pick = subst (λ (place : ℕ). IsSome (state_at scene.stack.states place).kind) pick.there (between.begun pick.place pick.within)
+
+begun_on : (old new : Stack) → ((j : ℕ) → j < length old.picks → slice_index old.picks j < length old.states) → new.picks ≡ old.picks → AllSame old.states new.states
+    → ((j : ℕ) → j < length old.picks → IsSome (state_at old.states (slice_index old.picks j)).kind) → (j : ℕ) → j < length new.picks → IsSome (state_at new.states (slice_index new.picks j)).kind
+begun_on old new within picks same begun =
+    subst (λ (list : List ℕ). (j : ℕ) → j < length list → IsSome (state_at new.states (slice_index list j)).kind) (sym picks)
+    (λ j below. subst (λ (kind : Option Kind). IsSome kind) (sym (same.each (slice_index old.picks j) (within j below)).kind) (begun j below))
+
+raises_same : (old new : Stack) (who must : ℕ) → Raises old new who must → AllSame old.states new.states
+raises_same old new who must raises = record {
+  members = raises.members;
+  each = λ i below. elim (at_or_not i who) [
+    | inl here ↦ rw here raises.raised.same
+    | inr other ↦ (raises.others i below other).same
+  ];
+}
+
+-- after bytes were got for a consumer
+pub between_told : (old new : Scene) (who must : ℕ) → IsBetween old → Raises old.stack new.stack who must → Stays old new
+    → new.page ≡ record { rows = []; room = 262144 } → IsAtWork new.pool → IsBetween new
+between_told old new who must between raises stays page at_work = record {
+  rests = record { ready = raises.ready; page = page; at_work = at_work };
+  begun = begun_on old.stack new.stack between.rests.ready.picked.within raises.picks (raises_same old.stack new.stack who must raises) between.begun;
+  holds = omega (arith, between.holds, raises.balance, stays.leasts, stays.roomed);
+}
+
+-- after spills
+pub between_kept : (old new : Scene) → IsBetween old → Keeps old.stack new.stack 0 → GoesOn old new → new.page ≡ record { rows = []; room = 262144 } → IsBetween new
+between_kept old new between keeps goes page = record {
+  rests = record { ready = keeps.ready; page = page; at_work = goes.pool.at_work };
+  begun = begun_on old.stack new.stack between.rests.ready.picked.within keeps.picks goes.same between.begun;
+  holds = omega (arith, between.holds, keeps.balance, goes.stays.leasts, goes.stays.roomed);
+}
+
+none_bounded : (runs : List (List Run)) (who : ℕ) → AreBounded runs → AreBounded (set runs who [])
+none_bounded runs who bounded i = elim (at_or_not i who) [
+  | inl here ↦ rw here (rw (none_left runs who) (All-nil IsBounded))
+  | inr other ↦ rw (get_or-set_other runs who i [] [] other) (bounded i)
+]
+
+-- after a consumer was fed
+pub between_fed : (old new : Scene) (who : ℕ) (entry : Entry) → IsBetween old → FedTo old.stack new.stack who entry → Stays old new
+    → new.page ≡ record { rows = []; room = 262144 } → IsAtWork new.pool → IsBetween new
+between_fed old new who entry between fed stays page at_work =
+    let kinds : (i : ℕ) → i < length old.stack.states → (state_at new.stack.states i).kind ≡ (state_at old.stack.states i).kind = λ i below. elim (at_or_not i who) [
+      | inl here ↦ rw here fed.takes.kind
+      | inr other ↦ (fed.others i below other).same.kind
+    ] in
+    record {
+      rests = record { ready = fed.ready; page = page; at_work = at_work };
+      begun = subst (λ (list : List ℕ). (j : ℕ) → j < length list → IsSome (state_at new.stack.states (slice_index list j)).kind) (sym fed.picks)
+          (λ j below. subst (λ (kind : Option Kind). IsSome kind) (sym (kinds (slice_index old.stack.picks j) (between.rests.ready.picked.within j below))) (between.begun j below));
+      holds = omega (arith, between.holds, fed.balance, stays.leasts, stays.roomed);
+    }
+
+-- after the runs of a consumer were taken
+pub between_taken : (mid : Scene) (runs : List (List Run)) (picks : List ℕ) (resting : List Bool) (asks : List Ask) (deepest : ℕ) (page : PageView) (who : ℕ) → IsBetween mid
+    → runs ≡ set mid.stack.runs who [] → picks ≡ mid.stack.picks → page ≡ mid.page → deepest ≡ mid.stack.deepest
+    → IsBetween (record mid { stack = record mid.stack { runs = runs; picks = picks; resting = resting; asks = asks; deepest = deepest }; page = page })
+between_taken mid runs picks resting asks deepest page who between is_runs is_picks is_page is_deepest =
+    let ready = between.rests.ready in
+    record {
+      rests = record {
+        ready = record {
+          lengths = ap (λ (lists : List (List Run)). length lists) is_runs ∙ length-set mid.stack.runs who [] ∙ ready.lengths;
+          bounded = subst (λ (lists : List (List Run)). AreBounded lists) (sym is_runs) (none_bounded mid.stack.runs who ready.bounded);
+          picked = rw is_picks ready.picked;
+          begun = ready.begun;
+          rests = ready.rests;
+          covered = ready.covered;
+          small = ready.small;
+          shallow = omega (arith, is_deepest, ready.shallow);
+        };
+        page = is_page ∙ between.rests.page;
+        at_work = between.rests.at_work;
+      };
+      begun = rw is_picks between.begun;
+      holds = between.holds;
+    }
+
+-- whether a call gave up is beside it
+pub drains_live : (old new : Scene) (who : ℕ) (taken : List Run) (live : Bool) → Drains old new who taken → Drains old (record new { live = live }) who taken
+drains_live old new who taken live drains = record {
+  empty = drains.empty;
+  kept = drains.kept;
+  picks = drains.picks;
+  bounded = drains.bounded;
+  totals = drains.totals;
+  new_files = drains.new_files;
+  only = drains.only;
+  between = record {
+    rests = record { ready = drains.between.rests.ready; page = drains.between.rests.page; at_work = drains.between.rests.at_work };
+    begun = drains.between.begun;
+    holds = drains.between.holds;
+  };
 }

@@ -1,5 +1,5 @@
 -- A task's memory is ready once its consumers are begun and their leasts are got.
-use Rattle.std.proofs.Common.{◌≡◌, ◌≢◌, ◌⊎◌, inl, inr, ℕ, zero, suc, ◌<◌, ◌≤◌, ◌^◌, List, [], ◌∷◌, Option, All, length, replicate, refl, sym, ap, subst, ◌∙◌, arith}
+use Rattle.std.proofs.Common.{◌≡◌, ◌≢◌, ◌⊎◌, inl, inr, ℕ, zero, suc, ◌+◌, ◌<◌, ◌≤◌, ◌^◌, List, [], ◌∷◌, Option, All, length, replicate, refl, sym, ap, subst, ◌∙◌, arith}
 use Rattle.std.specs.Prelude.{IsSome, slice_index, sum_by}
 use Rattle.std.proofs.lemmas.List.{length-replicate}
 use Rattle.std.proofs.lemmas.List.Sums.{sum_by-cons}
@@ -8,12 +8,13 @@ use Rattle.spill_disk.specs.Files.{Files}
 use Rattle.run_file.specs.declared.run.Run.{Run}
 use Rattle.consumer_trait.specs.States.{State, Rest}
 use Rattle.consumer_trait.specs.Members.{state_at}
-use Rattle.spill_stack.specs.Accounts.{Held}
-use Rattle.spill_stack.specs.RunLists.{runs_at, lists_of, IsBounded}
-use Rattle.spill_stack.specs.Scenes.{scene_of, IsPick, used_by}
-use Rattle.spill_stack.specs.declared.spills.Spills.{Spills}
+use Rattle.task_pool.specs.Accounts.{Held}
+use Rattle.task_memory.specs.RunLists.{runs_at, lists_of, IsBounded}
+use Rattle.task_memory.specs.Stacks.{stack_of, IsDry, IsPick, Stack, used_by}
+use Rattle.task_memory.specs.Asking.{IsReady}
+use Rattle.task_memory.specs.declared.spills.Spills.{Spills}
 use Rattle.task_memory.proofs.Places.{at_or_not}
-use Rattle.task_memory.specs.Live.{IsBetween, leasts_of}
+use Rattle.task_memory.specs.Leasts.{leasts_of}
 use Rattle.task_memory.specs.Starting.{ArePlaces, Begins}
 
 -- where each uses nothing, all do
@@ -68,6 +69,10 @@ fresh_at picks kinds old new begins i below = elim (among picks i) [
       }
 ]
 
+-- so none of them has an entry
+pub dry_is : (picks : List ℕ) (kinds : List Kind) (old new : List State) → Begins picks kinds old new → IsDry new
+dry_is picks kinds old new begins = λ i below. (fresh_at picks kinds old new begins i (let members = begins.members in omega arith)).entries
+
 sum_same : (f g : ℕ → ℕ) (places : List ℕ) → ((j : ℕ) → j < length places → f (slice_index places j) ≡ g (slice_index places j)) → sum_by f places ≡ sum_by g places
 sum_same f g [] same = refl
 sum_same f g (place ∷ places) same =
@@ -95,8 +100,14 @@ none_bounded (run ∷ runs) none = absurd (let same : length (run ∷ runs) ≡ 
 
 -- The memory
 
-pub started_between : (picks : List ℕ) (kinds : List Kind) (old new : List State) (files : Option Files) (account : Held) (spills : Spills) (leasts count : ℕ) → ArePlaces picks kinds old → Begins picks kinds old new → spills.picks.items ≡ picks → lists_of spills.runs.items ≡ replicate count [] → count ≡ length new → account.held ≡ leasts → account.held ≤ 2 ^ 50 → IsBetween (scene_of new files account spills) leasts 0
-started_between picks kinds old new files account spills leasts count places begins are none each holds small =
+-- what is known of the memory then
+pub record IsStarted (stack : Stack) (leasts : ℕ) : Type 0 where
+  pub ready : IsReady stack
+  pub begun : (j : ℕ) → j < length stack.picks → IsSome (state_at stack.states (slice_index stack.picks j)).kind
+  pub holds : stack.account.held ≡ leasts + used_by stack.states
+
+pub started_between : (picks : List ℕ) (kinds : List Kind) (old new : List State) (files : Option Files) (account : Held) (spills : Spills) (leasts count : ℕ) → ArePlaces picks kinds old → Begins picks kinds old new → spills.picks.items ≡ picks → lists_of spills.runs.items ≡ replicate count [] → spills.deepest ≡ 0 → count ≡ length new → account.held ≡ leasts → account.held ≤ 2 ^ 50 → IsStarted (stack_of new files account spills) leasts
+started_between picks kinds old new files account spills leasts count places begins are none no_depth each holds small =
     let fresh : (i : ℕ) → i < length new → IsFresh (state_at new i) = λ i below. fresh_at picks kinds old new begins i (let members = begins.members in omega arith) in
     let nothing : used_by new ≡ 0 = zero_used new (λ i below. (fresh i below).used) in
     record {
@@ -112,6 +123,7 @@ started_between picks kinds old new files account spills leasts count places beg
         rests = λ i below. (fresh i below).stage;
         covered = omega (arith, nothing);
         small = small;
+        shallow = omega (arith, no_depth);
       };
       begun = subst (λ (list : List ℕ). (j : ℕ) → j < length list → IsSome (state_at new (slice_index list j)).kind) (sym are)
           (λ j below. subst (λ (kind : Option Kind). IsSome kind) (sym (ap (λ (state : State). state.kind) (begins.begun j below))) refl);

@@ -1,83 +1,66 @@
 //! Bytes that are got without a spill.
 
-ghost use Rattle.std.specs.Prelude.{◌≡◌, ◌+◌, ◌≤◌, ◌<◌, ◌^◌, ℕ, length, map, slice_index, IfOk, IfErr, OnOk};
-ghost use Rattle.spill_stack.specs.Attempts.{held_by};
-ghost use Rattle.spill_stack.specs.Going.{Goes, IsAtWork};
-ghost use Rattle.task_memory.specs.Alone.{LacksAlone, LacksLeast};
-ghost use Rattle.task_memory.specs.Live.{leasts_of};
+ghost use Rattle.std.specs.Prelude.{◌≡◌, ◌≤◌, ℕ, IfNone, IfOk, IfSome, OnOk};
+ghost use Rattle.fault_count.specs.Faults.{HasCauseAt};
+ghost use Rattle.task_memory.specs.Feeding.{GetsAlone, GetsNothing, IfNoRoom, IsTooLittle};
+ghost use Rattle.task_memory.specs.Scenes.{AreBytes};
+ghost use Rattle.task_pool.specs.Asks.{FirstAsks};
+ghost use Rattle.task_pool.specs.Pools.{Goes, IsAtWork};
 
-use crate::TaskFault;
-use consumer_trait::{Consumer, least_at};
-use memory_lock::{Basis, Worker};
-use spill_disk::Disk;
-use spill_stack::Account;
-use std::sync::Wait;
+use crate::fault::TaskFault;
+use std::alloc::AllocError;
+use task_pool::{Pool, pools_go_on};
 
-// Gets at least `must` bytes by one attempt for `wish`, of a task that holds `held`. What is less is given back.
-pub(crate) fn acquire_alone<K: Disk, B: Basis, R: Wait + Sync>(
-    rt: &R,
-    account: &Account<'_, K, B>,
-    worker: &mut Worker<B>,
+/// Gets at least `must` bytes by one attempt for `wish`, or nothing: what is less is given back, and the answer is
+/// `None`.
+pub fn acquire_or_nothing<P: Pool>(
+    pool: &mut P,
+    must: u64,
+    wish: u64,
+) -> Result<Option<u64>, AllocError>
+    requires at_work { IsAtWork (P.state pool.old) }
+    requires bytes { AreBytes must wish }
+    ensures gets { IfOk result (λ answer. IfSome answer
+        (GetsAlone (P.state pool.old).account (P.state pool.new).account must wish)) }
+    ensures too_little { IfOk result (λ answer. IfNone answer
+        (IsTooLittle (P.state pool.old).account (P.state pool.new).account must must)) }
+    ensures first { OnOk result (FirstAsks wish (P.state pool.old).worker (P.state pool.new).worker) }
+    ensures goes { Goes (P.state pool.old) (P.state pool.new) }
+{
+    // For the proof: no call is a way to go on, and so are two calls.
+    pools_go_on();
+    let got = pool.acquire(wish)?;
+    if got >= must {
+        return Ok(Some(got));
+    }
+    pool.release(got)?;
+    Ok(None)
+}
+
+// The same of a task that holds `held`, with the refusal of a task's memory.
+pub(crate) fn acquire_alone<P: Pool>(
+    pool: &mut P,
     must: u64,
     wish: u64,
     held: u64,
 ) -> Result<u64, TaskFault>
-    requires open { IsAtWork account.now.manager.now account.now.task worker.old }
-    requires some { 1 ≤ must }
-    requires wish { must ≤ wish }
-    requires most { wish ≤ 2 ^ 50 }
-    requires held { held ≡ (held_by account.now.task worker.old).held }
-    ensures enough { IfOk result (λ got. must ≤ got) }
-    ensures few { IfOk result (λ got. got ≤ wish) }
-    ensures holds { IfOk result (λ got. (held_by account.now.task worker.new).held ≡ (held_by account.now.task worker.old).held + got) }
-    ensures small { OnOk result ((held_by account.now.task worker.new).held ≤ 2 ^ 50) }
-    ensures refused { IfErr result (LacksAlone B.sizes (held_by account.now.task worker.old) (held_by account.now.task worker.new) must) }
-    ensures open { IsAtWork account.now.manager.now account.now.task worker.new }
-    ensures goes { Goes account.now.task worker.old worker.new }
+    requires at_work { IsAtWork (P.state pool.old) }
+    requires bytes { AreBytes must wish }
+    requires held { held ≡ (P.state pool.old).account.held }
+    ensures gets { IfOk result (GetsAlone (P.state pool.old).account (P.state pool.new).account must wish) }
+    ensures no_room { IfNoRoom result (P.state pool.new).account
+        (GetsNothing (P.state pool.old) (P.state pool.new) must wish) }
+    ensures first { OnOk result (FirstAsks wish (P.state pool.old).worker (P.state pool.new).worker) }
+    ensures goes { Goes (P.state pool.old) (P.state pool.new) }
+    ensures no_disk { (faults : ℕ) → HasCauseAt TaskFault.DiskFault faults faults result }
 {
-    account.goes_on();
-    let Ok(got) = account.acquire(rt, worker, wish) else {
-        return Err(TaskFault::NoMemory);
-    };
-    if got >= must {
-        return Ok(got);
-    }
-    match account.release(rt, worker, got) {
-        Ok(()) => Err(TaskFault::NoRoom {
+    match acquire_or_nothing(pool, must, wish) {
+        Ok(Some(got)) => Ok(got),
+        Ok(None) => Err(TaskFault::NoRoom {
             asked: must,
             held,
-            floor: account.manager.setup().floor(),
+            floor: pool.floor(),
         }),
         Err(_) => Err(TaskFault::NoMemory),
     }
-}
-
-// Gets the leasts of the consumers at these places, one by one, and answers their sum.
-pub(crate) fn take_leasts<C: Consumer, K: Disk, B: Basis, R: Wait + Sync>(
-    rt: &R,
-    members: &[C],
-    account: &Account<'_, K, B>,
-    worker: &mut Worker<B>,
-    picks: &[usize],
-) -> Result<u64, TaskFault>
-    requires open { IsAtWork account.now.manager.now account.now.task worker.old }
-    requires nothing { (held_by account.now.task worker.old).held ≡ 0 }
-    requires within { (j : ℕ) → j < length picks.now → slice_index picks.now j < length members.now }
-    ensures sum { IfOk result (λ sum. sum ≡ leasts_of picks.now (map C.state members.now)) }
-    ensures holds { IfOk result (λ sum. (held_by account.now.task worker.new).held ≡ sum) }
-    ensures small { OnOk result ((held_by account.now.task worker.new).held ≤ 2 ^ 50) }
-    ensures refused { IfErr result (LacksLeast B.sizes (held_by account.now.task worker.new) (leasts_of picks.now (map C.state members.now))) }
-    ensures open { IsAtWork account.now.manager.now account.now.task worker.new }
-    ensures goes { Goes account.now.task worker.old worker.new }
-{
-    account.goes_on();
-    let mut sum: u64 = 0;
-    for j in 0..picks.len() {
-        let least = least_at(members, picks[j]);
-        // A least of 0 isn't asked for.
-        if least > 0 {
-            sum += acquire_alone(rt, account, worker, least, least, sum)?;
-        }
-    }
-    Ok(sum)
 }

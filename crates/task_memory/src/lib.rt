@@ -2,16 +2,26 @@
 #![tactic(auto)]
 
 mod alone;
-mod asks;
+mod ask;
 mod begin;
-mod calls;
+mod draining;
 mod fault;
+mod feeding;
 mod memory;
-mod rooming;
+mod next;
+mod obtained;
+mod obtaining;
+mod scenes;
+mod spill;
+mod spills;
 mod starting;
-#[cfg(test)]
-mod tests;
+mod steps;
+mod uses;
+mod writing;
 
+pub use alone::acquire_or_nothing;
 pub use fault::TaskFault;
-pub use memory::{TaskMemory, end_task};
+pub use memory::{Memory, TaskMemory};
+pub use scenes::scenes_go_on;
+pub use spills::Spills;
 pub use starting::{Started, start};

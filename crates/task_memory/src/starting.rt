@@ -1,98 +1,98 @@
-//! How a task's memory starts.
+//! A task's memory as it starts.
 
-ghost use Rattle.std.specs.Prelude.{◌≡◌, [], length, map, replicate, true, IfOk, IfErr, Option};
+ghost use Rattle.std.specs.Prelude.{◌≡◌, ◌<◌, [], ℕ, Option, length, map, replicate, slice_index, IfOk};
+ghost use Rattle.fault_count.specs.Faults.{HasCauseAt};
 ghost use Rattle.spill_disk.specs.Files.{Files};
-ghost use Rattle.spill_stack.specs.Attempts.{held_by};
-ghost use Rattle.spill_stack.specs.Going.{Goes, IsAtWork};
-ghost use Rattle.spill_stack.specs.RunLists.{lists_of};
-ghost use Rattle.spill_stack.specs.Scenes.{scene_of};
-ghost use Rattle.task_memory.specs.Alone.{LacksLeast};
-ghost use Rattle.task_memory.specs.Live.{IsBetween, leasts_of};
+ghost use Rattle.task_memory.specs.Feeding.{IfNoRoom};
+ghost use Rattle.task_memory.specs.Leasts.{CannotStart, IsLeastLacking, TakesLeasts, leasts_of};
+ghost use Rattle.task_memory.specs.RunLists.{lists_of};
+ghost use Rattle.task_memory.specs.Scenes.{IsLive};
 ghost use Rattle.task_memory.specs.Starting.{AreAlike, ArePlaces, Begins};
+ghost use Rattle.task_memory.specs.Words.{begun_scene};
+ghost use Rattle.task_pool.specs.Pools.{Goes, IsAtWork};
 
-use crate::TaskFault;
-use crate::alone::take_leasts;
+use crate::alone::acquire_alone;
 use crate::begin::begin_all;
-use crate::memory::TaskMemory;
+use crate::fault::TaskFault;
+use crate::spills::Spills;
 use aggregate::Kind;
-use consumer_trait::Consumer;
-use memory_lock::{Basis, Worker};
-use spill_disk::Disk;
-use spill_stack::{Account, Spills};
+use consumer_trait::{Consumer, least_at};
 use std::alloc::Global;
-use std::sync::Wait;
+use task_pool::{Pool, pools_go_on};
 
 /// What a task's memory starts with, beside what is lent to it.
 #[derive(Drop)]
 pub struct Started {
-    pub(crate) spills: Spills,
-    pub(crate) leasts: u64,
+    /// What is kept of its spills.
+    pub spills: Spills,
+    /// The bytes that are held for its consumers' leasts.
+    pub leasts: u64,
+}
+
+// Gets the leasts of the consumers at these places, one by one, and answers their sum.
+fn take_leasts<C: Consumer, P: Pool>(
+    members: &[C],
+    pool: &mut P,
+    picks: &[usize],
+) -> Result<u64, TaskFault>
+    requires at_work { IsAtWork (P.state pool.old) }
+    requires nothing { (P.state pool.old).account.held ≡ 0 }
+    requires within { (j : ℕ) → j < length picks.now → slice_index picks.now j < length members.now }
+    ensures takes { IfOk result
+        (TakesLeasts (P.state pool.new).account (leasts_of picks.now (map C.state members.now))) }
+    ensures no_room { IfNoRoom result (P.state pool.new).account
+        (IsLeastLacking (P.state pool.new).account (leasts_of picks.now (map C.state members.now))) }
+    ensures no_disk { (faults : ℕ) → HasCauseAt TaskFault.DiskFault faults faults result }
+    ensures goes { Goes (P.state pool.old) (P.state pool.new) }
+{
+    // For the proof: no call is a way to go on, and so are two calls.
+    pools_go_on();
+    let mut sum: u64 = 0;
+    for j in 0..picks.len() {
+        let least = least_at(members, picks[j]);
+        // A least of 0 isn't asked for.
+        if least > 0 {
+            sum += acquire_alone(pool, least, least, sum)?;
+        }
+    }
+    Ok(sum)
 }
 
 /// Makes a task that holds nothing ready. All members are reset, and those at `picks` are begun, each with its kind:
-/// they are the task's consumers, in this order. Their leasts are got at once.
-pub fn start<C: Consumer, K: Disk, B: Basis, R: Wait + Sync>(
-    rt: &R,
+/// they are the task's consumers, in this order. Their leasts are got at once, each by one attempt: `NoRoom` where one
+/// isn't granted whole. After an `Err` the task holds what it got until it is ended, and the members can be begun again.
+pub fn start<C: Consumer, P: Pool>(
     alloc: Global,
-    account: &Account<'_, K, B>,
-    worker: &mut Worker<B>,
+    pool: &mut P,
     members: &mut [C],
     picks: &[usize],
     kinds: &[Kind],
 ) -> Result<Started, TaskFault>
-    requires at_work { IsAtWork account.now.manager.now account.now.task worker.old }
-    requires nothing { (held_by account.now.task worker.old).held ≡ 0 }
+    requires at_work { IsAtWork (P.state pool.old) }
+    requires nothing { (P.state pool.old).account.held ≡ 0 }
     requires places { ArePlaces picks.now kinds.now (map C.state members.old) }
-    ensures its { IfOk result (λ started. (files : Option Files) → IsBetween (scene_of (map C.state members.new) files (held_by account.now.task worker.new) started.spills) started.leasts 0) }
-    ensures page { IfOk result (λ started. started.spills.page ≡ record { rows = []; room = 262144 }) }
-    ensures begun { IfOk result (λ _. Begins picks.now kinds.now (map C.state members.old) (map C.state members.new)) }
+    ensures live { IfOk result (λ started. (files : Option Files) (faults : ℕ) → IsLive
+        (begun_scene (map C.state members.new) (P.state pool.new) files faults started.spills started.leasts)) }
     ensures picks { IfOk result (λ started. started.spills.picks.items ≡ picks.now) }
     ensures runs { IfOk result (λ started. lists_of started.spills.runs.items ≡ replicate (length members.old) []) }
-    ensures leasts { IfOk result (λ started. started.leasts ≡ leasts_of picks.now (map C.state members.old)) }
-    ensures refused { IfErr result (LacksLeast B.sizes (held_by account.now.task worker.new) (leasts_of picks.now (map C.state members.old))) }
+    ensures begun { IfOk result (λ _. Begins picks.now kinds.now (map C.state members.old) (map C.state members.new)) }
+    ensures no_room { IfNoRoom result (P.state pool.new).account
+        (CannotStart (P.state pool.new).account
+        (leasts_of picks.now (map C.state members.old)) (map C.state members.new)) }
+    ensures no_disk { (faults : ℕ) → HasCauseAt TaskFault.DiskFault faults faults result }
     ensures alike { AreAlike (map C.state members.old) (map C.state members.new) }
-    ensures at_work { IsAtWork account.now.manager.now account.now.task worker.new }
-    ensures goes { Goes account.now.task worker.old worker.new }
+    ensures goes { Goes (P.state pool.old) (P.state pool.new) }
 {
-    account.goes_on();
+    // For the proof: no call is a way to go on, and so are two calls.
+    pools_go_on();
     let Ok(()) = begin_all(members, picks, kinds) else {
         return Err(TaskFault::NoMemory);
     };
     let Ok(spills) = Spills::new(alloc, picks, members.len()) else {
         return Err(TaskFault::NoMemory);
     };
-    match take_leasts(rt, members, account, worker, picks) {
+    match take_leasts(members, pool, picks) {
         Ok(leasts) => Ok(Started { spills, leasts }),
         Err(fault) => Err(fault),
-    }
-}
-
-impl<'a, C: Consumer, K: Disk, D: Disk, B: Basis> TaskMemory<'a, C, K, D, B, Spills> {
-    /// The memory of a task that was started with these boxes, which are lent to it until its end, as the disk is.
-    pub fn over(
-        started: Started,
-        account: &'a Account<'a, K, B>,
-        boxes: &'a mut [C],
-        disk: &'a mut D,
-    ) -> TaskMemory<'a, C, K, D, B, Spills>
-        ensures account { result.account.now ≡ account.now }
-        ensures boxes { result.boxes.ghost_name ≡ boxes.entry.ghost_name }
-        ensures lent { result.disk.ghost_name ≡ disk.entry.ghost_name }
-        ensures members { result.boxes.now ≡ boxes.old }
-        ensures disk { result.disk.now ≡ disk.old }
-        ensures spills { result.spills ≡ started.spills }
-        ensures leasts { result.leasts ≡ started.leasts }
-        ensures roomed { result.roomed ≡ 0 }
-        ensures live { result.live ≡ true }
-    {
-        TaskMemory {
-            account,
-            boxes,
-            disk,
-            spills: started.spills,
-            leasts: started.leasts,
-            roomed: 0,
-            live: true,
-        }
     }
 }

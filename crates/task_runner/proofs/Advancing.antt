@@ -6,8 +6,8 @@ use Rattle.run_file.specs.declared.run.Run.{Run}
 use Rattle.run_file.specs.Several.{run_at}
 use Rattle.turn_lock.specs.Passes.{PassState}
 use Rattle.memory_lock.specs.Workers.{IsFree, SeesMore}
-use Rattle.spill_stack.proofs.Holding.{prefix_self, prefix_trans}
-use Rattle.spill_stack.proofs.Sameness.{leaves_self, leaves_trans}
+use Rattle.task_memory.proofs.Holding.{prefix_self, prefix_trans}
+use Rattle.task_memory.proofs.Sameness.{leaves_self, leaves_trans}
 use Rattle.job_plan.specs.Plans.{form_in, kind_at}
 use Rattle.job_plan.specs.declared.query_plan.Plan.{Plan}
 use Rattle.task_runner.specs.Consumers.{FeedsOne, place_for}

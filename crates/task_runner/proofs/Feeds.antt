@@ -9,16 +9,16 @@ use Rattle.consumer_trait.specs.Members.{blank, state_at}
 use Rattle.consumer_trait.specs.States.{State, total_by}
 use Rattle.run_file.specs.declared.run.Run.{Run}
 use Rattle.spill_disk.specs.Files.{Files}
-use Rattle.spill_stack.specs.Disks.{KeepsFiles}
-use Rattle.spill_stack.specs.Feeding.{FedTo, OthersSame}
-use Rattle.spill_stack.specs.Pauses.{AllSame, SameConsumer}
-use Rattle.spill_stack.specs.RunLists.{gathered, run_at, runs_at}
-use Rattle.spill_stack.specs.Scenes.{Scene}
-use Rattle.spill_stack.specs.Serving.{RunsGrow}
-use Rattle.spill_stack.specs.Writing.{AddedAreNew, WasNotThere}
-use Rattle.spill_stack.proofs.Holding.{not_there_before, stays_at}
-use Rattle.spill_stack.proofs.Places.{at_or_not, less_or_not}
-use Rattle.spill_stack.proofs.Sameness.{files_trans, same_at_trans, same_self}
+use Rattle.task_memory.specs.Disks.{KeepsFiles}
+use Rattle.task_memory.specs.Feeding.{FedTo, OthersSame}
+use Rattle.task_memory.specs.Pauses.{AllSame, SameConsumer}
+use Rattle.task_memory.specs.RunLists.{gathered, run_at, runs_at}
+use Rattle.task_memory.specs.Stacks.{Stack}
+use Rattle.task_memory.specs.Serving.{RunsGrow}
+use Rattle.task_memory.specs.Writing.{AddedAreNew, WasNotThere}
+use Rattle.task_memory.proofs.Holding.{not_there_before, stays_at}
+use Rattle.task_memory.proofs.Places.{at_or_not, less_or_not}
+use Rattle.task_memory.proofs.Sameness.{files_trans, same_at_trans, same_self}
 use Rattle.task_runner.specs.Consumers.{FeedsOne, KeepsConsumers, fed_after}
 use Rattle.task_runner.specs.Spilling.{AllNew, IsFed}
 
@@ -102,18 +102,18 @@ front_below front runs k begins below =
 
 -- ---- one entry more
 
-pub fed_entry : ((kind : Kind) → TotalsStayEqual kind) → (states : List State) (before : Option Files) (place : ℕ) (kind : Kind) (entries : List Entry) (entry : Entry) (old new : Scene)
-    → FedTo old new place entry → OthersSame old.states new.states place → IsFed states before place kind entries old → IsFed states before place kind (entries ++ entry ∷ []) new
-fed_entry laws states before place kind entries entry old new step same so_far = record {
+pub fed_entry : ((kind : Kind) → TotalsStayEqual kind) → (first old new : Stack) (place : ℕ) (kind : Kind) (entries : List Entry) (entry : Entry)
+    → FedTo old new place entry → OthersSame old.states new.states place → IsFed first old place kind entries → IsFed first new place kind (entries ++ entry ∷ [])
+fed_entry laws first old new place kind entries entry step same so_far = record {
   picks = step.picks ∙ so_far.picks;
   within = omega (arith, step.members, so_far.within);
   kind_is = step.takes.kind ∙ so_far.kind_is;
-  keeps = keeps_trans states old.states new.states so_far.keeps (keeps_others_same old.states new.states place same);
-  feeds = subst (λ (n : ℕ). FeedsOne states new.states place n) (sym (length-append entries (entry ∷ [])))
-      (feeds_more states old.states new.states place (length entries) so_far.feeds step.members step.takes.fed (λ i below other. same.each i below other));
-  stay = files_trans before old.files new.files so_far.stay step.stay;
-  fresh = all_new_more before old.files old.runs new.runs so_far.stay step.grow so_far.fresh step.added;
-  only = λ file none. same_at_trans before old.files new.files file so_far.stay
+  keeps = keeps_trans first.states old.states new.states so_far.keeps (keeps_others_same old.states new.states place same);
+  feeds = subst (λ (n : ℕ). FeedsOne first.states new.states place n) (sym (length-append entries (entry ∷ [])))
+      (feeds_more first.states old.states new.states place (length entries) so_far.feeds step.members step.takes.fed (λ i below other. same.each i below other));
+  stay = files_trans first.files old.files new.files so_far.stay step.stay;
+  fresh = all_new_more first.files old.files old.runs new.runs so_far.stay step.grow so_far.fresh step.added;
+  only = λ file none. same_at_trans first.files old.files new.files file so_far.stay
       (so_far.only file (λ i k below is. none i k (front_below (runs_at old.runs i) (runs_at new.runs i) k (step.grow i) below)
       (ap (λ (run : Run). run.file) (stays_at old.runs new.runs i k step.grow below) ∙ is)))
       (step.only file (λ added. none added.0 added.1 added.3 added.4));
@@ -135,12 +135,9 @@ fed_entry laws states before place kind entries entry old new step same so_far =
       };
 }
 
--- the same at the place that is the first of the task's own
-pub fed_first : ((kind : Kind) → TotalsStayEqual kind) → (states : List State) (before : Option Files) (place : ℕ) (kind : Kind) (entries : List Entry) (entry : Entry) (old new : Scene)
-    → FedTo old new (slice_index old.picks 0) entry → OthersSame old.states new.states (slice_index old.picks 0) → IsFed states before place kind entries old → IsFed states before place kind (entries ++ entry ∷ []) new
-fed_first laws states before place kind entries entry old new step same so_far =
-    let first : slice_index old.picks 0 ≡ place = ap (λ (picks : List ℕ). slice_index picks 0) so_far.picks in
-    fed_entry laws states before place kind entries entry old new (subst (λ (who : ℕ). FedTo old new who entry) first step) (subst (λ (who : ℕ). OthersSame old.states new.states who) first same) so_far
+-- where the place is the first of the task's own, it is among all
+pub first_place : (first now : Stack) (place : ℕ) (kind : Kind) (entries : List Entry) → IsFed first now place kind entries → slice_index now.picks 0 ≡ place
+first_place first now place kind entries fed = ap (λ (picks : List ℕ). slice_index picks 0) fed.picks
 
 -- spills feed nobody
 pub feeds_still : (states middle after : List State) (who n m : ℕ) → FeedsOne states middle who n → AllSame middle after → m ≡ n → FeedsOne states after who m

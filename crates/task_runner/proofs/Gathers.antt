@@ -15,8 +15,8 @@ use Rattle.run_file.proofs.Among.{all_at, all_join, among_left, among_right, apa
 use Rattle.run_merge.proofs.Rising.{all_weaker}
 use Rattle.run_merge.proofs.Ascending.{concatenated-append}
 use Rattle.run_merge.proofs.Kept.{have_join}
-use Rattle.spill_stack.specs.Writing.{WasNotThere}
-use Rattle.spill_stack.proofs.Places.{last_or_before}
+use Rattle.task_memory.specs.Writing.{WasNotThere}
+use Rattle.task_memory.proofs.Places.{last_or_before}
 use Rattle.task_runner.specs.AllWorkers.{answers_of}
 use Rattle.task_runner.specs.Gathered.{answer_for, gathered, placed}
 use Rattle.task_runner.specs.Workers.{AnswersApart, HasAnswer, answer_at, part_at}

@@ -2,7 +2,7 @@
 use Rattle.std.proofs.Common.{ℕ, List, [], Option, Some, None, refl, sym, arith}
 use Rattle.std.proofs.lemmas.List.{append-nil}
 use Rattle.spill_disk.specs.Files.{Files}
-use Rattle.spill_stack.specs.Disks.{KeepsFiles, LeavesDisk}
+use Rattle.task_memory.specs.Disks.{KeepsFiles, LeavesDisk}
 use Rattle.turn_lock.specs.Passes.{PassState}
 use Rattle.memory_lock.specs.Workers.{IsFree, SeesMore, own_entries}
 use Rattle.consumer_trait.specs.States.{State}

@@ -13,10 +13,10 @@ use Rattle.run_file.specs.declared.form.Form.{Form}
 use Rattle.run_file.specs.declared.run.Run.{Run}
 use Rattle.run_file.specs.Runs.{Stands}
 use Rattle.run_file.specs.Several.{HasEntries}
-use Rattle.spill_stack.specs.Disks.{KeepsFiles, SameAt}
-use Rattle.spill_stack.specs.Writing.{WasNotThere}
-use Rattle.spill_stack.proofs.Holding.{not_there_before}
-use Rattle.spill_stack.proofs.Sameness.{same_at_self, same_at_trans}
+use Rattle.task_memory.specs.Disks.{KeepsFiles, SameAt}
+use Rattle.task_memory.specs.Writing.{WasNotThere}
+use Rattle.task_memory.proofs.Holding.{not_there_before}
+use Rattle.task_memory.proofs.Sameness.{same_at_self, same_at_trans}
 use Rattle.job_plan.specs.declared.query_plan.Plan.{Plan}
 use Rattle.task_runner.specs.Parts.{HoldsRows, IsMade, LeavesOnlyAnswer, entries_in}
 use Rattle.task_runner.specs.Workers.{AreMade, HasAnswer, LeavesOnlyAnswers, TellParts, answer_at, part_at}

@@ -12,12 +12,12 @@ use Rattle.run_file.specs.declared.form.Form.TheVariants.{Entries}
 use Rattle.run_file.specs.declared.run.Run.{Run}
 use Rattle.run_file.specs.Forms.{HasForm}
 use Rattle.spill_disk.specs.Files.{Files}
-use Rattle.spill_stack.specs.Disks.{KeepsFiles, SameAt}
-use Rattle.spill_stack.specs.RunLists.{IsBounded, IsRunOf}
-use Rattle.spill_stack.specs.RunLists.{HaveEntries as HaveSpilled}
-use Rattle.spill_stack.specs.Writing.{WasNotThere}
-use Rattle.spill_stack.proofs.Holding.{not_there_before}
-use Rattle.spill_stack.proofs.LongerTotals.{total_not_none}
+use Rattle.task_memory.specs.Disks.{KeepsFiles, SameAt}
+use Rattle.task_memory.specs.RunLists.{IsBounded, IsRunOf}
+use Rattle.task_memory.specs.RunLists.{HaveEntries as HaveSpilled}
+use Rattle.task_memory.specs.Writing.{WasNotThere}
+use Rattle.task_memory.proofs.Holding.{not_there_before}
+use Rattle.task_memory.proofs.LongerTotals.{total_not_none}
 use Rattle.task_memory.specs.Draining.{taken_at}
 use Rattle.run_file.specs.Shelved.{IsGone}
 use Rattle.run_file.specs.Several.{IsFileAmong, KeepsFile, SameFile}

@@ -21,3 +21,5 @@ mod Drains
 mod Starts
 mod LeftRuns
 mod FromRuns
+mod Leaving
+mod Charged

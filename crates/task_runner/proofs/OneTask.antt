@@ -6,17 +6,18 @@ use Rattle.std.proofs.lemmas.Bool.{cases_Bool}
 use Rattle.std.proofs.lemmas.List.{reverse-append}
 use Rattle.pool_ledger.specs.declared.entry.Entry.{Entry}
 use Rattle.pool_ledger.specs.declared.entry.Event.TheVariants.{Begin, End}
-use Rattle.pool_ledger.specs.History.{History}
+use Rattle.pool_ledger.specs.History.{History, held}
 use Rattle.pool_ledger.specs.Journal.{history_of}
-use Rattle.pool_ledger.specs.Sizes.{Sizes}
+use Rattle.pool_ledger.specs.Sizes.{Sizes, floor_of}
 use Rattle.pool_laws.specs.Growing.{entry_by}
 use Rattle.turn_lock.specs.Passes.{PassState}
-use Rattle.memory_lock.specs.Workers.{Adds, SeesMore, own_entries, own_of}
-use Rattle.spill_stack.specs.Accounts.{Held}
-use Rattle.spill_stack.specs.Attempts.{Answered, held_by, last_attempt}
-use Rattle.spill_stack.specs.Going.{Goes, IsOfTask}
-use Rattle.task_runner.specs.Merging.{IsShort}
-use Rattle.task_runner.specs.Works.{ShowsNoRoom, Works, last_end}
+use Rattle.memory_lock.specs.Workers.{Adds}
+use Rattle.task_pool.specs.Asks.{IsOfTask}
+use Rattle.task_pool.specs.Pools.{Goes, PoolState}
+use Rattle.task_memory.proofs.Holding.{prefix_trans}
+use Rattle.task_pool.specs.Workers.{SeesMore, own_entries, own_of}
+use Rattle.task_account.specs.Attempts.{Answered, held_by, last_attempt}
+use Rattle.task_runner.specs.Works.{IsRefused, ShowsNoRoom, Works, last_end}
 
 joined : (before begun worked after amid : List Entry) (first last : Entry) → begun ≡ before ++ first ∷ [] → worked ≡ begun ++ amid → after ≡ worked ++ last ∷ []
     → after ≡ before ++ (first ∷ (amid ++ last ∷ []))
@@ -25,21 +26,39 @@ joined before begun worked after amid first last one two three =
     ∙ append_assoc (before ++ first ∷ []) amid (last ∷ []) ∙ append_assoc before (first ∷ []) (amid ++ last ∷ [])
 
 -- the worker began the task, went on, and ended it
-pub works_of : (task freed : ℕ) (before begun worked after : PassState) → Adds before begun (entry_by before.number (Begin task) ∷ []) → SeesMore before begun → Goes task begun worked
-    → Adds worked after (entry_by worked.number (End task freed) ∷ []) → Works task before after
-works_of task freed before begun worked after begins sees goes ends =
+pub works_of : (task freed : ℕ) (before started after : PassState) (begun worked : PoolState) → begun.task ≡ task → begun.worker ≡ started → Adds before started (entry_by before.number (Begin task) ∷ [])
+    → SeesMore before started → Goes begun worked → Adds worked.worker after (entry_by worked.worker.number (End worked.task freed) ∷ []) → Works task before after
+works_of task freed before started after begun worked its same begins sees goes ends =
     let amid = goes.adds.0 in
-    let number : worked.number ≡ before.number = goes.sees.number_is ∙ sees.number_is in
-    let ended : Adds worked after (entry_by before.number (End task freed) ∷ []) = subst (λ (n : ℕ). Adds worked after (entry_by n (End task freed) ∷ [])) number ends in (
+    let first : Adds before begun.worker (entry_by before.number (Begin task) ∷ []) = subst (λ (w : PassState). Adds before w (entry_by before.number (Begin task) ∷ [])) (sym same) begins in
+    let begun_number : begun.worker.number ≡ before.number = ap (λ (w : PassState). w.number) same ∙ sees.number_is in
+    let number : worked.worker.number ≡ before.number = goes.sees.number_is ∙ begun_number in
+    let last : Adds worked.worker after (entry_by before.number (End task freed) ∷ []) =
+    subst (λ (t : ℕ). Adds worked.worker after (entry_by before.number (End t freed) ∷ [])) (goes.same_task ∙ its)
+    (subst (λ (n : ℕ). Adds worked.worker after (entry_by n (End worked.task freed) ∷ [])) number ends) in (
       entry_by before.number (Begin task) ∷ (amid ++ entry_by before.number (End task freed) ∷ []),
       record {
         amid = amid;
         freed = freed;
-        asks = subst (λ (n : ℕ). AllByRecursion (IsOfTask n task) amid) sees.number_is goes.adds.2;
+        asks = subst (λ (t : ℕ). AllByRecursion (IsOfTask before.number t) amid) its (subst (λ (n : ℕ). AllByRecursion (IsOfTask n begun.task) amid) begun_number goes.adds.2);
         are = refl;
       },
-      joined (own_entries before) (own_entries begun) (own_entries worked) (own_entries after) amid (entry_by before.number (Begin task)) (entry_by before.number (End task freed)) begins goes.adds.1 ended,
+      joined (own_entries before) (own_entries begun.worker) (own_entries worked.worker) (own_entries after) amid (entry_by before.number (Begin task)) (entry_by before.number (End task freed)) first goes.adds.1 last,
     )
+
+sees_trans : (a b c : PassState) → SeesMore a b → SeesMore b c → SeesMore a c
+sees_trans a b c first then = record {
+  lock_is = then.lock_is ∙ first.lock_is;
+  number_is = then.number_is ∙ first.number_is;
+  speaks_is = then.speaks_is ∙ first.speaks_is;
+  spare_is = then.spare_is ∙ first.spare_is;
+  begins = prefix_trans a.seen b.seen c.seen first.begins then.begins;
+}
+
+-- and saw more at each step
+pub sees_through : (before started after : PassState) (begun worked : PoolState) → begun.worker ≡ started → SeesMore before started → Goes begun worked → SeesMore worked.worker after → SeesMore before after
+sees_through before started after begun worked same first goes last =
+    sees_trans before begun.worker after (subst (λ (w : PassState). SeesMore before w) (sym same) first) (sees_trans begun.worker worked.worker after goes.sees last)
 
 itself : (n : ℕ) → (n == n) ≡ true
 itself n = elim (cases_Bool (n == n)) [ inl same ↦ same | inr other ↦ grind arith ]
@@ -48,23 +67,22 @@ newest : (worked after : PassState) (entry : Entry) → Adds worked after (entry
 newest worked after entry adds = ap history_of adds ∙ reverse-append (own_entries worked) (entry ∷ [])
 
 -- a refusal before the task's end stands in the entries behind it
-pub shows_short : (sizes : Sizes) (task freed : ℕ) (worked after : PassState) → Adds worked after (entry_by worked.number (End task freed) ∷ [])
-    → (old : Held) (asked floor : ℕ) → IsShort sizes old (held_by task worked) asked floor → ShowsNoRoom sizes (own_of after) task asked freed floor
-shows_short sizes task freed worked after ends old asked floor short =
-    let entry = entry_by worked.number (End task freed) in
+pub shows_short : (sizes : Sizes) (task own freed : ℕ) (worked after : PassState) → own ≡ task → Adds worked after (entry_by worked.number (End own freed) ∷ []) → freed ≡ held (own_of worked) own
+    → (asked floor : ℕ) → IsRefused (held_by (floor_of sizes) own worked) asked floor → ShowsNoRoom sizes (own_of after) task asked freed floor
+shows_short sizes task own freed worked after its ends frees asked floor refused =
+    let entry = entry_by worked.number (End own freed) in
     let whole = newest worked after entry ends in
-    let last : last_attempt (own_of after) task ≡ last_attempt (own_of worked) task = ap (λ (h : History). last_attempt h task) whole in
-    let got : (last_attempt (own_of after) task).got ≡ (last_attempt (own_of worked) task).got = ap (λ (a : Answered). a.got) last in
-    let wanted : (last_attempt (own_of after) task).asked ≡ (last_attempt (own_of worked) task).asked = ap (λ (a : Answered). a.asked) last in
-    record {
-      floor_is = short.floor_is;
-      short = omega (arith, short.short, got, wanted);
-      less = omega (arith, short.less, got);
-      freed = ap (λ (h : History). last_end h task) whole ∙ rw (itself task) refl;
-    }
-
--- a task that went on goes on, whichever name it has
-pub goes_more : (task was now : ℕ) (first amid last : PassState) → ((a b c : PassState) → Goes task a b → Goes task b c → Goes task a c) → was ≡ task → now ≡ was
-    → Goes was first amid → Goes now amid last → Goes was first last
-goes_more task was now first amid last more same still one next =
-    subst (λ (t : ℕ). Goes t first last) (sym same) (more first amid last (subst (λ (t : ℕ). Goes t first amid) same one) (subst (λ (t : ℕ). Goes t amid last) (still ∙ same) next))
+    let last : last_attempt (own_of after) own ≡ last_attempt (own_of worked) own = ap (λ (h : History). last_attempt h own) whole in
+    let wanted : (last_attempt (own_of after) own).asked ≡ (last_attempt (own_of worked) own).asked = ap (λ (a : Answered). a.asked) last in
+    let short = refused.short in
+    let passes = refused.passes in
+    let is_floor = refused.floor_is in
+    subst (λ (t : ℕ). ShowsNoRoom sizes (own_of after) t asked freed floor) its (record {
+      floor_is = refused.floor_is;
+      granted = short.granted;
+      got = ap (λ (a : Answered). a.got) last ∙ short.got;
+      short = let less = short.short in omega (arith, less, wanted);
+      less = short.less;
+      passes = omega (arith, passes, frees, is_floor);
+      freed = ap (λ (h : History). last_end h own) whole ∙ rw (itself own) refl;
+    })

@@ -8,14 +8,11 @@ use Rattle.aggregate.specs.declared.kind.Kind.TheVariants.{Group, Order}
 use Rattle.consumer_trait.specs.Members.{blank, state_at}
 use Rattle.consumer_trait.specs.States.{State, as_reset, total_by}
 use Rattle.run_file.specs.declared.run.Run.{Run}
-use Rattle.spill_disk.specs.Files.{Files}
-use Rattle.spill_stack.specs.Accounts.{Held}
-use Rattle.spill_stack.specs.RunLists.{lists_of, runs_at}
-use Rattle.spill_stack.specs.Scenes.{scene_of}
-use Rattle.spill_stack.specs.declared.spills.Spills.{Spills}
-use Rattle.spill_stack.proofs.Places.{less_or_not}
-use Rattle.spill_stack.proofs.Sameness.{files_self, same_at_self}
-use Rattle.task_memory.specs.Live.{IsBetween}
+use Rattle.task_memory.specs.RunLists.{runs_at}
+use Rattle.task_memory.specs.Asking.{IsReady}
+use Rattle.task_memory.specs.Stacks.{Stack}
+use Rattle.task_memory.proofs.Places.{less_or_not}
+use Rattle.task_memory.proofs.Sameness.{files_self, same_at_self}
 use Rattle.task_memory.specs.Starting.{AreAlike, Begins}
 use Rattle.task_runner.specs.Consumers.{FeedsOne, HasConsumers, KeepsConsumers, place_for}
 use Rattle.task_runner.specs.Spilling.{IsFed}
@@ -36,38 +33,37 @@ reset_at states states' place kind begins i other = elim (less_or_not i (length 
 ]
 
 -- the one consumer that was begun was fed nothing yet
-pub starts_fed : (states states' : List State) (files : Option Files) (account : Held) (spills : Spills) (leasts n place : ℕ) (kind : Kind) → IsBetween (scene_of states' files account spills) leasts 0
-    → Begins (place ∷ []) (kind ∷ []) states states' → spills.picks.items ≡ place ∷ [] → lists_of spills.runs.items ≡ replicate n [] → place < length states
-    → IsFed states' files place kind [] (scene_of states' files account spills)
-starts_fed states states' files account spills leasts n place kind its begins picks runs within =
+pub starts_fed : (states : List State) (stack : Stack) (n place : ℕ) (kind : Kind) → IsReady stack → Begins (place ∷ []) (kind ∷ []) states stack.states → stack.picks ≡ place ∷ []
+    → stack.runs ≡ replicate n [] → place < length states → IsFed stack stack place kind []
+starts_fed states stack n place kind ready begins picks runs within =
     let begun = begins.begun 0 (omega arith) in
-    let kind_is : (state_at states' place).kind ≡ Some kind = ap (λ (s : State). s.kind) begun in
-    let empty : (state_at states' place).entries ≡ [] = ap (λ (s : State). s.entries) begun in
-    let no_runs : (i : ℕ) → runs_at (lists_of spills.runs.items) i ≡ [] = λ i. ap (λ (lists : List (List Run)). runs_at lists i) runs ∙ none_at [] n i in
-    let no_run_at : (i k : ℕ) → k < length (runs_at (lists_of spills.runs.items) i) → ⊥ = λ i k below.
-    let none : length (runs_at (lists_of spills.runs.items) i) ≡ 0 = ap (λ (list : List Run). length list) (no_runs i) in
+    let kind_is : (state_at stack.states place).kind ≡ Some kind = ap (λ (s : State). s.kind) begun in
+    let empty : (state_at stack.states place).entries ≡ [] = ap (λ (s : State). s.entries) begun in
+    let no_runs : (i : ℕ) → runs_at stack.runs i ≡ [] = λ i. ap (λ (lists : List (List Run)). runs_at lists i) runs ∙ none_at [] n i in
+    let no_run_at : (i k : ℕ) → k < length (runs_at stack.runs i) → ⊥ = λ i k below.
+    let none : length (runs_at stack.runs i) ≡ 0 = ap (λ (list : List Run). length list) (no_runs i) in
     omega (arith, below, none) in
     record {
       picks = picks;
       within = omega (arith, within, begins.members);
       kind_is = kind_is;
-      keeps = keeps_self states';
+      keeps = keeps_self stack.states;
       feeds = record { fed = refl; others = λ i other. refl };
-      stay = files_self files;
+      stay = files_self stack.files;
       fresh = λ i k below. absurd (no_run_at i k below);
-      only = λ file none. same_at_self files file;
-      idle = λ i other. (reset_at states states' place kind begins i other, no_runs i);
+      only = λ file none. same_at_self stack.files file;
+      idle = λ i other. (reset_at states stack.states place kind begins i other, no_runs i);
       gathers = λ telling. record {
-        spilled = replicate (length states') [];
+        spilled = replicate (length stack.states) [];
         hold = record {
           telling = telling;
-          lists = its.ready.lengths;
-          lengths = length-replicate (length states') [];
-          each = λ i below. rw (no_runs i) (none_at [] (length states') i);
+          lists = ready.lengths;
+          lengths = length-replicate (length stack.states) [];
+          each = λ i below. rw (no_runs i) (none_at [] (length stack.states) i);
           apart = λ i j k l below other same. absurd (no_run_at i k below);
         };
-        comes = ap (λ (es : List Entry). total_by (state_at states' place).kind (es ++ (state_at states' place).entries)) (none_at [] (length states') place)
-            ∙ ap (λ (es : List Entry). total_by (state_at states' place).kind es) empty ∙ ap (λ (k : Option Kind). total_by k []) kind_is;
+        comes = ap (λ (es : List Entry). total_by (state_at stack.states place).kind (es ++ (state_at stack.states place).entries)) (none_at [] (length stack.states) place)
+            ∙ ap (λ (es : List Entry). total_by (state_at stack.states place).kind es) empty ∙ ap (λ (k : Option Kind). total_by k []) kind_is;
       };
     }
 

@@ -8,9 +8,9 @@ use Rattle.spill_disk.specs.Files.{Files}
 use Rattle.run_file.specs.declared.run.Run.{Run}
 use Rattle.run_file.specs.Several.{IsFileAmong, KeepsFile}
 use Rattle.run_file.specs.Several.{run_at}
-use Rattle.spill_stack.specs.Disks.{KeepsFiles, SameAt}
-use Rattle.spill_stack.specs.Writing.{WasNotThere}
-use Rattle.spill_stack.proofs.Sameness.{same_at_self}
+use Rattle.task_memory.specs.Disks.{KeepsFiles, SameAt}
+use Rattle.task_memory.specs.Writing.{WasNotThere}
+use Rattle.task_memory.proofs.Sameness.{same_at_self}
 use Rattle.turn_lock.specs.Passes.{LockId, PassState}
 use Rattle.memory_lock.specs.Crew.{AreWorkers}
 use Rattle.consumer_trait.specs.States.{State}

@@ -12,6 +12,8 @@ use Rattle.run_file.specs.Several.{IsFileAmong}
 use Rattle.run_file.specs.Several.{HasEntries, concatenated}
 use Rattle.run_file.specs.declared.run.RunFault.{RunFault}
 use Rattle.run_file.specs.declared.run.RunFault.TheVariants as run_fault
+use Rattle.task_memory.specs.declared.fault.TaskFault.{TaskFault}
+use Rattle.task_memory.specs.declared.fault.TaskFault.TheVariants as task_fault
 use Rattle.task_runner.specs.declared.work_fault.WorkFault.{WorkFault}
 use Rattle.task_runner.specs.declared.work_fault.WorkFault.TheVariants.{NoRoom, DiskFault, Damaged, NoMemory}
 
@@ -20,6 +22,12 @@ abbrev pub fault_by : RunFault → WorkFault
 fault_by (run_fault.DiskFault disk) = DiskFault disk
 fault_by (run_fault.Damaged damage) = Damaged damage
 fault_by run_fault.NoMemory = NoMemory
+
+-- a fault of a task's memory, whose disk is that of the post 0
+abbrev pub task_fault_by : TaskFault → WorkFault
+task_fault_by (task_fault.NoRoom asked held floor) = NoRoom asked held floor
+task_fault_by task_fault.DiskFault = DiskFault 0
+task_fault_by task_fault.NoMemory = NoMemory
 
 -- a fault of a disk is told only where its count rose, and damage where fewer rows were found than kept
 abbrev pub HasCauseAmong : {T : Type 0} → (ℕ → ℕ) → (ℕ → ℕ) → Result T WorkFault → Type 0

@@ -1,10 +1,10 @@
 -- What a merge of runs asks of the pool, and what a refusal then says.
 -- This project's own.
-use Rattle.std.specs.Prelude.{◌≡◌, ℕ, ◌+◌, ◌*◌, ◌<◌, min, List, Option, Result, Ok, Err, length, ⊤}
-use Rattle.pool_ledger.specs.Sizes.{Sizes, floor_of}
+use Rattle.std.specs.Prelude.{◌≡◌, ℕ, ◌+◌, ◌*◌, min, List, Option, Result, Ok, Err, length, ⊤}
 use Rattle.run_file.specs.declared.run.Run.{Run}
 use Rattle.run_file.specs.Several.{greatest_of}
-use Rattle.spill_stack.specs.Accounts.{Held}
+use Rattle.task_pool.specs.Accounts.{Held}
+use Rattle.task_runner.specs.Works.{IsRefused}
 use Rattle.task_runner.specs.declared.work_fault.WorkFault.{WorkFault}
 use Rattle.task_runner.specs.declared.work_fault.WorkFault.TheVariants.{NoRoom, DiskFault, Damaged, NoMemory}
 
@@ -17,11 +17,9 @@ abbrev pub wish_of : List Run → ℕ
 wish_of runs = reader_of runs * min 8 (length runs)
 
 -- an attempt was granted less than it asked, and less than had to be got; what it got was given back
-pub record IsShort (sizes : Sizes) (old new : Held) (asked floor : ℕ) : Type 0 where
-  pub floor_is : floor ≡ floor_of sizes
+pub record IsShort (old new : Held) (asked floor : ℕ) : Type 0 where
   pub gave_back : new.held ≡ old.held
-  pub short : new.got < new.asked
-  pub less : new.got < asked
+  pub refused : IsRefused new asked floor
 
 -- the same answer, but that a refusal for want of room tells that the task held so much
 abbrev pub told_with : Result (Option Run) WorkFault → ℕ → Result (Option Run) WorkFault

@@ -8,7 +8,7 @@ use Rattle.run_file.specs.Several.{run_at}
 use Rattle.turn_lock.specs.Passes.{PassState}
 use Rattle.memory_lock.specs.Workers.{IsFree, KeepsPin, SeesMore}
 use Rattle.consumer_trait.specs.States.{State}
-use Rattle.spill_stack.specs.Disks.{LeavesDisk}
+use Rattle.task_memory.specs.Disks.{LeavesDisk}
 use Rattle.job_plan.specs.Plans.{form_in, kind_at}
 use Rattle.job_plan.specs.declared.query_plan.Plan.{Plan}
 use Rattle.task_runner.specs.Consumers.{FeedsOne, KeepsConsumers, place_for}

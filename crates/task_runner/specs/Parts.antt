@@ -10,8 +10,8 @@ use Rattle.run_file.specs.Runs.{Stands}
 use Rattle.run_file.specs.declared.form.Form.{Form}
 use Rattle.run_file.specs.declared.run.Run.{Run}
 use Rattle.run_file.specs.Several.{HasEntries}
-use Rattle.spill_stack.specs.Disks.{SameAt}
-use Rattle.spill_stack.specs.Writing.{WasNotThere}
+use Rattle.task_memory.specs.Disks.{SameAt}
+use Rattle.task_memory.specs.Writing.{WasNotThere}
 use Rattle.job_plan.specs.Entries.{entry_of}
 use Rattle.job_plan.specs.Plans.{kept_at}
 use Rattle.job_plan.specs.declared.query_plan.Plan.{Plan}

@@ -10,8 +10,8 @@ use Rattle.run_file.specs.declared.run.Run.{Run}
 use Rattle.run_file.specs.Several.{IsFileAmong, KeepsFile}
 use Rattle.run_file.specs.Several.{AreApart, HaveEntries, concatenated}
 use Rattle.consumer_trait.specs.States.{State}
-use Rattle.spill_stack.specs.Disks.{SameAt}
-use Rattle.spill_stack.specs.Writing.{WasNotThere}
+use Rattle.task_memory.specs.Disks.{SameAt}
+use Rattle.task_memory.specs.Writing.{WasNotThere}
 use Rattle.job_plan.specs.declared.query_plan.Plan.{Plan}
 use Rattle.task_runner.specs.Consumers.{FeedsOne}
 use Rattle.task_runner.specs.Parts.{entries_in}

@@ -1,20 +1,20 @@
 -- What a task's one consumer was fed, and the runs that it leaves.
 -- This project's own.
-use Rattle.std.specs.Prelude.{◌≡◌, ◌≢◌, ℕ, ◌<◌, ◌≤◌, List, [], ◌∷◌, Option, Some, None, IsSome, Result, Ok, Err, All, length, slice_index_or, ⊤}
-use Rattle.aggregate.specs.Totals.{Entry, total}
+use Rattle.std.specs.Prelude.{◌≡◌, ◌≢◌, ℕ, ◌+◌, ◌<◌, ◌≤◌, List, [], ◌∷◌, Option, Some, None, IsSome, Result, Ok, Err, All, length, slice_index_or, ⊤}
+use Rattle.std.specs.List.{AllByRecursion}
+use Rattle.aggregate.specs.Totals.{Entry, cost, total}
 use Rattle.aggregate.specs.declared.kind.Kind.{Kind}
 use Rattle.consumer_trait.specs.Members.{state_at}
-use Rattle.consumer_trait.specs.States.{State}
 use Rattle.run_file.specs.Forms.{HasForm}
 use Rattle.run_file.specs.declared.form.Form.{Form}
 use Rattle.run_file.specs.declared.run.Run.{Run}
 use Rattle.spill_disk.specs.Files.{Files}
-use Rattle.pool_ledger.specs.Sizes.{Sizes, floor_of}
-use Rattle.spill_stack.specs.Accounts.{Held}
-use Rattle.spill_stack.specs.Disks.{KeepsFiles, SameAt}
-use Rattle.spill_stack.specs.RunLists.{HaveEntries, HoldRuns, IsBounded, gathered_total, run_at, runs_at}
-use Rattle.spill_stack.specs.Scenes.{Scene}
-use Rattle.spill_stack.specs.Writing.{WasNotThere}
+use Rattle.task_pool.specs.Pools.{Goes}
+use Rattle.task_memory.specs.Disks.{KeepsFiles, LeavesDisk, SameAt}
+use Rattle.task_memory.specs.RunLists.{HaveEntries, HoldRuns, IsBounded, gathered_total, run_at, runs_at}
+use Rattle.task_memory.specs.Scenes.{Scene}
+use Rattle.task_memory.specs.Stacks.{Stack}
+use Rattle.task_memory.specs.Writing.{WasNotThere}
 use Rattle.task_memory.specs.Draining.{taken_at}
 use Rattle.job_plan.specs.Entries.{field_bytes}
 use Rattle.task_runner.specs.Consumers.{FeedsOne, KeepsConsumers}
@@ -35,24 +35,35 @@ abbrev pub AllNew : Option Files → List (List Run) → Type 0
 AllNew before runs = (i k : ℕ) → k < length (runs_at runs i) → WasNotThere before (run_at runs i k).file
 
 -- the runs stand, and what the consumer gathered comes to what these entries come to
-pub record Gathers (scene : Scene) (place : ℕ) (kind : Kind) (entries : List Entry) : Type 0 where
+pub record Gathers (stack : Stack) (place : ℕ) (kind : Kind) (entries : List Entry) : Type 0 where
   pub spilled : List (List Entry)
-  pub hold : HoldRuns scene.files scene.states scene.runs spilled
-  pub comes : gathered_total scene.states spilled place ≡ total kind entries
+  pub hold : HoldRuns stack.files stack.states stack.runs spilled
+  pub comes : gathered_total stack.states spilled place ≡ total kind entries
 
--- the task's one consumer was fed these entries since its consumers and its files were so; no file was made or changed but those
--- of its runs, and no other consumer was begun
-pub record IsFed (states : List State) (before : Option Files) (place : ℕ) (kind : Kind) (entries : List Entry) (scene : Scene) : Type 0 where
-  pub picks : scene.picks ≡ place ∷ []
-  pub within : place < length scene.states
-  pub kind_is : (state_at scene.states place).kind ≡ Some kind
-  pub keeps : KeepsConsumers states scene.states
-  pub feeds : FeedsOne states scene.states place (length entries)
-  pub stay : KeepsFiles before scene.files
-  pub fresh : AllNew before scene.runs
-  pub gathers : IsSome before → Gathers scene place kind entries
-  pub only : (file : ℕ) → ((i k : ℕ) → k < length (runs_at scene.runs i) → (run_at scene.runs i k).file ≢ file) → SameAt before scene.files file
-  pub idle : (i : ℕ) → i ≢ place → ((state_at scene.states i).kind ≡ None) × (runs_at scene.runs i ≡ [])
+-- the task's one consumer was fed these entries since its stack was `old`; no file was made or changed but those of its runs,
+-- and no other consumer was begun
+pub record IsFed (old new : Stack) (place : ℕ) (kind : Kind) (entries : List Entry) : Type 0 where
+  pub picks : new.picks ≡ place ∷ []
+  pub within : place < length new.states
+  pub kind_is : (state_at new.states place).kind ≡ Some kind
+  pub keeps : KeepsConsumers old.states new.states
+  pub feeds : FeedsOne old.states new.states place (length entries)
+  pub stay : KeepsFiles old.files new.files
+  pub fresh : AllNew old.files new.runs
+  pub gathers : IsSome old.files → Gathers new place kind entries
+  pub only : (file : ℕ) → ((i k : ℕ) → k < length (runs_at new.runs i) → (run_at new.runs i k).file ≢ file) → SameAt old.files new.files file
+  pub idle : (i : ℕ) → i ≢ place → ((state_at new.states i).kind ≡ None) × (runs_at new.runs i ≡ [])
+
+-- each entry was charged as it was fed: the task once held its cost beside so many bytes of leasts
+abbrev pub AreCharged : ℕ → ℕ → List Entry → Type 0
+AreCharged leasts peak entries = AllByRecursion (λ entry. leasts + cost entry ≤ peak) entries
+
+-- what is left of a memory by calls that may feed consumers, spill them, and free the leasts
+pub record LeavesMemory (old new : Scene) : Type 0 where
+  pub keeps : KeepsConsumers old.stack.states new.stack.states
+  pub disk : LeavesDisk old.stack.files new.stack.files old.faults new.faults
+  pub pool : Goes old.pool new.pool
+  pub lent : new.lent ≡ old.lent
 
 -- the runs stand with entries that come to what these come to, in different files
 pub record HaveTotal (files : Option Files) (kind : Kind) (entries : List Entry) (runs : List Run) : Type 0 where
@@ -77,9 +88,3 @@ NeverDamaged (Err (NoRoom asked held floor)) = ⊤
 NeverDamaged (Err (DiskFault post)) = ⊤
 NeverDamaged (Err (Damaged damage)) = ⊥
 NeverDamaged (Err NoMemory) = ⊤
-
--- a refusal for want of room: the last attempt was granted less than it asked, and less than had to be got
-pub record IsRefused (sizes : Sizes) (account : Held) (asked floor : ℕ) : Type 0 where
-  pub floor_is : floor ≡ floor_of sizes
-  pub short : account.got < account.asked
-  pub less : account.got < asked

@@ -7,7 +7,7 @@ use Rattle.pool_ledger.specs.declared.entry.Entry.{Entry as JournalEntry}
 use Rattle.spill_disk.specs.Files.{Files}
 use Rattle.run_file.specs.declared.run.Run.{Run}
 use Rattle.run_file.specs.Several.{HasEntries, run_at}
-use Rattle.spill_stack.specs.Disks.{SameAt}
+use Rattle.task_memory.specs.Disks.{SameAt}
 use Rattle.turn_lock.specs.Passes.{PassState}
 use Rattle.memory_lock.specs.Workers.{own_entries}
 use Rattle.job_plan.specs.declared.query_plan.Plan.{Plan}

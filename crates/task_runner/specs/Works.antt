@@ -1,6 +1,6 @@
 -- What a task adds to its worker's own entries, and what a refusal for want of room shows there.
 -- This project's own.
-use Rattle.std.specs.Prelude.{◌≡◌, ℕ, ◌==◌, ◌<◌, ◌⊎◌, List, [], ◌∷◌, ◌++◌, Option, Some, None, Result, Ok, Err, ⊤, if◌then◌else◌}
+use Rattle.std.specs.Prelude.{◌≡◌, ℕ, ◌==◌, ◌+◌, ◌<◌, ◌⊎◌, List, [], ◌∷◌, ◌++◌, Option, Some, None, Result, Ok, Err, ⊤, if◌then◌else◌}
 use Rattle.std.specs.List.{AllByRecursion}
 use Rattle.pool_ledger.specs.History.{History}
 use Rattle.pool_ledger.specs.Sizes.{Sizes, floor_of}
@@ -9,10 +9,10 @@ use Rattle.pool_ledger.specs.declared.entry.Event.{Event}
 use Rattle.pool_ledger.specs.declared.entry.Event.TheVariants.{Begin, End}
 use Rattle.pool_laws.specs.Growing.{entry_by}
 use Rattle.turn_lock.specs.Passes.{PassState}
-use Rattle.memory_lock.specs.Workers.{own_entries}
-use Rattle.spill_stack.specs.Accounts.{Held}
-use Rattle.spill_stack.specs.Attempts.{last_attempt}
-use Rattle.spill_stack.specs.Going.{IsOfTask}
+use Rattle.task_pool.specs.Accounts.{Held, WasShort}
+use Rattle.task_pool.specs.Asks.{IsOfTask}
+use Rattle.task_pool.specs.Workers.{own_entries}
+use Rattle.task_account.specs.Attempts.{last_attempt}
 use Rattle.task_runner.specs.declared.work_fault.WorkFault.{WorkFault}
 use Rattle.task_runner.specs.declared.work_fault.WorkFault.TheVariants.{NoRoom, DiskFault, Damaged, NoMemory}
 
@@ -42,19 +42,26 @@ last_end [] task = None
 last_end (entry ∷ before) task = end_after task entry.event (last_end before task)
 
 -- a refusal for want of room: the task's last attempt was granted less than it asked, and less than was asked for here; its
--- end freed what it held
+-- end freed what it held, and with that the ask passes the floor
 pub record ShowsNoRoom (sizes : Sizes) (history : History) (task asked held floor : ℕ) : Type 0 where
   pub floor_is : floor ≡ floor_of sizes
-  pub short : (last_attempt history task).got < (last_attempt history task).asked
-  pub less : (last_attempt history task).got < asked
+  pub granted : ℕ
+  pub got : (last_attempt history task).got ≡ Some granted
+  pub short : granted < (last_attempt history task).asked
+  pub less : granted < asked
+  pub passes : floor < asked + held
   pub freed : last_end history task ≡ Some held
 
--- the same before the task's end: it holds so much
-pub record FallsShort (sizes : Sizes) (account : Held) (asked held floor : ℕ) : Type 0 where
+-- the same before the task's end, whatever the refusal tells of what is held
+pub record IsRefused (account : Held) (asked floor : ℕ) : Type 0 where
+  pub floor_is : floor ≡ account.floor
+  pub short : WasShort account asked
+  pub passes : floor < asked + account.held
+
+-- the same, and the refusal tells what the task holds
+pub record FallsShort (account : Held) (asked held floor : ℕ) : Type 0 where
   pub holds : held ≡ account.held
-  pub floor_is : floor ≡ floor_of sizes
-  pub short : account.got < account.asked
-  pub less : account.got < asked
+  pub refused : IsRefused account asked floor
 
 -- what such a refusal says
 abbrev pub IfNoRoom : {T : Type 0} → Result T WorkFault → (ℕ → ℕ → ℕ → Type 0) → Type 0

@@ -1,17 +1,14 @@
 //! The bytes that a merge asks of the pool.
 
 ghost use Rattle.std.specs.Prelude.{◌≡◌, ◌≤◌, ◌+◌, ◌*◌, All, min, IfOk, OnOk};
-ghost use Rattle.spill_stack.specs.Attempts.{held_by};
-ghost use Rattle.spill_stack.specs.Going.{Goes, IsAtWork};
+ghost use Rattle.task_pool.specs.Pools.{Goes, IsAtWork};
 ghost use Rattle.task_runner.specs.Merging.{AsksNoDisk, IsShort, reader_of};
 ghost use Rattle.task_runner.specs.Works.{IfNoRoom};
 
 use crate::work_fault::WorkFault;
-use memory_lock::{Basis, Worker};
 use run_file::Run;
-use spill_disk::Disk;
-use spill_stack::Account;
-use std::sync::Wait;
+use task_memory::acquire_or_nothing;
+use task_pool::Pool;
 
 // The most runs that are merged at once.
 const MOST_READERS: u64 = 8;
@@ -33,42 +30,34 @@ pub(crate) fn reader_cost(runs: &[Run]) -> u64
 
 // Gets the bytes of at least two readers, by one attempt for a reader of each run, up to eight. Where it is granted
 // less, that is given back; `held` is then told as what the task holds.
-pub(crate) fn ask_readers<K: Disk, B: Basis, R: Wait + Sync>(
-    rt: &R,
-    account: &Account<'_, K, B>,
-    worker: &mut Worker<B>,
+pub(crate) fn ask_readers<P: Pool>(
+    pool: &mut P,
     reader: u64,
     count: usize,
     held: u64,
 ) -> Result<u64, WorkFault>
-    requires at_work { IsAtWork account.now.manager.now account.now.task worker.old }
+    requires at_work { IsAtWork (P.state pool.old) }
     requires some { 64 ≤ reader }
     requires small { reader ≤ 196816 }
     requires several { 2 ≤ count }
     ensures enough { IfOk result (λ got. 2 * reader ≤ got) }
-    ensures wish { OnOk result ((held_by account.now.task worker.new).asked ≡ reader * min 8 count) }
-    ensures holds { IfOk result (λ got. (held_by account.now.task worker.new).held ≡ (held_by account.now.task worker.old).held + got) }
+    ensures wish { OnOk result ((P.state pool.new).account.asked ≡ reader * min 8 count) }
+    ensures holds { IfOk result (λ got. (P.state pool.new).account.held ≡ (P.state pool.old).account.held + got) }
     ensures asked { IfNoRoom result (λ asked given floor. asked ≡ 2 * reader) }
     ensures given { IfNoRoom result (λ asked given floor. given ≡ held) }
-    ensures short { IfNoRoom result (λ asked given floor. IsShort B.sizes (held_by account.now.task worker.old) (held_by account.now.task worker.new) asked floor) }
+    ensures short { IfNoRoom result (λ asked given floor. IsShort (P.state pool.old).account
+        (P.state pool.new).account asked floor) }
     ensures no_disk { AsksNoDisk result }
-    ensures at_work { IsAtWork account.now.manager.now account.now.task worker.new }
-    ensures goes { Goes account.now.task worker.old worker.new }
+    ensures goes { Goes (P.state pool.old) (P.state pool.new) }
 {
-    account.goes_on();
     let must = 2 * reader;
     let wish = reader * MOST_READERS.min(count as u64);
-    let Ok(got) = account.acquire(rt, worker, wish) else {
-        return Err(WorkFault::NoMemory);
-    };
-    if got >= must {
-        return Ok(got);
-    }
-    match account.release(rt, worker, got) {
-        Ok(()) => Err(WorkFault::NoRoom {
+    match acquire_or_nothing(pool, must, wish) {
+        Ok(Some(got)) => Ok(got),
+        Ok(None) => Err(WorkFault::NoRoom {
             asked: must,
             held,
-            floor: account.manager.setup().floor(),
+            floor: pool.floor(),
         }),
         Err(_) => Err(WorkFault::NoMemory),
     }

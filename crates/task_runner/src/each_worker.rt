@@ -17,29 +17,28 @@ ghost use Rattle.task_runner.specs.Parts.{HoldsRows};
 ghost use Rattle.task_runner.specs.Workers.{IfSound};
 ghost use Rattle.task_runner.specs.Works.{IfNoRoom, ShowsNoRoom};
 
+use crate::executor::Executor;
 use crate::one_worker::run_one;
 use crate::post::Post;
 use crate::work_fault::WorkFault;
 use consumer_trait::Consumer;
 use job_plan::Plan;
-use memory_lock::{Basis, Manager, Worker};
+use memory_lock::{Basis, Worker};
 use run_file::Run;
 use spill_disk::Disk;
-use std::alloc::Global;
 use std::sync::Wait;
 
 /// Does the tasks of all workers, up to the first that fails. Answers what each worker answers, in the order of their numbers.
-pub(crate) fn run_each<K: Disk, D: Disk, C: Consumer, B: Basis, R: Wait + Sync>(
-    rt: &R,
-    alloc: Global,
-    manager: &Manager<K, B>,
+pub(crate) fn run_each<K: Disk, D: Disk, C: Consumer, B: Basis, R: Wait>(
+    executor: &Executor<'_, R, K, B>,
     workers: &mut Vec<Worker<B>>,
     plan: &Plan,
     parts: &[Run],
     posts: &mut Vec<Post<D, C>>,
 ) -> Result<Vec<Vec<Option<Run>>>, WorkFault>
-    requires workers { AreWorkers manager.now B.sizes.workers workers.old.items }
-    requires free { (worker : ℕ) (any : PassState) → worker < B.sizes.workers → IsFree (slice_index_or workers.old.items worker any) }
+    requires workers { AreWorkers executor.now.manager.now B.sizes.workers workers.old.items }
+    requires free { (worker : ℕ) (any : PassState) → worker < B.sizes.workers
+        → IsFree (slice_index_or workers.old.items worker any) }
     requires owner { (part : ℕ) → part < length parts.now → B.owner part ≡ Some (part % B.sizes.workers) }
     requires fresh { (worker part : ℕ) (any : PassState) → worker < B.sizes.workers → part < length parts.now
         → was_begun (own_of (slice_index_or workers.old.items worker any)) part ≡ false }
@@ -50,23 +49,26 @@ pub(crate) fn run_each<K: Disk, D: Disk, C: Consumer, B: Basis, R: Wait + Sync>(
     requires one { length (kept_in plan.now) ≡ 1 }
     requires consumers { All (λ post. HasConsumers (map C.state post.consumers.items)) posts.old.items }
     ensures finished { IfOk result (λ all. Finished C.state D.files B.sizes.workers B.sizes.workers plan.now parts.now
-        workers.old.items workers.new.items posts.old.items posts.new.items (map (λ answers. answers.items) all.items)) }
+        workers.old.items workers.new.items posts.old.items posts.new.items (map (λ answers.
+        answers.items) all.items)) }
     ensures reached { Reached C.state D.files D.faults B.sizes.workers (length parts.now) B.sizes.workers
         workers.old.items workers.new.items posts.old.items posts.new.items }
     ensures sound { (rows : ℕ → List (List (List ℕ))) →
         ((part : ℕ) → part < length parts.now → HoldsRows
-        (files_on (disk_at (λ post. post.disk)) D.files posts.old (part % B.sizes.workers)) (form_in plan.now) (run_at parts.now part) (rows part)) →
+        (files_on (disk_at (λ post. post.disk)) D.files posts.old (part % B.sizes.workers)) (form_in plan.now)
+        (run_at parts.now part) (rows part)) →
         IfSound (λ _. ⊤) result }
     ensures no_room { IfNoRoom result (λ asked held floor. (worker task : ℕ) × (worker < B.sizes.workers)
-        × ((any : PassState) → ShowsNoRoom B.sizes (own_of (slice_index_or workers.new.items worker any)) task asked held floor)) }
+        × ((any : PassState) → ShowsNoRoom B.sizes (own_of (slice_index_or workers.new.items worker any)) task
+        asked held floor)) }
     ensures names { NamesSomePost B.sizes.workers result }
-    ensures workers { AreWorkers manager.now B.sizes.workers workers.new.items }
+    ensures workers { AreWorkers executor.now.manager.now B.sizes.workers workers.new.items }
     ensures cause { HasCauseAmong (faults_on (disk_at (λ post. post.disk)) D.faults posts.old)
         (faults_on (disk_at (λ post. post.disk)) D.faults posts.new) result }
 {
-    let mut all = Vec::new(alloc);
+    let mut all = Vec::new(executor.alloc);
     for number in 0..workers.len() {
-        match run_one(rt, alloc, manager, workers, plan, parts, posts, number) {
+        match run_one(executor, workers, plan, parts, posts, number) {
             Ok(answers) => {
                 if all.push(answers).is_err() {
                     return Err(WorkFault::NoMemory);

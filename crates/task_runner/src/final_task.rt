@@ -3,7 +3,7 @@
 ghost use Rattle.std.specs.Prelude.{◌≡◌, ◌≤◌, ◌<◌, ◌↔◌, ◌*◌, [], ◌∷◌, false, All, List, None, Some, IfOk, IfSome, IsSome, OnOk, length};
 ghost use Rattle.aggregate.specs.Totals.{Entry};
 ghost use Rattle.pool_ledger.specs.History.{was_begun};
-ghost use Rattle.memory_lock.specs.Workers.{IsFree, KeepsPin, SeesMore, own_of};
+ghost use Rattle.task_pool.specs.Workers.{IsFree, KeepsPin, SeesMore, own_of};
 ghost use Rattle.run_file.specs.declared.run.Run.{Run};
 ghost use Rattle.run_file.specs.Shelved.{faults_on, files_on};
 ghost use Rattle.run_file.specs.Shelved.{KeepsShelf};
@@ -14,30 +14,27 @@ ghost use Rattle.task_runner.specs.Answers.{HasCauseAmong, MergesTotal, TellsAmo
 ghost use Rattle.task_runner.specs.Merging.{reader_of, told_with};
 ghost use Rattle.task_runner.specs.Works.{IfNoRoom, MayWork, ShowsNoRoom, Works};
 
+use crate::executor::Executor;
 use crate::merging::merge_runs;
 use crate::work_fault::WorkFault;
 use aggregate::Kind;
-use memory_lock::{Basis, Manager, Worker};
+use memory_lock::{Basis, Worker};
 use run_file::Run;
 use spill_disk::{Disk, Shelf};
-use spill_stack::Account;
-use std::alloc::Global;
 use std::sync::Wait;
-use task_memory::end_task;
+use task_account::Account;
 
 /// Does the final task of a pass: merges the runs of its partitions, in their order, into one run on the disk 0. `None` comes
 /// exactly without a run, and one run alone stays where it is.
-pub fn run_final<K: Disk, D: Disk, H: Shelf<D>, B: Basis, R: Wait + Sync>(
-    rt: &R,
-    alloc: Global,
-    manager: &Manager<K, B>,
+pub fn run_final<K: Disk, D: Disk, H: Shelf<D>, B: Basis, R: Wait>(
+    executor: &Executor<'_, R, K, B>,
     worker: &mut Worker<B>,
     kind: &Kind,
     shelf: &mut H,
     runs: Vec<Run>,
     number: u32,
 ) -> Result<Option<Run>, WorkFault>
-    requires manager { worker.old.lock ≡ manager.now }
+    requires manager { worker.old.lock ≡ executor.now.manager.now }
     requires owner { B.owner number ≡ Some worker.old.number }
     requires free { IsFree worker.old }
     requires fresh { was_begun (own_of worker.old) number ≡ false }
@@ -58,7 +55,8 @@ pub fn run_final<K: Disk, D: Disk, H: Shelf<D>, B: Basis, R: Wait + Sync>(
     ensures works { OnOk result (Works number worker.old worker.new) }
     ensures may_work { MayWork number worker.old worker.new }
     ensures asked { IfNoRoom result (λ asked held floor. asked ≡ 2 * reader_of runs.items) }
-    ensures no_room { IfNoRoom result (λ asked held floor. ShowsNoRoom B.sizes (own_of worker.new) number asked held floor) }
+    ensures no_room { IfNoRoom result (λ asked held floor. ShowsNoRoom B.sizes
+        (own_of worker.new) number asked held floor) }
     ensures free { IsFree worker.new }
     ensures pin { KeepsPin worker.old worker.new }
     ensures sees { SeesMore worker.old worker.new }
@@ -69,15 +67,16 @@ pub fn run_final<K: Disk, D: Disk, H: Shelf<D>, B: Basis, R: Wait + Sync>(
     ensures others { KeepsOthers (H.named shelf.old)
         (files_on H.disk_of D.files shelf.old) (files_on H.disk_of D.files shelf.new) runs.items }
     ensures shelf { KeepsShelf H.count_of H.named H.disk_of D.files D.faults shelf.old shelf.new }
-    ensures cause { HasCauseAmong (faults_on H.disk_of D.faults shelf.old) (faults_on H.disk_of D.faults shelf.new) result }
+    ensures cause { HasCauseAmong (faults_on H.disk_of D.faults shelf.old)
+        (faults_on H.disk_of D.faults shelf.new) result }
     ensures damaged { TellsAmong (H.named shelf.old) (files_on H.disk_of D.files shelf.old) runs.items 0 result }
 {
-    let Ok(task) = manager.begin(rt, worker, number) else {
+    let Ok(task) = executor.manager.begin(executor.rt, worker, number) else {
         return Err(WorkFault::NoMemory);
     };
-    let account = Account { manager, task };
-    let answer = merge_runs(rt, alloc, &account, worker, kind, shelf, runs, 0, 0);
-    let freed = end_task(rt, account, worker);
+    let mut account = Account::of(executor.rt, executor.manager, worker, task);
+    let answer = merge_runs(executor.alloc, &mut account, kind, shelf, runs, 0, 0);
+    let freed = account.end();
     // What the task held when it was refused is known from its end.
     told(answer, freed)
 }

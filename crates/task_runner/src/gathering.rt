@@ -19,7 +19,8 @@ pub(crate) fn gather(
     requires few { length all.now.items < 2 ^ 32 }
     requires counts { (worker : ℕ) → worker < length all.now.items → IsCount (length all.now.items) worker partitions
         (length (answers_of (map (λ answers. answers.items) all.now.items) worker)) }
-    ensures { IfOk result (λ runs. runs.items ≡ gathered (map (λ answers. answers.items) all.now.items) (length all.now.items) partitions) }
+    ensures { IfOk result (λ runs. runs.items ≡ gathered (map (λ answers. answers.items) all.now.items)
+        (length all.now.items) partitions) }
 {
     let mut runs = Vec::new(alloc);
     for part in 0..partitions {

@@ -4,6 +4,7 @@
 mod aside;
 mod asking;
 mod each_worker;
+mod executor;
 mod feeding;
 mod final_task;
 mod gathering;
@@ -20,6 +21,7 @@ mod worker;
 mod workers;
 
 pub use aside::{swap_consumers, take_consumers};
+pub use executor::Executor;
 pub use final_task::run_final;
 pub use post::Post;
 pub use task::run_task;

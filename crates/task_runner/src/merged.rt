@@ -8,26 +8,23 @@ ghost use Rattle.run_file.specs.Shelved.{KeepsShelf};
 ghost use Rattle.run_file.specs.Several.{KeepsOthers};
 ghost use Rattle.run_merge.specs.Merged.{IsFresh, LeavesOnly, answered};
 ghost use Rattle.run_file.specs.Several.{AreApart, AreOn, HaveEntries};
-ghost use Rattle.spill_stack.specs.Attempts.{held_by};
 ghost use Rattle.task_runner.specs.Answers.{HasCauseAmong, MergesTotal, TellsAmong};
 ghost use Rattle.task_runner.specs.Merging.{reader_of};
 ghost use Rattle.task_runner.specs.Works.{IfNoRoom};
 
 use crate::work_fault::WorkFault;
 use aggregate::Kind;
-use memory_lock::{Basis, Worker};
 use run_file::Run;
 use run_merge::merge_all;
 use spill_disk::{Disk, Shelf};
-use spill_stack::Account;
 use std::alloc::Global;
+use task_pool::Pool;
 
 // Merges runs, at most `fan_in` at once, and tells a fault as one of a task.
 // The task holds the bytes of as many readers while they are merged.
-pub(crate) fn merge_at<K: Disk, D: Disk, H: Shelf<D>, B: Basis>(
+pub(crate) fn merge_at<P: Pool, D: Disk, H: Shelf<D>>(
     alloc: Global,
-    _account: &Account<'_, K, B>,
-    _worker: &Worker<B>,
+    _pool: &P,
     kind: &Kind,
     shelf: &mut H,
     runs: Vec<Run>,
@@ -35,7 +32,7 @@ pub(crate) fn merge_at<K: Disk, D: Disk, H: Shelf<D>, B: Basis>(
     to: u32,
 ) -> Result<Option<Run>, WorkFault>
     requires fan_in { 2 ≤ fan_in }
-    requires paid { 2 ≤ length runs.items → fan_in * reader_of runs.items ≤ (held_by _account.now.task _worker.now).held }
+    requires paid { 2 ≤ length runs.items → fan_in * reader_of runs.items ≤ (P.state _pool.now).account.held }
     requires to { to < H.count_of shelf.old }
     requires there { AreOn (H.count_of shelf.old) runs.items }
     requires bounded { All (λ run. run.greatest ≤ 196752) runs.items }
@@ -52,11 +49,13 @@ pub(crate) fn merge_at<K: Disk, D: Disk, H: Shelf<D>, B: Basis>(
     ensures never { IfNoRoom result (λ asked held floor. ⊥) }
     ensures files { IfOk result (λ answer. LeavesOnly (H.named shelf.old)
         (files_on H.disk_of D.files shelf.old) (files_on H.disk_of D.files shelf.new) runs.items (answered answer)) }
-    ensures fresh { IfOk result (λ answer. IsFresh (H.named shelf.old) (files_on H.disk_of D.files shelf.old) runs.items (answered answer)) }
+    ensures fresh { IfOk result (λ answer. IsFresh (H.named shelf.old)
+        (files_on H.disk_of D.files shelf.old) runs.items (answered answer)) }
     ensures others { KeepsOthers (H.named shelf.old)
         (files_on H.disk_of D.files shelf.old) (files_on H.disk_of D.files shelf.new) runs.items }
     ensures shelf { KeepsShelf H.count_of H.named H.disk_of D.files D.faults shelf.old shelf.new }
-    ensures cause { HasCauseAmong (faults_on H.disk_of D.faults shelf.old) (faults_on H.disk_of D.faults shelf.new) result }
+    ensures cause { HasCauseAmong (faults_on H.disk_of D.faults shelf.old)
+        (faults_on H.disk_of D.faults shelf.new) result }
     ensures damaged { TellsAmong (H.named shelf.old) (files_on H.disk_of D.files shelf.old) runs.items to result }
 {
     match merge_all(alloc, shelf, runs, kind, fan_in, to) {

@@ -23,8 +23,10 @@ pub(crate) fn read_landed<D: Disk>(
     landed: &Run,
     disk: &mut D,
 ) -> Result<Page, WorkFault>
-    ensures rows { (rows : List (List (List ℕ))) → HoldsRows (D.files disk.old) (form_in plan.now) landed.now rows → GivesRows rows result }
-    ensures formed { IfOk result (λ page. AllByRecursion (IsWellFormed (form_in plan.now) landed.now.greatest) page.rows) }
+    ensures rows { (rows : List (List (List ℕ))) → HoldsRows (D.files disk.old) (form_in plan.now) landed.now rows
+        → GivesRows rows result }
+    ensures formed { IfOk result (λ page. AllByRecursion (IsWellFormed
+        (form_in plan.now) landed.now.greatest) page.rows) }
     ensures count { IfOk result (λ page. length page.rows ≡ landed.now.count) }
     ensures damaged { TellsRun landed.now result }
     ensures landed { IfOk result (λ page. is_landed (form_in plan.now) ≡ true) }

@@ -1,21 +1,19 @@
 //! The entries of a partition, spilled as runs by the consumer of a task.
 
-ghost use Rattle.std.specs.Prelude.{◌≡◌, ◌+◌, [], List, map, true, length, IfOk, OnOk, Option, ℕ};
+ghost use Rattle.std.specs.Prelude.{◌≡◌, ◌+◌, [], List, map, length, IfOk, OnOk, ℕ};
 ghost use Rattle.aggregate.specs.Totals.{Entry};
 ghost use Rattle.aggregate.specs.declared.kind.Kind.{Kind};
-ghost use Rattle.consumer_trait.specs.States.{State};
-ghost use Rattle.spill_disk.specs.Files.{Files};
-ghost use Rattle.spill_stack.specs.Attempts.{held_by};
-ghost use Rattle.spill_stack.specs.Disks.{LeavesDisk};
-ghost use Rattle.spill_stack.specs.Going.{Goes, IsAtWork};
-ghost use Rattle.spill_stack.specs.Pauses.{AllSame};
-ghost use Rattle.spill_stack.specs.Scenes.{scene_of, used_by};
-ghost use Rattle.task_memory.specs.Live.{IsBetween};
 ghost use Rattle.job_plan.specs.Plans.{form_in, kept_in, kind_at};
+ghost use Rattle.task_pool.specs.Pools.{Goes, IsAtWork};
+ghost use Rattle.task_memory.specs.Disks.{LeavesDisk};
+ghost use Rattle.task_memory.specs.Pauses.{AllSame};
+ghost use Rattle.task_memory.specs.Scenes.{IsLive};
+ghost use Rattle.task_memory.specs.Stacks.{Stack, stack_of, used_by};
+ghost use Rattle.task_memory.specs.Words.{begun_scene};
 ghost use Rattle.task_runner.specs.Answers.{HasCauseAmong};
 ghost use Rattle.task_runner.specs.Consumers.{FeedsOne, HasConsumers, KeepsConsumers, place_for};
 ghost use Rattle.task_runner.specs.Parts.{entries_in};
-ghost use Rattle.task_runner.specs.Spilling.{AreShort, IsFed, LeavesRuns, NeverDamaged};
+ghost use Rattle.task_runner.specs.Spilling.{AreCharged, AreShort, IsFed, LeavesMemory, LeavesRuns, NeverDamaged};
 ghost use Rattle.task_runner.specs.Works.{FallsShort, IfNoRoom};
 
 use crate::feeding::feed_rows;
@@ -23,58 +21,48 @@ use crate::work_fault::WorkFault;
 use aggregate::Kind;
 use consumer_trait::Consumer;
 use job_plan::Plan;
-use memory_lock::{Basis, Worker};
 use row_page::Page;
 use run_file::Run;
 use spill_disk::Disk;
-use spill_stack::{Account, Spills};
 use std::alloc::Global;
-use std::sync::Wait;
-use task_memory::{Started, TaskFault, TaskMemory, start};
+use task_memory::{Memory, Started, TaskMemory, start};
+use task_pool::{Pool, pools_go_on};
 
 // Feeds the plan's one query the entries of a page's rows, in their order, and answers the runs that its consumer leaves.
-pub(crate) fn spill_rows<C: Consumer, K: Disk, D: Disk, B: Basis, R: Wait + Sync>(
-    rt: &R,
+pub(crate) fn spill_rows<C: Consumer, P: Pool, D: Disk>(
     alloc: Global,
-    account: &Account<'_, K, B>,
-    worker: &mut Worker<B>,
+    pool: &mut P,
     plan: &Plan,
     page: &Page,
     consumers: &mut [C],
     disk: &mut D,
 ) -> Result<Vec<Run>, WorkFault>
-    requires at_work { IsAtWork account.now.manager.now account.now.task worker.old }
-    requires nothing { (held_by account.now.task worker.old).held ≡ 0 }
+    requires at_work { IsAtWork (P.state pool.old) }
+    requires nothing { (P.state pool.old).account.held ≡ 0 }
     requires one { length (kept_in plan.now) ≡ 1 }
     requires consumers { HasConsumers (map C.state consumers.old) }
     requires rows { AreShort (form_in plan.now) page.now.rows }
-    ensures runs { IfOk result (λ runs. LeavesRuns (D.files disk.old) (D.files disk.new) (kind_at plan.now 0) (entries_in plan.now 0 page.now.rows) runs.items) }
-    ensures fed { OnOk result (FeedsOne (map C.state consumers.old) (map C.state consumers.new) (place_for (kind_at plan.now 0)) (length page.now.rows)) }
-    ensures freed { OnOk result ((held_by account.now.task worker.new).held ≡ used_by (map C.state consumers.new)) }
+    ensures runs { IfOk result (λ runs. LeavesRuns (D.files disk.old) (D.files disk.new) (kind_at plan.now 0)
+        (entries_in plan.now 0 page.now.rows) runs.items) }
+    ensures fed { OnOk result (FeedsOne (map C.state consumers.old) (map C.state consumers.new) (place_for
+        (kind_at plan.now 0)) (length page.now.rows)) }
+    ensures freed { OnOk result ((P.state pool.new).account.held ≡ used_by (map C.state consumers.new)) }
     ensures keeps { KeepsConsumers (map C.state consumers.old) (map C.state consumers.new) }
-    ensures refused { IfNoRoom result (FallsShort B.sizes (held_by account.now.task worker.new)) }
+    ensures refused { IfNoRoom result (FallsShort (P.state pool.new).account) }
     ensures undamaged { NeverDamaged result }
-    ensures at_work { IsAtWork account.now.manager.now account.now.task worker.new }
-    ensures goes { Goes account.now.task worker.old worker.new }
+    ensures goes { Goes (P.state pool.old) (P.state pool.new) }
     ensures disk { LeavesDisk (D.files disk.old) (D.files disk.new) (D.faults disk.old) (D.faults disk.new) }
     ensures cause { HasCauseAmong (λ _. D.faults disk.old) (λ _. D.faults disk.new) result }
 {
-    account.goes_on();
+    // For the proof: no call is a way to go on, and so are two calls.
+    pools_go_on();
     let Ok(kind) = plan.kind(0).copy() else {
         return Err(WorkFault::NoMemory);
     };
     let place = place_of(&kind);
-    match start(rt, alloc, account, worker, consumers, &[place], &[kind]) {
-        Ok(started) => drain_started(
-            rt, alloc, account, worker, plan, page, started, consumers, disk,
-        ),
-        Err(TaskFault::NoRoom { asked, held, floor }) => Err(WorkFault::NoRoom {
-            asked,
-            held,
-            floor,
-        }),
-        Err(TaskFault::DiskFault) => Err(WorkFault::DiskFault { post: 0 }),
-        Err(TaskFault::NoMemory) => Err(WorkFault::NoMemory),
+    match start(alloc, pool, consumers, &[place], &[kind]) {
+        Ok(started) => spill_started(alloc, pool, plan, page, started, consumers, disk),
+        Err(fault) => Err(WorkFault::from(fault)),
     }
 }
 
@@ -89,118 +77,99 @@ fn place_of(kind: &Kind) -> usize
 }
 
 // The same with consumers that were made ready.
-fn drain_started<C: Consumer, K: Disk, D: Disk, B: Basis, R: Wait + Sync>(
-    rt: &R,
+fn spill_started<C: Consumer, P: Pool, D: Disk>(
     alloc: Global,
-    account: &Account<'_, K, B>,
-    worker: &mut Worker<B>,
+    pool: &mut P,
     plan: &Plan,
     page: &Page,
     started: Started,
     consumers: &mut [C],
     disk: &mut D,
 ) -> Result<Vec<Run>, WorkFault>
-    requires at_work { IsAtWork account.now.manager.now account.now.task worker.old }
+    requires live { IsLive (begun_scene (map C.state consumers.old) (P.state pool.old) (D.files disk.old)
+        (D.faults disk.old) started.spills started.leasts) }
     requires one { length (kept_in plan.now) ≡ 1 }
     requires rows { AreShort (form_in plan.now) page.now.rows }
-    requires its { IsBetween (scene_of (map C.state consumers.old) (D.files disk.old) (held_by account.now.task worker.old) started.spills) started.leasts 0 }
-    requires page { started.spills.page ≡ record { rows = []; room = 262144 } }
-    requires started { IsFed (map C.state consumers.old) (D.files disk.old) (place_for (kind_at plan.now 0)) (kind_at plan.now 0) []
-        (scene_of (map C.state consumers.old) (D.files disk.old) (held_by account.now.task worker.old) started.spills) }
-    ensures runs { IfOk result (λ runs. LeavesRuns (D.files disk.old) (D.files disk.new) (kind_at plan.now 0) (entries_in plan.now 0 page.now.rows) runs.items) }
-    ensures fed { OnOk result (FeedsOne (map C.state consumers.old) (map C.state consumers.new) (place_for (kind_at plan.now 0)) (length page.now.rows)) }
-    ensures freed { OnOk result ((held_by account.now.task worker.new).held ≡ used_by (map C.state consumers.new)) }
+    requires started { IsFed (stack_of (map C.state consumers.old) (D.files disk.old)
+        (P.state pool.old).account started.spills)
+        (stack_of (map C.state consumers.old) (D.files disk.old) (P.state pool.old).account started.spills)
+        (place_for (kind_at plan.now 0)) (kind_at plan.now 0) [] }
+    ensures runs { IfOk result (λ runs. LeavesRuns (D.files disk.old) (D.files disk.new) (kind_at plan.now 0)
+        (entries_in plan.now 0 page.now.rows) runs.items) }
+    ensures fed { OnOk result (FeedsOne (map C.state consumers.old) (map C.state consumers.new) (place_for
+        (kind_at plan.now 0)) (length page.now.rows)) }
+    ensures freed { OnOk result ((P.state pool.new).account.held ≡ used_by (map C.state consumers.new)) }
+    ensures charged { OnOk result
+        (AreCharged started.leasts (P.state pool.new).account.peak (entries_in plan.now 0 page.now.rows)) }
     ensures keeps { KeepsConsumers (map C.state consumers.old) (map C.state consumers.new) }
-    ensures refused { IfNoRoom result (FallsShort B.sizes (held_by account.now.task worker.new)) }
+    ensures refused { IfNoRoom result (FallsShort (P.state pool.new).account) }
     ensures undamaged { NeverDamaged result }
-    ensures at_work { IsAtWork account.now.manager.now account.now.task worker.new }
-    ensures goes { Goes account.now.task worker.old worker.new }
+    ensures goes { Goes (P.state pool.old) (P.state pool.new) }
     ensures disk { LeavesDisk (D.files disk.old) (D.files disk.new) (D.faults disk.old) (D.faults disk.new) }
     ensures cause { HasCauseAmong (λ _. D.faults disk.old) (λ _. D.faults disk.new) result }
 {
-    let mut memory = TaskMemory::over(started, account, consumers, disk);
-    let answer = drain_rows(rt, alloc, account, &mut memory, worker, plan, page);
+    let Started { spills, leasts } = started;
+    let mut memory = TaskMemory::over(pool, consumers, disk, spills, leasts);
+    let answer = drain_rows(alloc, &mut memory, plan, page);
     memory.end();
     answer
 }
 
 // Feeds the consumer of a memory that was started the entries of a page's rows, spills what it has left, and frees its least.
-fn drain_rows<C: Consumer, K: Disk, D: Disk, B: Basis, R: Wait + Sync>(
-    rt: &R,
+fn drain_rows<M: Memory>(
     alloc: Global,
-    account: &Account<'_, K, B>,
-    memory: &mut TaskMemory<'_, C, K, D, B, Spills>,
-    worker: &mut Worker<B>,
+    memory: &mut M,
     plan: &Plan,
     page: &Page,
 ) -> Result<Vec<Run>, WorkFault>
-    requires account { memory.old.account.now ≡ account.now }
+    requires live { IsLive (M.scene memory.old) }
     requires one { length (kept_in plan.now) ≡ 1 }
     requires rows { AreShort (form_in plan.now) page.now.rows }
-    requires live { memory.old.live ≡ true }
-    requires at_work { IsAtWork memory.old.account.now.manager.now memory.old.account.now.task worker.old }
-    requires its { IsBetween (scene_of (map C.state memory.old.boxes.now) (D.files memory.old.disk.now) (held_by memory.old.account.now.task worker.old) memory.old.spills) memory.old.leasts memory.old.roomed }
-    requires page { memory.old.spills.page ≡ record { rows = []; room = 262144 } }
-    requires started { IsFed (map C.state memory.old.boxes.now) (D.files memory.old.disk.now) (place_for (kind_at plan.now 0)) (kind_at plan.now 0) []
-        (scene_of (map C.state memory.old.boxes.now) (D.files memory.old.disk.now) (held_by memory.old.account.now.task worker.old) memory.old.spills) }
-    ensures runs { IfOk result (λ runs. LeavesRuns (D.files memory.old.disk.now) (D.files memory.new.disk.now) (kind_at plan.now 0) (entries_in plan.now 0 page.now.rows) runs.items) }
-    ensures fed { OnOk result (FeedsOne (map C.state memory.old.boxes.now) (map C.state memory.new.boxes.now) (place_for (kind_at plan.now 0)) (length page.now.rows)) }
-    ensures freed { OnOk result ((held_by memory.new.account.now.task worker.new).held ≡ used_by (map C.state memory.new.boxes.now) + memory.new.roomed) }
-    ensures keeps { KeepsConsumers (map C.state memory.old.boxes.now) (map C.state memory.new.boxes.now) }
-    ensures refused { IfNoRoom result (FallsShort B.sizes (held_by memory.new.account.now.task worker.new)) }
+    requires started { IsFed (M.scene memory.old).stack (M.scene memory.old).stack (place_for
+        (kind_at plan.now 0)) (kind_at plan.now 0) [] }
+    ensures runs { IfOk result (λ runs. LeavesRuns (M.scene memory.old).stack.files
+        (M.scene memory.new).stack.files (kind_at plan.now 0)
+        (entries_in plan.now 0 page.now.rows) runs.items) }
+    ensures fed { OnOk result (FeedsOne (M.scene memory.old).stack.states (M.scene memory.new).stack.states
+        (place_for (kind_at plan.now 0)) (length page.now.rows)) }
+    ensures freed { OnOk result ((M.scene memory.new).stack.account.held ≡ used_by
+        (M.scene memory.new).stack.states + (M.scene memory.new).roomed) }
+    ensures refused { IfNoRoom result (FallsShort (M.scene memory.new).stack.account) }
     ensures undamaged { NeverDamaged result }
-    ensures at_work { IsAtWork memory.new.account.now.manager.now memory.new.account.now.task worker.new }
-    ensures goes { Goes memory.old.account.now.task worker.old worker.new }
-    ensures account { memory.new.account.now ≡ memory.old.account.now }
-    ensures boxes { memory.new.boxes.ghost_name ≡ memory.old.boxes.ghost_name }
-    ensures lent { memory.new.disk.ghost_name ≡ memory.old.disk.ghost_name }
-    ensures roomed { memory.new.roomed ≡ memory.old.roomed }
-    ensures disk { LeavesDisk (D.files memory.old.disk.now) (D.files memory.new.disk.now) (D.faults memory.old.disk.now) (D.faults memory.new.disk.now) }
-    ensures cause { HasCauseAmong (λ _. D.faults memory.old.disk.now) (λ _. D.faults memory.new.disk.now) result }
+    ensures charged { OnOk result
+        (AreCharged (M.scene memory.old).leasts (M.scene memory.new).pool.account.peak
+        (entries_in plan.now 0 page.now.rows)) }
+    ensures roomed { OnOk result ((M.scene memory.new).roomed ≡ (M.scene memory.old).roomed) }
+    ensures leaves { LeavesMemory (M.scene memory.old) (M.scene memory.new) }
+    ensures cause { HasCauseAmong (λ _. (M.scene memory.old).faults) (λ _. (M.scene memory.new).faults) result }
 {
-    account.goes_on();
-    match feed_rows(rt, alloc, account, memory, worker, plan, page) {
-        Ok(()) => drain_all(rt, account, memory, worker),
+    match feed_rows(alloc, memory, plan, page) {
+        Ok(()) => drain_all(memory),
         Err(fault) => Err(fault),
     }
 }
 
 // Spills what the one consumer of a memory has left, and frees its least.
-fn drain_all<C: Consumer, K: Disk, D: Disk, B: Basis, R: Wait + Sync>(
-    rt: &R,
-    account: &Account<'_, K, B>,
-    memory: &mut TaskMemory<'_, C, K, D, B, Spills>,
-    worker: &mut Worker<B>,
-) -> Result<Vec<Run>, WorkFault>
-    requires account { memory.old.account.now ≡ account.now }
-    requires live { memory.old.live ≡ true }
-    requires at_work { IsAtWork memory.old.account.now.manager.now memory.old.account.now.task worker.old }
-    requires its { IsBetween (scene_of (map C.state memory.old.boxes.now) (D.files memory.old.disk.now) (held_by memory.old.account.now.task worker.old) memory.old.spills) memory.old.leasts memory.old.roomed }
-    requires page { memory.old.spills.page ≡ record { rows = []; room = 262144 } }
-    requires one { length memory.old.spills.picks.items ≡ 1 }
-    ensures runs { IfOk result (λ runs. (states : List State) (before : Option Files) (place : ℕ) (kind : Kind) (entries : List Entry)
-        → IsFed states before place kind entries (scene_of (map C.state memory.old.boxes.now) (D.files memory.old.disk.now) (held_by memory.old.account.now.task worker.old) memory.old.spills)
-        → LeavesRuns before (D.files memory.new.disk.now) kind entries runs.items) }
-    ensures freed { OnOk result ((held_by memory.new.account.now.task worker.new).held ≡ used_by (map C.state memory.new.boxes.now) + memory.new.roomed) }
-    ensures same { AllSame (map C.state memory.old.boxes.now) (map C.state memory.new.boxes.now) }
+fn drain_all<M: Memory>(memory: &mut M) -> Result<Vec<Run>, WorkFault>
+    requires live { IsLive (M.scene memory.old) }
+    requires one { length (M.scene memory.old).stack.picks ≡ 1 }
+    ensures runs { IfOk result (λ runs. (first : Stack) (place : ℕ) (kind : Kind) (entries : List Entry)
+        → IsFed first (M.scene memory.old).stack place kind entries
+        → LeavesRuns first.files (M.scene memory.new).stack.files kind entries runs.items) }
+    ensures freed { OnOk result ((M.scene memory.new).stack.account.held ≡ used_by
+        (M.scene memory.new).stack.states + (M.scene memory.new).roomed) }
+    ensures same { AllSame (M.scene memory.old).stack.states (M.scene memory.new).stack.states }
     ensures never { IfNoRoom result (λ asked held floor. ⊥) }
     ensures undamaged { NeverDamaged result }
-    ensures at_work { IsAtWork memory.new.account.now.manager.now memory.new.account.now.task worker.new }
-    ensures goes { Goes memory.old.account.now.task worker.old worker.new }
-    ensures account { memory.new.account.now ≡ memory.old.account.now }
-    ensures boxes { memory.new.boxes.ghost_name ≡ memory.old.boxes.ghost_name }
-    ensures lent { memory.new.disk.ghost_name ≡ memory.old.disk.ghost_name }
-    ensures roomed { memory.new.roomed ≡ memory.old.roomed }
-    ensures disk { LeavesDisk (D.files memory.old.disk.now) (D.files memory.new.disk.now) (D.faults memory.old.disk.now) (D.faults memory.new.disk.now) }
-    ensures cause { HasCauseAmong (λ _. D.faults memory.old.disk.now) (λ _. D.faults memory.new.disk.now) result }
+    ensures roomed { OnOk result ((M.scene memory.new).roomed ≡ (M.scene memory.old).roomed) }
+    ensures leaves { LeavesMemory (M.scene memory.old) (M.scene memory.new) }
+    ensures cause { HasCauseAmong (λ _. (M.scene memory.old).faults) (λ _. (M.scene memory.new).faults) result }
 {
-    account.goes_on();
-    match memory.drain(rt, worker, 0) {
-        Ok(runs) => match memory.free_leasts(rt, worker) {
+    match memory.drain(0) {
+        Ok(runs) => match memory.free_leasts() {
             Ok(()) => Ok(runs),
-            Err(_) => Err(WorkFault::NoMemory),
+            Err(fault) => Err(WorkFault::from(fault)),
         },
-        Err(TaskFault::DiskFault) => Err(WorkFault::DiskFault { post: 0 }),
-        Err(_) => Err(WorkFault::NoMemory),
+        Err(fault) => Err(WorkFault::from(fault)),
     }
 }

@@ -1,9 +1,10 @@
 //! Why a task gave up.
 
 ghost use Rattle.std.specs.Prelude.{◌≡◌};
-ghost use Rattle.task_runner.specs.Answers.{fault_by};
+ghost use Rattle.task_runner.specs.Answers.{fault_by, task_fault_by};
 
 use run_file::{Damage, RunFault};
+use task_memory::TaskFault;
 use thiserror::Error;
 
 /// Why a task gave up. It has ended, if it had begun.
@@ -30,6 +31,19 @@ impl From<RunFault> for WorkFault {
             RunFault::DiskFault { disk } => WorkFault::DiskFault { post: disk },
             RunFault::Damaged(damage) => WorkFault::Damaged(damage),
             RunFault::NoMemory => WorkFault::NoMemory,
+        }
+    }
+}
+
+/// A task's own disk is that of the post 0.
+impl From<TaskFault> for WorkFault {
+    ghost from_gives = { λ fault result. result ≡ task_fault_by fault };
+
+    fn from(fault: TaskFault) -> WorkFault {
+        match fault {
+            TaskFault::NoRoom { asked, held, floor } => WorkFault::NoRoom { asked, held, floor },
+            TaskFault::DiskFault => WorkFault::DiskFault { post: 0 },
+            TaskFault::NoMemory => WorkFault::NoMemory,
         }
     }
 }

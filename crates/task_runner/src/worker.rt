@@ -4,7 +4,7 @@ ghost use Rattle.std.specs.Prelude.{◌≡◌, ◌≤◌, ◌<◌, ◌+◌, ◌*
 ghost use Rattle.pool_ledger.specs.History.{was_begun};
 ghost use Rattle.memory_lock.specs.Workers.{IsFree, KeepsPin, SeesMore, own_of};
 ghost use Rattle.run_file.specs.Several.{run_at};
-ghost use Rattle.spill_stack.specs.Disks.{LeavesDisk};
+ghost use Rattle.task_memory.specs.Disks.{LeavesDisk};
 ghost use Rattle.job_plan.specs.Planning.{columns_of};
 ghost use Rattle.job_plan.specs.Plans.{form_in, kept_in, kind_at};
 ghost use Rattle.task_runner.specs.Answers.{HasCauseAmong};
@@ -14,22 +14,20 @@ ghost use Rattle.task_runner.specs.Parts.{HoldsRows};
 ghost use Rattle.task_runner.specs.Workers.{AreMade, DoesSome, DoesTasks, IfSound, IsCount, LeavesOnlyAnswers, TellParts, part_at, rows_to};
 ghost use Rattle.task_runner.specs.Works.{IfNoRoom, MayWork, ShowsNoRoom};
 
+use crate::executor::Executor;
 use crate::post::Post;
 use crate::task::run_task;
 use crate::work_fault::WorkFault;
 use consumer_trait::Consumer;
 use job_plan::Plan;
-use memory_lock::{Basis, Manager, Worker};
+use memory_lock::{Basis, Worker};
 use run_file::Run;
 use spill_disk::Disk;
-use std::alloc::Global;
 use std::sync::Wait;
 
 // Does the task of one partition, and puts its answer behind the others.
-fn next_task<K: Disk, D: Disk, C: Consumer, B: Basis, R: Wait + Sync>(
-    rt: &R,
-    alloc: Global,
-    manager: &Manager<K, B>,
+fn next_task<K: Disk, D: Disk, C: Consumer, B: Basis, R: Wait>(
+    executor: &Executor<'_, R, K, B>,
     worker: &mut Worker<B>,
     plan: &Plan,
     landed: &Run,
@@ -37,7 +35,7 @@ fn next_task<K: Disk, D: Disk, C: Consumer, B: Basis, R: Wait + Sync>(
     post: &mut Post<D, C>,
     answers: &mut Vec<Option<Run>>,
 ) -> Result<(), WorkFault>
-    requires manager { worker.old.lock ≡ manager.now }
+    requires manager { worker.old.lock ≡ executor.now.manager.now }
     requires owner { B.owner part ≡ Some worker.old.number }
     requires free { IsFree worker.old }
     requires fresh { was_begun (own_of worker.old) part ≡ false }
@@ -54,10 +52,11 @@ fn next_task<K: Disk, D: Disk, C: Consumer, B: Basis, R: Wait + Sync>(
         (scene_of worker.old (map C.state post.old.consumers.items) (D.files post.old.disk) (D.faults post.old.disk))
         (scene_of worker.new (map C.state post.new.consumers.items) (D.files post.new.disk) (D.faults post.new.disk)) }
     ensures may_work { MayWork part worker.old worker.new }
-    ensures no_room { IfNoRoom result (λ asked held floor. ShowsNoRoom B.sizes (own_of worker.new) part asked held floor) }
+    ensures no_room { IfNoRoom result (λ asked held floor. ShowsNoRoom B.sizes
+        (own_of worker.new) part asked held floor) }
     ensures cause { HasCauseAmong (λ _. D.faults post.old.disk) (λ _. D.faults post.new.disk) result }
 {
-    let answer = run_task(rt, alloc, manager, worker, plan, landed, post, part)?;
+    let answer = run_task(executor, worker, plan, landed, post, part)?;
     match answers.push(answer) {
         Ok(()) => Ok(()),
         Err(_) => Err(WorkFault::NoMemory),
@@ -67,17 +66,15 @@ fn next_task<K: Disk, D: Disk, C: Consumer, B: Basis, R: Wait + Sync>(
 /// Does all tasks of a worker in a pass, one behind the other: with so many workers, those for the partitions `w`,
 /// `w + workers` and so on, where `w` is the worker's number. Each task has its partition's number. The answers, a run for each
 /// task or none where it had no row, stand in the same order, and name the disk 0.
-pub(crate) fn run_worker<K: Disk, D: Disk, C: Consumer, B: Basis, R: Wait + Sync>(
-    rt: &R,
-    alloc: Global,
-    manager: &Manager<K, B>,
+pub(crate) fn run_worker<K: Disk, D: Disk, C: Consumer, B: Basis, R: Wait>(
+    executor: &Executor<'_, R, K, B>,
     worker: &mut Worker<B>,
     plan: &Plan,
     parts: &[Run],
     workers: usize,
     post: &mut Post<D, C>,
 ) -> Result<Vec<Option<Run>>, WorkFault>
-    requires manager { worker.old.lock ≡ manager.now }
+    requires manager { worker.old.lock ≡ executor.now.manager.now }
     requires known { worker.old.number < workers }
     requires free { IsFree worker.old }
     requires owner { (k : ℕ) → part_at workers worker.old.number k < length parts.now
@@ -90,36 +87,40 @@ pub(crate) fn run_worker<K: Disk, D: Disk, C: Consumer, B: Basis, R: Wait + Sync
     requires consumers { HasConsumers (map C.state post.old.consumers.items) }
     ensures all { IfOk result (λ answers. IsCount workers worker.old.number (length parts.now) (length answers.items)) }
     ensures answer { (rows : ℕ → List (List (List ℕ))) →
-        ((k : ℕ) → part_at workers worker.old.number k < length parts.now → HoldsRows (D.files post.old.disk) (form_in plan.now)
+        ((k : ℕ) → part_at workers worker.old.number k < length parts.now
+        → HoldsRows (D.files post.old.disk) (form_in plan.now)
         (run_at parts.now (part_at workers worker.old.number k)) (rows (part_at workers worker.old.number k))) →
-        IfSound (λ answers. TellParts (D.files post.new.disk) (kind_at plan.now 0) plan.now workers worker.old.number rows answers.items) result }
+        IfSound (λ answers. TellParts (D.files post.new.disk)
+        (kind_at plan.now 0) plan.now workers worker.old.number rows answers.items) result }
     ensures made { IfOk result (λ answers. AreMade (D.files post.old.disk) answers.items) }
-    ensures only { IfOk result (λ answers. LeavesOnlyAnswers (D.files post.old.disk) (D.files post.new.disk) answers.items) }
+    ensures only { IfOk result (λ answers. LeavesOnlyAnswers (D.files post.old.disk)
+        (D.files post.new.disk) answers.items) }
 
     // The consumers.
-    ensures fed { IfOk result (λ answers. FeedsOne (map C.state post.old.consumers.items) (map C.state post.new.consumers.items)
+    ensures fed { IfOk result (λ answers. FeedsOne (map C.state post.old.consumers.items)
+        (map C.state post.new.consumers.items)
         (place_for (kind_at plan.now 0)) (rows_to parts.now workers worker.old.number (length answers.items))) }
     ensures consumers { KeepsConsumers (map C.state post.old.consumers.items) (map C.state post.new.consumers.items) }
 
     // The tasks in the worker's own entries.
     ensures works { IfOk result (λ answers. DoesTasks workers (length answers.items) worker.old worker.new) }
     ensures may_work { DoesSome workers (length parts.now) worker.old worker.new }
-    ensures no_room { IfNoRoom result (λ asked held floor. (task : ℕ) × ShowsNoRoom B.sizes (own_of worker.new) task asked held floor) }
+    ensures no_room { IfNoRoom result (λ asked held floor. (task : ℕ)
+        × ShowsNoRoom B.sizes (own_of worker.new) task asked held floor) }
     ensures free { IsFree worker.new }
     ensures pin { KeepsPin worker.old worker.new }
     ensures sees { SeesMore worker.old worker.new }
 
     // The disk.
-    ensures disk { LeavesDisk (D.files post.old.disk) (D.files post.new.disk) (D.faults post.old.disk) (D.faults post.new.disk) }
+    ensures disk { LeavesDisk (D.files post.old.disk) (D.files post.new.disk) (D.faults post.old.disk)
+        (D.faults post.new.disk) }
     ensures cause { HasCauseAmong (λ _. D.faults post.old.disk) (λ _. D.faults post.new.disk) result }
 {
-    let mut answers = Vec::new(alloc);
+    let mut answers = Vec::new(executor.alloc);
     let mut part = worker.number() as usize;
     'tasks: while part < parts.len() {
         next_task(
-            rt,
-            alloc,
-            manager,
+            executor,
             worker,
             plan,
             &parts[part],

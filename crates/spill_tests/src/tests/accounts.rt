@@ -6,14 +6,16 @@ ghost use Rattle.memory_lock.specs.Crew.{IsWorker};
 use memory_lock::{Basis, Manager, Worker};
 use pool_ledger::Setup;
 use spill_disk::MemoryDisk;
-use spill_stack::{Account, Spills};
 use std::alloc::{AllocError, Global};
 use std::marker::Brand;
 use std::sync::Wait;
 use std::test::Fail;
+use task_account::Account;
+use task_memory::Spills;
+use task_pool::Pool;
 
 /// A new worker's task that asks for 700 bytes and gives 40 back: what it got, and what it held at its end.
-fn use_account<B: Basis, R: Wait + Sync>(
+fn use_account<B: Basis, R: Wait>(
     rt: &R,
     manager: &Manager<MemoryDisk, B>,
     mut worker: Worker<B>,
@@ -24,18 +26,16 @@ fn use_account<B: Basis, R: Wait + Sync>(
 {
     let number = worker.number();
     let task = manager.begin(rt, &mut worker, number)?;
-    let account = Account { manager, task };
-    account.goes_on();
-    let got = account.acquire(rt, &mut worker, 700);
-    let released = account.release(rt, &mut worker, 40);
-    let Account { manager, task } = account;
-    let held = manager.end(rt, &mut worker, task);
+    let mut account = Account::of(rt, manager, &mut worker, task);
+    let got = account.acquire(700);
+    let released = account.release(40);
+    let held = account.end();
     released?;
     Ok((got?, held))
 }
 
 /// The same in a pool of one worker.
-fn use_account_alone<B: Basis, R: Wait + Sync>(
+fn use_account_alone<B: Basis, R: Wait>(
     rt: &R,
     alloc: Global,
     setup: Setup,

@@ -46,17 +46,17 @@ returns-in-Ok-clause-files g c =
 pub returns-in-Ok-clause-done : goal.returns-in-Ok-clause-done
 returns-in-Ok-clause-done g c =
     let none : length c.args.parts.now ≡ 0 = eqb-true (length c.args.parts.now) 0 (sym c.is_empty.ensures ∙ c.if-is_empty.true) in
-    done_each c.args.manager.now g.B.Basis.sizes.workers (length c.args.parts.now) c.args.workers.now.items c.finish.new.workers.items c.requires.workers
-    (λ w any below. firsts_none g.B.Basis.sizes.workers (length c.args.parts.now) w (own_entries (slice_index_or c.args.workers.now.items w any)) (own_none c.args.manager.now g.B.Basis.sizes.workers c.args.workers.now.items c.requires.workers c.requires.fresh w any below))
+    done_each c.args.executor.now.manager.now g.B.Basis.sizes.workers (length c.args.parts.now) c.args.workers.now.items c.finish.new.workers.items c.requires.workers
+    (λ w any below. firsts_none g.B.Basis.sizes.workers (length c.args.parts.now) w (own_entries (slice_index_or c.args.workers.now.items w any)) (own_none c.args.executor.now.manager.now g.B.Basis.sizes.workers c.args.workers.now.items c.requires.workers c.requires.fresh w any below))
     (λ any. subst (λ (n : ℕ). MayWork n (slice_index_or c.args.workers.now.items 0 any) (slice_index_or c.finish.new.workers.items 0 any)) (sym none) (c.finish.ensures.may_work any))
     c.finish.ensures.others
 
 pub returns-in-Ok-clause-all : goal.returns-in-Ok-clause-all
 returns-in-Ok-clause-all g c =
     let none : length c.args.parts.now ≡ 0 = eqb-true (length c.args.parts.now) 0 (sym c.is_empty.ensures ∙ c.if-is_empty.true) in
-    begins_each c.args.manager.now g.B.Basis.sizes.workers (length c.args.parts.now) c.args.workers.now.items c.finish.new.workers.items c.requires.workers
+    begins_each c.args.executor.now.manager.now g.B.Basis.sizes.workers (length c.args.parts.now) c.args.workers.now.items c.finish.new.workers.items c.requires.workers
     (λ w any below. subst (λ (n : ℕ). AllFirsts g.B.Basis.sizes.workers n w (own_entries (slice_index_or c.args.workers.now.items w any))) (sym none)
-    (all_firsts_none g.B.Basis.sizes.workers w (own_entries (slice_index_or c.args.workers.now.items w any)) (own_none c.args.manager.now g.B.Basis.sizes.workers c.args.workers.now.items c.requires.workers c.requires.fresh w any below)))
+    (all_firsts_none g.B.Basis.sizes.workers w (own_entries (slice_index_or c.args.workers.now.items w any)) (own_none c.args.executor.now.manager.now g.B.Basis.sizes.workers c.args.workers.now.items c.requires.workers c.requires.fresh w any below)))
     (λ any. subst (λ (n : ℕ). Works n (slice_index_or c.args.workers.now.items 0 any) (slice_index_or c.finish.new.workers.items 0 any)) (sym none) (c.in-Ok.ensures.works any))
     c.finish.ensures.others
 
@@ -76,21 +76,21 @@ returns-in-Err-clause-files g c =
 pub returns-in-Err-clause-done : goal.returns-in-Err-clause-done
 returns-in-Err-clause-done g c =
     let none : length c.args.parts.now ≡ 0 = eqb-true (length c.args.parts.now) 0 (sym c.is_empty.ensures ∙ c.if-is_empty.true) in
-    done_each c.args.manager.now g.B.Basis.sizes.workers (length c.args.parts.now) c.args.workers.now.items c.finish.new.workers.items c.requires.workers
-    (λ w any below. firsts_none g.B.Basis.sizes.workers (length c.args.parts.now) w (own_entries (slice_index_or c.args.workers.now.items w any)) (own_none c.args.manager.now g.B.Basis.sizes.workers c.args.workers.now.items c.requires.workers c.requires.fresh w any below))
+    done_each c.args.executor.now.manager.now g.B.Basis.sizes.workers (length c.args.parts.now) c.args.workers.now.items c.finish.new.workers.items c.requires.workers
+    (λ w any below. firsts_none g.B.Basis.sizes.workers (length c.args.parts.now) w (own_entries (slice_index_or c.args.workers.now.items w any)) (own_none c.args.executor.now.manager.now g.B.Basis.sizes.workers c.args.workers.now.items c.requires.workers c.requires.fresh w any below))
     (λ any. subst (λ (n : ℕ). MayWork n (slice_index_or c.args.workers.now.items 0 any) (slice_index_or c.finish.new.workers.items 0 any)) (sym none) (c.finish.ensures.may_work any))
     c.finish.ensures.others
 
 -- ---- the final task
 
 pub finish-requires-2-clause-fresh : goal.finish-requires-2-clause-fresh
-finish-requires-2-clause-fresh g c κs within = λ any.
+finish-requires-2-clause-fresh g c = λ any.
     final_fresh g.B.Basis.sizes.workers (length c.args.parts.now) (slice_index_or c.run_workers.new.workers.items 0 any).number (own_entries (slice_index_or c.run_workers.new.workers.items 0 any))
     (subst (λ (n : ℕ). Firsts g.B.Basis.sizes.workers (length c.args.parts.now) n (own_entries (slice_index_or c.run_workers.new.workers.items 0 any))) (sym (c.run_workers.ensures.workers.1 0 any (omega (arith, c.requires.some))).number_is)
-    (each_some c.args.manager.now g.B.Basis.sizes.workers (length c.args.parts.now) c.args.workers.now.items c.run_workers.new.workers.items c.requires.workers c.requires.fresh c.run_workers.ensures.may_work 0 any (omega (arith, c.requires.some))))
+    (each_some c.args.executor.now.manager.now g.B.Basis.sizes.workers (length c.args.parts.now) c.args.workers.now.items c.run_workers.new.workers.items c.requires.workers c.requires.fresh c.run_workers.ensures.may_work 0 any (omega (arith, c.requires.some))))
 
 pub finish-requires-2-clause-there : goal.finish-requires-2-clause-there
-finish-requires-2-clause-there g c κs within =
+finish-requires-2-clause-there g c =
     on_more g.B.Basis.sizes.workers (length c.run_workers.new.posts.items) c.in-Ok-run_workers.runs.items (omega (arith, c.requires.posts, c.run_workers.ensures.count)) c.in-Ok-run_workers.ensures.there
 
 pub returns-clause-answer : goal.returns-clause-answer
@@ -133,8 +133,8 @@ returns-clause-files g c =
 
 pub returns-clause-done : goal.returns-clause-done
 returns-clause-done g c =
-    done_each c.args.manager.now g.B.Basis.sizes.workers (length c.args.parts.now) c.run_workers.new.workers.items c.finish-2.new.workers.items c.run_workers.ensures.workers
-    (each_some c.args.manager.now g.B.Basis.sizes.workers (length c.args.parts.now) c.args.workers.now.items c.run_workers.new.workers.items c.requires.workers c.requires.fresh c.run_workers.ensures.may_work)
+    done_each c.args.executor.now.manager.now g.B.Basis.sizes.workers (length c.args.parts.now) c.run_workers.new.workers.items c.finish-2.new.workers.items c.run_workers.ensures.workers
+    (each_some c.args.executor.now.manager.now g.B.Basis.sizes.workers (length c.args.parts.now) c.args.workers.now.items c.run_workers.new.workers.items c.requires.workers c.requires.fresh c.run_workers.ensures.may_work)
     c.finish-2.ensures.may_work c.finish-2.ensures.others
 
 pub returns-clause-all : goal.returns-clause-all
@@ -143,8 +143,8 @@ returns-clause-all g c =
     ((any : PassState) → Works (length c.args.parts.now) (slice_index_or c.run_workers.new.workers.items 0 any) (slice_index_or c.finish-2.new.workers.items 0 any))
     ((worker : ℕ) (any : PassState) → worker < g.B.Basis.sizes.workers → BeginsOwn g.B.Basis.sizes.workers (length c.args.parts.now) worker (own_entries (slice_index_or c.finish-2.new.workers.items worker any)))
     (λ works.
-    begins_each c.args.manager.now g.B.Basis.sizes.workers (length c.args.parts.now) c.run_workers.new.workers.items c.finish-2.new.workers.items c.run_workers.ensures.workers
-    (each_all c.args.manager.now g.B.Basis.sizes.workers (length c.args.parts.now) c.args.workers.now.items c.run_workers.new.workers.items c.requires.workers c.requires.fresh c.in-Ok-run_workers.ensures.works)
+    begins_each c.args.executor.now.manager.now g.B.Basis.sizes.workers (length c.args.parts.now) c.run_workers.new.workers.items c.finish-2.new.workers.items c.run_workers.ensures.workers
+    (each_all c.args.executor.now.manager.now g.B.Basis.sizes.workers (length c.args.parts.now) c.args.workers.now.items c.run_workers.new.workers.items c.requires.workers c.requires.fresh c.in-Ok-run_workers.ensures.works)
     works c.finish-2.ensures.others)
     c.finish-2.ensures.works
 

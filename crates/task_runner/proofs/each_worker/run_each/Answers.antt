@@ -24,21 +24,21 @@ loop-number-init g c =
     }
 
 pub run_one-requires-clause-workers : goal.run_one-requires-clause-workers
-run_one-requires-clause-workers g c κs within = c.loop-number.invariant.workers
+run_one-requires-clause-workers g c = c.loop-number.invariant.workers
 
 pub run_one-requires-clause-free : goal.run_one-requires-clause-free
-run_one-requires-clause-free g c κs within =
+run_one-requires-clause-free g c =
     let known : c.loop-number.number < g.B.Basis.sizes.workers = omega (arith, c.loop-number-test.true, c.len-number-end.ensures, c.args.workers.now.ok.0, c.requires.workers.0) in
     λ any. subst (λ (w : PassState). IsFree w) (sym (c.loop-number.invariant.reached.still c.loop-number.number any (omega arith))) (c.requires.free c.loop-number.number any known)
 
 pub run_one-requires-clause-fresh : goal.run_one-requires-clause-fresh
-run_one-requires-clause-fresh g c κs within =
+run_one-requires-clause-fresh g c =
     let known : c.loop-number.number < g.B.Basis.sizes.workers = omega (arith, c.loop-number-test.true, c.len-number-end.ensures, c.args.workers.now.ok.0, c.requires.workers.0) in
     λ part any below.
     subst (λ (w : PassState). was_begun (own_of w) part ≡ false) (sym (c.loop-number.invariant.reached.still c.loop-number.number any (omega arith))) (c.requires.fresh c.loop-number.number part any known below)
 
 pub run_one-requires-clause-consumers : goal.run_one-requires-clause-consumers
-run_one-requires-clause-consumers g c κs within =
+run_one-requires-clause-consumers g c =
     let known : c.loop-number.number < g.B.Basis.sizes.workers = omega (arith, c.loop-number-test.true, c.len-number-end.ensures, c.args.workers.now.ok.0, c.requires.workers.0) in
     subst (λ (o : Option (Post g.row.D.Denot g.row.C.Denot)). HasConsumers (states_of g.C.Consumer.state o)) (sym (c.loop-number.invariant.reached.others c.loop-number.number (omega arith)))
     (consumers_at g.C.Consumer.state c.args.posts.now.items c.loop-number.number c.requires.consumers (omega (arith, known, c.requires.posts)))
@@ -77,7 +77,7 @@ returns-in-Err-clause-cause g c =
     let now : ℕ → ℕ = λ place. faults_of g.D.Disk.faults (slice_get c.run_one.new.posts.items place) in
     cause_of (List (Option Run)) before mid now c.in-Err.fault
     (later_of g.C.Consumer.state g.D.Disk.files g.D.Disk.faults g.B.Basis.sizes.workers (length c.args.parts.now) c.loop-number.number
-    c.args.workers.now.items c.loop-number.workers.items c.args.posts.now.items c.loop-number.posts.items (new_worker c.args.manager.now 0 0) c.loop-number.invariant.reached)
+    c.args.workers.now.items c.loop-number.workers.items c.args.posts.now.items c.loop-number.posts.items (new_worker c.args.executor.now.manager.now 0 0) c.loop-number.invariant.reached)
     c.in-Err.ensures.cause
 
 pub loop-number-preserved : goal.loop-number-preserved

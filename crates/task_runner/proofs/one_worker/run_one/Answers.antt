@@ -12,7 +12,7 @@ use Rattle.task_runner.proofs.AtPosts.{get_found, get_set, get_set_other, holds_
 use Rattle.task_runner.proofs.one_worker.run_one.Goals as goal
 
 pub run_as-requires-clause-owner : goal.run_as-requires-clause-owner
-run_as-requires-clause-owner g c κs within =
+run_as-requires-clause-owner g c =
     let worker = c.index_mut-worker.result.now in
     let size : c.len-count.result ≡ g.B.Basis.sizes.workers = omega (arith, c.len-count.ensures, c.args.workers.now.ok.0, c.requires.workers.0) in
     let is = (c.requires.workers.1 c.args.number worker c.requires.known).number_is in
@@ -20,7 +20,7 @@ run_as-requires-clause-owner g c κs within =
     owns_own g.B.Basis.owner (length c.args.parts.now) g.B.Basis.sizes.workers c.len-count.result c.args.number worker.number size mine c.requires.known c.requires.owner
 
 pub run_as-requires-clause-consumers : goal.run_as-requires-clause-consumers
-run_as-requires-clause-consumers g c κs within =
+run_as-requires-clause-consumers g c =
     let below : c.args.number < length c.args.posts.now.items = omega (arith, c.requires.known, c.requires.posts) in
     let found = get_found c.args.posts.now.items c.args.number c.index_mut-post.result.now c.index_mut-post.result.now below c.index_mut-post.ensures.value in
     subst (λ (o : Option (Post g.row.D.Denot g.row.C.Denot)). HasConsumers (option_map_or (λ post. map g.C.Consumer.state post.consumers.items) o [])) found c.requires.consumers

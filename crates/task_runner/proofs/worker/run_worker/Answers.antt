@@ -26,7 +26,7 @@ tasks-init g c =
     }
 
 pub next_task-requires-clause-fresh : goal.next_task-requires-clause-fresh
-next_task-requires-clause-fresh g c κs within =
+next_task-requires-clause-fresh g c =
     let k = length c.tasks.answers.items in
     let number = c.args.worker.now.number in
     let is = part_is c.tasks.part (part_at c.args.workers number k) (length c.args.parts.now) c.tasks.invariant.next c.tasks-test.true c.requires.few in

@@ -1,0 +1,3 @@
+pub mod FirstAsked
+pub mod Granted
+pub mod Peaks

@@ -1,5 +1,0 @@
-use Rattle.task_memory.proofs.Scripted.{worker_on}
-use Rattle.task_memory.proofs.tests.playing.play.Goals as goal
-
-pub returns : goal.returns
-returns g c = worker_on _ _ _ _ _ c.requires.worker c.play_picked.ensures.sees c.number-number.ensures.rests
