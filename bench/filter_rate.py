@@ -6,11 +6,10 @@ Run it at the top of the repository, after `rt run` in crates/filter_rate has bu
 compare them, in the same run.
 """
 import os
-import shutil
-import subprocess
 import sys
 import tempfile
-import time
+
+from rates import best, plain_program
 
 PROGRAM = os.path.abspath("crates/filter_rate/out/filter_rate")
 ROWS = int(sys.argv[1]) if len(sys.argv) > 1 else 10_000_000
@@ -54,42 +53,20 @@ fn main() {
 """
 
 
-def best(words):
-    """The least seconds of some runs of a command, and what it printed."""
-    times = []
-    for _ in range(REPS):
-        start = time.perf_counter()
-        done = subprocess.run([str(word) for word in words], check=True, stdout=subprocess.PIPE)
-        times.append(time.perf_counter() - start)
-    return min(times), done.stdout.decode().strip()
-
-
-def plain_program(folder):
-    """The path of the Rust program, or None where there is no rustc."""
-    if not shutil.which("rustc"):
-        return None
-    source = os.path.join(folder, "plain.rs")
-    program = os.path.join(folder, "plain")
-    with open(source, "w") as out:
-        out.write(PLAIN)
-    subprocess.run(["rustc", "--edition", "2021", "-O", "-o", program, source], check=True)
-    return program
-
-
 def main():
     passes = ROWS // PAGE_ROWS
     with tempfile.TemporaryDirectory() as folder:
-        plain = plain_program(folder)
+        plain = plain_program(folder, PLAIN)
         for way in ("all", "number", "text", "both"):
-            took = best([PROGRAM, way, passes])
-            start = best([PROGRAM, way, 0])
+            took = best([PROGRAM, way, passes], REPS)
+            start = best([PROGRAM, way, 0], REPS)
             seconds = took[0] - start[0]
             line = f"{way:8} {ROWS / seconds / 1e6:8.2f} million rows/s  {took[1]}"
             # The empty filter tells what the way to a row costs. A loop over nothing is no measure.
             if plain and way != "all":
-                other = best([plain, way, passes])
+                other = best([plain, way, passes], REPS)
                 assert other[1] == took[1], (other[1], took[1])
-                seconds = other[0] - best([plain, way, 0])[0]
+                seconds = other[0] - best([plain, way, 0], REPS)[0]
                 line += f"  plain {ROWS / seconds / 1e6:8.2f}"
             print(line)
 

@@ -8,11 +8,10 @@ sorted at the end, a stable sort, and a heap over eight sorted lists in the same
 runs of a merge are in memory.
 """
 import os
-import shutil
-import subprocess
 import sys
 import tempfile
-import time
+
+from rates import best, plain_program
 
 PROGRAM = os.path.abspath("crates/spill_rate/out/spill_rate")
 ENTRIES = int(sys.argv[1]) if len(sys.argv) > 1 else 1_000_000
@@ -111,32 +110,10 @@ fn main() {
 """
 
 
-def best(words):
-    """The least seconds of some runs of a command, and what it printed."""
-    times = []
-    for _ in range(REPS):
-        start = time.perf_counter()
-        done = subprocess.run([str(word) for word in words], check=True, stdout=subprocess.PIPE)
-        times.append(time.perf_counter() - start)
-    return min(times), done.stdout.decode().strip()
-
-
-def plain_program(folder):
-    """The path of the Rust program, or None where there is no rustc."""
-    if not shutil.which("rustc"):
-        return None
-    source = os.path.join(folder, "plain.rs")
-    program = os.path.join(folder, "plain")
-    with open(source, "w") as out:
-        out.write(PLAIN)
-    subprocess.run(["rustc", "--edition", "2021", "-O", "-o", program, source], check=True)
-    return program
-
-
 def main():
-    start, _ = best([PROGRAM, "map", 1, 0, 1 << 20])
+    start, _ = best([PROGRAM, "map", 1, 0, 1 << 20], REPS)
     with tempfile.TemporaryDirectory() as folder:
-        plain = plain_program(folder)
+        plain = plain_program(folder, PLAIN)
         for name, kind, keys, most in (
             ("map, 1,000 keys", "map", 1000, 1 << 30),
             ("map, half as many keys as entries", "map", ENTRIES // 2, 1 << 34),
@@ -146,16 +123,16 @@ def main():
             ("sorter, 16 MiB", "sort", 1 << 40, 16 << 20),
             ("sorter, 1 MiB", "sort", 1 << 40, 1 << 20),
         ):
-            took, told = best([PROGRAM, kind, keys, ENTRIES, most])
+            took, told = best([PROGRAM, kind, keys, ENTRIES, most], REPS)
             line = f"{name:36} {ENTRIES / (took - start) / 1e6:7.3f} million entries/s  {told}"
             if plain:
-                took, _ = best([plain, kind, keys, ENTRIES])
+                took, _ = best([plain, kind, keys, ENTRIES], REPS)
                 line += f"  plain {ENTRIES / took / 1e6:7.3f}"
             print(line)
-        took = best([PROGRAM, "merge", 1 << 40, ENTRIES, 1 << 34])[0] - best([PROGRAM, "runs", 1 << 40, ENTRIES, 1 << 34])[0]
+        took = best([PROGRAM, "merge", 1 << 40, ENTRIES, 1 << 34], REPS)[0] - best([PROGRAM, "runs", 1 << 40, ENTRIES, 1 << 34], REPS)[0]
         line = f"{'merge of 8 runs':36} {ENTRIES / took / 1e6:7.3f} million entries/s"
         if plain:
-            took = best([plain, "merge", 1 << 40, ENTRIES])[0] - best([plain, "runs", 1 << 40, ENTRIES])[0]
+            took = best([plain, "merge", 1 << 40, ENTRIES], REPS)[0] - best([plain, "runs", 1 << 40, ENTRIES], REPS)[0]
             line += f"  plain {ENTRIES / took / 1e6:7.3f}"
         print(line)
 

@@ -2,7 +2,7 @@
 """Looks whether each clause that docs/PROVED.md names is there. Run it at the top of the repository.
 
 A row's second column names calls and, behind a colon, clauses of theirs; words in parentheses are definitions of specs/ or
-their fields. A clause has to be one of a call that is named before it; where none is named that is known by name (as in
+their fields. A field that is written behind its record and a dot has to be a field of it. A clause has to be one of a call that is named before it; where none is named that is known by name (as in
 "its calls"), of some call. Words are looked for in src/ and specs/. It doesn't tell whether a clause says what the row says.
 The status is 0 where all are there, and 1 where some aren't.
 """
@@ -14,6 +14,8 @@ CALL = re.compile(r'\bfn ([a-z_0-9]+)')
 CLAUSE = re.compile(r'\bensures\*?\s+([a-z_0-9]+)\s*\{')
 LAW = re.compile(r'\bghost ([a-z_0-9]+)\s*[:=]')
 WORD = re.compile(r'[A-Za-z_][A-Za-z_0-9]*')
+RECORD = re.compile(r'^pub record ([A-Za-z_0-9]+).*\n((?:  .*\n)+)', re.M)
+FIELD = re.compile(r'^  pub ([a-z_0-9]+) :', re.M)
 
 
 def read_all(pattern):
@@ -23,8 +25,8 @@ def read_all(pattern):
 
 
 def clauses_by_call():
-    """The names of the clauses of each call, by the call's name alone; and all words of the sources."""
-    found, words = {}, set()
+    """The names of the clauses of each call, by the call's name alone; all words of the sources; the fields of each record."""
+    found, words, fields = {}, set(), {}
     for text in read_all('crates/*/src/**/*.rt'):
         words.update(WORD.findall(text))
         starts = [match.start() for match in CALL.finditer(text)] + [len(text)]
@@ -34,7 +36,9 @@ def clauses_by_call():
         found.setdefault('', set()).update(LAW.findall(text))
     for text in read_all('crates/*/specs/**/*.antt'):
         words.update(WORD.findall(text))
-    return found, words
+        for name, block in RECORD.findall(text):
+            fields.setdefault(name, set()).update(FIELD.findall(block))
+    return found, words, fields
 
 
 def ticked(text):
@@ -53,12 +57,18 @@ def rows(path):
                 yield number, heading, cells[1]
 
 
-def missing(heading, column, clauses, words):
+def is_no_field(tick, fields):
+    record, dot, field = tick.partition('.')
+    return bool(dot) and record in fields and field not in fields[record]
+
+
+def missing(heading, column, clauses, words, fields):
     """The clauses and words of a column that aren't there, and how many clauses it names."""
     known, lost, count = set().union(*clauses.values()), [], 0
     for part in column.split(';'):
         outside = re.sub(r'\([^)]*\)', '', part)
         lost += [word for tick in ticked(part) for word in WORD.findall(tick) if word not in words]
+        lost += [tick for tick in ticked(part) if is_no_field(tick, fields)]
         before, colon, behind = outside.rpartition(': ')
         if heading == 'The run' and not colon:
             before, behind = '`run`', outside
@@ -71,10 +81,10 @@ def missing(heading, column, clauses, words):
 
 
 def main():
-    clauses, words = clauses_by_call()
+    clauses, words, fields = clauses_by_call()
     rows_read, named, failed = 0, 0, False
     for number, heading, column in rows('docs/PROVED.md'):
-        lost, count = missing(heading, column, clauses, words)
+        lost, count = missing(heading, column, clauses, words, fields)
         rows_read, named = rows_read + 1, named + count
         for name in lost:
             failed = True
