@@ -15,7 +15,8 @@ use Rattle.memory_core.specs.Caches.{Memory}
 use Rattle.turn_lock.specs.Passes.{PassState}
 use Rattle.memory_lock.specs.Fitting.{own_in}
 use Rattle.memory_lock.specs.Workers.{AddsAttempt, AddsWaits, IsEviction, IsWait, SeesMore, own_entries, own_of}
-use Rattle.memory_lock.proofs.Staying.{all_append, all_then}
+use Rattle.task_pool.proofs.GoingOn.{all_append}
+use Rattle.memory_lock.proofs.Staying.{all_then}
 
 module _ {E : Type 0} where
   -- what was freed, where what is held is known in two ways
@@ -54,19 +55,7 @@ one_wait_more worker task asked before amid after waits wait =
 pub no_wait : (worker task asked : ℕ) (before : List Entry) → AddsWaits worker task asked before before
 no_wait worker task asked before = ([], sym (append-nil before), tt)
 
--- ---- a worker that goes on
-
-pub sees_itself : (worker : PassState) → SeesMore worker worker
-sees_itself worker = record { lock_is = refl; number_is = refl; speaks_is = refl; spare_is = refl; begins = ([], append-nil worker.seen) }
-
-pub sees_on : (before amid after : PassState) → SeesMore before amid → SeesMore amid after → SeesMore before after
-sees_on before amid after one two = record {
-  lock_is = two.lock_is ∙ one.lock_is;
-  number_is = two.number_is ∙ one.number_is;
-  speaks_is = two.speaks_is ∙ one.speaks_is;
-  spare_is = two.spare_is ∙ one.spare_is;
-  begins = (one.begins.0 ++ two.begins.0, sym (append_assoc before.seen one.begins.0 two.begins.0) ∙ ap (λ (es : List Entry). es ++ two.begins.0) one.begins.1 ∙ two.begins.1);
-}
+-- ---- waits of a worker that goes on
 
 pub waits_on : (before amid after : PassState) (task asked : ℕ) (got : Attempted) → SeesMore before amid → AddsWaits before.number task asked (own_entries before) (own_entries amid)
     → AddsAttempt amid.number task asked (granted_in got) (own_entries amid) (own_entries after) → got ≡ Wait → AddsWaits before.number task asked (own_entries before) (own_entries after)

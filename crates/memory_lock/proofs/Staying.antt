@@ -19,6 +19,7 @@ use Rattle.memory_core.specs.declared.attempted.Attempted.{Attempted}
 use Rattle.memory_core.specs.declared.pinned.Pinned.{Pinned}
 use Rattle.memory_core.specs.declared.pinned.Pinned.TheVariants.{Hit, OnDisk as ReadBack, Miss}
 use Rattle.memory_core.specs.Attempts.{granted_in}
+use Rattle.task_pool.proofs.GoingOn.{all_append}
 use Rattle.memory_lock.specs.Workers.{AddsAttempt, AdmissionGrows, AreEvictions, AreRemovals, IsEviction, PinGrows, RemovalGrows}
 
 -- the worker's own entries tell the same task
@@ -83,10 +84,6 @@ pin_now worker event before = ap (λ (h : History). worker_pin h worker) (revers
 pub all_imply : (P Q : Entry → Type 0) → ((entry : Entry) → P entry → Q entry) → (entries : List Entry) → AllByRecursion P entries → AllByRecursion Q entries
 all_imply P Q imply [] all = tt
 all_imply P Q imply (entry ∷ entries) all = (imply entry all.0, all_imply P Q imply entries all.1)
-
-pub all_append : (P : Entry → Type 0) (some more : List Entry) → AllByRecursion P some → AllByRecursion P more → AllByRecursion P (some ++ more)
-all_append P [] more all rest = rest
-all_append P (entry ∷ some) more all rest = (all.0, all_append P some more all.1 rest)
 
 -- something of evictions and of the entry behind them
 pub all_then : (P : Entry → Type 0) (worker : ℕ) (evicted : List Entry) (entry : Entry) → ((entry : Entry) → IsEviction worker entry → P entry) → AreEvictions worker evicted → P entry → AllByRecursion P (evicted ++ entry ∷ [])

@@ -1,7 +1,6 @@
 -- What a worker's own entries say of its task once an acquire has added to them.
 use Rattle.std.proofs.Common.{◌≡◌, ◌∙◌, ◌⊎◌, ℕ, ◌+◌, ◌≤◌, ◌<◌, ◌^◌, List, [], ◌∷◌, ◌++◌, Option, Some, None, true, refl, sym, ap, subst, inl, inr, arith, append_assoc}
 use Rattle.std.specs.Prelude.{IfOk, OnErr, Result, Ok, Err, ◌==◌, nat_lt, length}
-use Rattle.std.specs.List.{AllByRecursion}
 use Rattle.std.proofs.lemmas.Bool.{cases_Bool}
 use Rattle.std.proofs.lemmas.List.{reverse-append}
 use Rattle.pool_ledger.specs.declared.entry.Entry.{Entry}
@@ -13,19 +12,13 @@ use Rattle.pool_laws.specs.Growing.{entry_by}
 use Rattle.turn_lock.specs.Passes.{PassState}
 use Rattle.memory_lock.specs.Workers.{AddsAttempt, AddsGrant, AddsWaits, IsWait}
 use Rattle.task_pool.specs.Accounts.{Grants}
+use Rattle.memory_lock.proofs.Staying.{all_imply}
+use Rattle.task_pool.proofs.GoingOn.{all_append, then_asks}
 use Rattle.task_account.specs.Attempts.{Answered, held_by, last_attempt, short_of, shorts}
 use Rattle.task_pool.specs.Asks.{AddsAsks, IsOfTask}
 use Rattle.task_pool.specs.Workers.{IsEviction, own_entries, own_of}
 
 -- ---- lists of entries
-
-all_more : (P : Entry → Type 0) (front back : List Entry) → AllByRecursion P front → AllByRecursion P back → AllByRecursion P (front ++ back)
-all_more P [] back all more = more
-all_more P (entry ∷ front) back all more = (all.0, all_more P front back all.1 more)
-
-all_so : (P Q : Entry → Type 0) (entries : List Entry) → ((entry : Entry) → P entry → Q entry) → AllByRecursion P entries → AllByRecursion Q entries
-all_so P Q [] so all = tt
-all_so P Q (entry ∷ entries) so all = (so entry all.0, all_so P Q entries so all.1)
 
 total_more : (amount : Event → ℕ) (later before : History) → total amount (later ++ before) ≡ total amount later + total amount before
 total_more amount [] before = omega arith
@@ -49,22 +42,15 @@ of_attempt worker task asked got before after adds =
     let entry = entry_by worker (Attempt task asked adds.1 (length adds.0) got) in (
       adds.0 ++ entry ∷ [],
       adds.3,
-      all_more (IsOfTask worker task) adds.0 (entry ∷ []) (all_so (IsEviction worker) (IsOfTask worker task) adds.0 (λ e is. inr (inl is)) adds.2) (inl (asked, adds.1, length adds.0, got, refl), tt),
+      all_append (IsOfTask worker task) adds.0 (entry ∷ []) (all_imply (IsEviction worker) (IsOfTask worker task) (λ e is. inr (inl is)) adds.0 adds.2) (inl (asked, adds.1, length adds.0, got, refl), tt),
     )
 
 of_waits : (worker task asked : ℕ) (before after : List Entry) → AddsWaits worker task asked before after → AddsAsks worker task before after
 of_waits worker task asked before after adds = (
   adds.0,
   adds.1,
-  all_so (λ entry. IsWait worker task asked entry ⊎ IsEviction worker entry) (IsOfTask worker task) adds.0
-      (λ e is. elim is [ inl wait ↦ inl (asked, wait.0, wait.1, None, wait.2) | inr eviction ↦ inr (inl eviction) ]) adds.2,
-)
-
-then_asks : (worker task : ℕ) (before amid after : List Entry) → AddsAsks worker task before amid → AddsAsks worker task amid after → AddsAsks worker task before after
-then_asks worker task before amid after first last = (
-  first.0 ++ last.0,
-  last.1 ∙ ap (λ (es : List Entry). es ++ last.0) first.1 ∙ append_assoc before first.0 last.0,
-  all_more (IsOfTask worker task) first.0 last.0 first.2 last.2,
+  all_imply (λ entry. IsWait worker task asked entry ⊎ IsEviction worker entry) (IsOfTask worker task)
+      (λ e is. elim is [ inl wait ↦ inl (asked, wait.0, wait.1, None, wait.2) | inr eviction ↦ inr (inl eviction) ]) adds.0 adds.2,
 )
 
 module _ {E : Type 0} where

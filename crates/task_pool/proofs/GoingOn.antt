@@ -10,21 +10,21 @@ use Rattle.task_pool.specs.Asks.{AddsAsks, FirstAsks, IsOfTask, first_asked, fir
 use Rattle.task_pool.specs.Workers.{SeesMore, own_entries}
 use Rattle.task_pool.specs.Pools.{Goes, IsAtWork, PoolState}
 
-all_more : (P : Entry → Type 0) (front back : List Entry) → AllByRecursion P front → AllByRecursion P back → AllByRecursion P (front ++ back)
-all_more P [] back all more = more
-all_more P (entry ∷ front) back all more = (all.0, all_more P front back all.1 more)
+pub all_append : (P : Entry → Type 0) (front back : List Entry) → AllByRecursion P front → AllByRecursion P back → AllByRecursion P (front ++ back)
+all_append P [] back all more = more
+all_append P (entry ∷ front) back all more = (all.0, all_append P front back all.1 more)
 
-then_asks : (worker task : ℕ) (before amid after : List Entry) → AddsAsks worker task before amid → AddsAsks worker task amid after → AddsAsks worker task before after
+pub then_asks : (worker task : ℕ) (before amid after : List Entry) → AddsAsks worker task before amid → AddsAsks worker task amid after → AddsAsks worker task before after
 then_asks worker task before amid after first last = (
   first.0 ++ last.0,
   last.1 ∙ ap (λ (es : List Entry). es ++ last.0) first.1 ∙ append_assoc before first.0 last.0,
-  all_more (IsOfTask worker task) first.0 last.0 first.2 last.2,
+  all_append (IsOfTask worker task) first.0 last.0 first.2 last.2,
 )
 
-sees_itself : (worker : PassState) → SeesMore worker worker
+pub sees_itself : (worker : PassState) → SeesMore worker worker
 sees_itself worker = record { lock_is = refl; number_is = refl; speaks_is = refl; spare_is = refl; begins = ([], append-nil worker.seen) }
 
-sees_more : (before amid after : PassState) → SeesMore before amid → SeesMore amid after → SeesMore before after
+pub sees_more : (before amid after : PassState) → SeesMore before amid → SeesMore amid after → SeesMore before after
 sees_more before amid after one two = record {
   lock_is = two.lock_is ∙ one.lock_is;
   number_is = two.number_is ∙ one.number_is;

@@ -1,6 +1,6 @@
 use Rattle.std.proofs.Common.{◌∙◌}
 use Rattle.memory_lock.specs.Workers.{own_entries}
-use Rattle.memory_lock.proofs.Adding.{sees_on}
+use Rattle.task_pool.proofs.GoingOn.{sees_more}
 use Rattle.lock_tests.proofs.Beginning.{begun_grant, begun_waits}
 use Rattle.lock_tests.proofs.tests.blocks.ask_all.Goals as goal
 
@@ -18,5 +18,5 @@ loop-ask-preserved g c = record {
   its_task = c.in_ok-got.ensures.its_task;
   pin = c.in_ok-got.ensures.pin ∙ c.loop-ask.invariant.pin;
   begun_is = begun_grant c.loop-ask.worker.number c.args.task.now c.clamp-asked.result c.in_ok-got.got (own_entries c.loop-ask.worker) (own_entries c.acquire.new.worker) c.in_ok-got.ensures.ok ∙ c.loop-ask.invariant.begun_is;
-  sees = sees_on c.args.worker.now c.loop-ask.worker c.acquire.new.worker c.loop-ask.invariant.sees c.in_ok-got.ensures.sees;
+  sees = sees_more c.args.worker.now c.loop-ask.worker c.acquire.new.worker c.loop-ask.invariant.sees c.in_ok-got.ensures.sees;
 }

@@ -1,5 +1,5 @@
 use Rattle.std.proofs.Common.{◌∙◌}
-use Rattle.memory_lock.proofs.Adding.{sees_itself, sees_on}
+use Rattle.task_pool.proofs.GoingOn.{sees_itself, sees_more}
 use Rattle.lock_tests.proofs.tests.steps.probe.Goals as goal
 
 pub loop-init : goal.loop-init
@@ -15,5 +15,5 @@ loop-preserved g c = record {
   lock = c.give_back.ensures.sees.lock_is ∙ c.acquire.ensures.sees.lock_is ∙ c.loop.invariant.lock;
   its_task = c.give_back.ensures.its_task;
   free = c.give_back.ensures.free;
-  sees = sees_on c.args.worker.now c.loop.worker c.give_back.new.worker c.loop.invariant.sees (sees_on c.loop.worker c.acquire.new.worker c.give_back.new.worker c.acquire.ensures.sees c.give_back.ensures.sees);
+  sees = sees_more c.args.worker.now c.loop.worker c.give_back.new.worker c.loop.invariant.sees (sees_more c.loop.worker c.acquire.new.worker c.give_back.new.worker c.acquire.ensures.sees c.give_back.ensures.sees);
 }

@@ -1,5 +1,5 @@
 use Rattle.std.proofs.Common.{◌∙◌}
-use Rattle.memory_lock.proofs.Adding.{sees_itself, sees_on}
+use Rattle.task_pool.proofs.GoingOn.{sees_itself, sees_more}
 use Rattle.lock_tests.proofs.tests.steps.take_steps.Goals as goal
 
 pub loop-step-init : goal.loop-step-init
@@ -15,5 +15,5 @@ loop-step-preserved g c = record {
   lock = c.take_step.ensures.sees.lock_is ∙ c.loop-step.invariant.lock;
   its_task = c.take_step.ensures.its_task;
   free = c.take_step.ensures.free;
-  sees = sees_on c.args.worker.now c.loop-step.worker c.take_step.new.worker c.loop-step.invariant.sees c.take_step.ensures.sees;
+  sees = sees_more c.args.worker.now c.loop-step.worker c.take_step.new.worker c.loop-step.invariant.sees c.take_step.ensures.sees;
 }
