@@ -35,13 +35,13 @@ use Rattle.spill_tests.specs.Scripts.{AreFour, AreOrders, ArePlacesOfFour, GoesA
 -- after a call that keeps all kinds
 pub orders_kept : (old new : List State) → AreOrders old → AllSame old new → AreOrders new
 orders_kept old new orders same i within kind is =
-    let before : i < length old = let members = same.members in omega arith in
+    let before : i < length old = let consumers = same.consumers in omega arith in
     orders i before kind (sym (same.each i before).kind ∙ is)
 
 -- after an entry that was fed
 pub orders_fed : (old new : List State) (who : ℕ) → AreOrders old → OthersSame old new who → AreOrders new
 orders_fed old new who orders same i within kind is =
-    let before : i < length old = let members = same.members in omega arith in
+    let before : i < length old = let consumers = same.consumers in omega arith in
     let kept : (state_at new i).kind ≡ (state_at old i).kind = elim (at_or_not i who) [
       | inl here ↦ rw here same.kind
       | inr other ↦ (same.each i before other).kind
@@ -221,7 +221,7 @@ kind_of (Some kind) = kind
 -- those that were begun there keep entries one by one
 pub orders_begun : (picks : List ℕ) (kinds : List Kind) (states states' : List State) → ArePlacesOfFour picks kinds → Begins picks kinds states states' → AreOrders states'
 orders_begun picks kinds states states' places begins i within kind is =
-    let before : i < length states = let members = begins.members in omega arith in
+    let before : i < length states = let consumers = begins.consumers in omega arith in
     orders_at (place_of picks i) before
   where
     orders_at : Place picks i → i < length states → kind ≡ Order

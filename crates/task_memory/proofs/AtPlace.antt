@@ -52,14 +52,15 @@ keeps_same before after states i state runs written within h kept none same = re
   added = added_none before runs;
   only = subst (λ (files : Option Files). OnlyAdds before files runs runs) (sym same) (only_none before runs runs);
   unbegun = λ j none. refl;
+  idle = λ j none. refl;
 }
 
 -- a consumer that was begun isn't one that wasn't
 begun_or_not : (kind : Option Kind) → IsSome kind → kind ≡ None → ⊥
 begun_or_not kind begun none = false≢true (sym (ap is_some none) ∙ begun)
 
-keeps_more : (before after : Option Files) (states : List State) (i : ℕ) (state : State) (runs : List (List Run)) (run : Run) (written : List Entry) → i < length states → IsSome (state_at states i).kind → length runs ≡ length states → Spilled (state_at states i) state written → KeepsFiles before after → WritesRun before after (state_at states i).kind (Some run) written → KeepsRuns before after states (set states i state) runs (with_run runs i run)
-keeps_more before after states i state runs run written within begun lists h kept wrote =
+keeps_more : (before after : Option Files) (states : List State) (i : ℕ) (state : State) (runs : List (List Run)) (run : Run) (written : List Entry) → i < length states → (state_at states i).entries ≢ [] → IsSome (state_at states i).kind → length runs ≡ length states → Spilled (state_at states i) state written → KeepsFiles before after → WritesRun before after (state_at states i).kind (Some run) written → KeepsRuns before after states (set states i state) runs (with_run runs i run)
+keeps_more before after states i state runs run written within some begun lists h kept wrote =
     let in_runs : i < length runs = omega arith in
     record {
       lengths = length-set runs i (runs_at runs i ++ run ∷ []);
@@ -67,7 +68,7 @@ keeps_more before after states i state runs run written within begun lists h kep
       grow = grow_more runs i run in_runs;
       totals = λ spilled hold.
           let in_spilled : i < length spilled = let lengths = hold.lengths in omega arith in
-          let one : IsRunOf after state.kind run written = subst (λ (kind : Option Kind). IsRunOf after kind run written) (sym h.same.kind) (wrote.2 hold.telling) in (
+          let one : IsRunOf after state.kind run written = subst (λ (kind : Option Kind). IsRunOf after kind run written) (sym h.same.kind) (wrote.2 hold.shown) in (
             set spilled i (spilled_at spilled i ++ written),
             hold_more before after states i state runs spilled run written within h.same.kind kept wrote.1 one hold,
             λ j lt. all_totals states i state spilled (set spilled i (spilled_at spilled i ++ written)) written within h (get_or-set_same spilled i (spilled_at spilled i ++ written) [] in_spilled) (λ k ne. get_or-set_other spilled i k (spilled_at spilled i ++ written) [] ne) j,
@@ -76,11 +77,12 @@ keeps_more before after states i state runs run written within begun lists h kep
       added = added_more before runs i run in_runs wrote.1;
       only = only_more before after runs i run in_runs wrote.3;
       unbegun = λ j none. get_or-set_other runs i j (runs_at runs i ++ run ∷ []) [] (λ here. begun_or_not (state_at states i).kind begun (subst (λ (place : ℕ). (state_at states place).kind ≡ None) here none));
+      idle = λ j none. get_or-set_other runs i j (runs_at runs i ++ run ∷ []) [] (λ here. some (subst (λ (place : ℕ). (state_at states place).entries ≡ []) here none));
     }
 
-keeps_runs : (before after : Option Files) (states : List State) (i : ℕ) (state : State) (runs : List (List Run)) (given : ℕ) (run : Option Run) (written : List Entry) → i < length states → IsSome (state_at states i).kind → length runs ≡ length states → Spilled (state_at states i) state written → KeepsFiles before after → WritesRun before after (state_at states i).kind run written → KeepsRuns before after states (set states i state) runs (runs_after runs i (Ended given run))
-keeps_runs before after states i state runs given None written within begun lists h kept wrote = keeps_same before after states i state runs written within h kept wrote.0 wrote.1
-keeps_runs before after states i state runs given (Some run) written within begun lists h kept wrote = keeps_more before after states i state runs run written within begun lists h kept wrote
+keeps_runs : (before after : Option Files) (states : List State) (i : ℕ) (state : State) (runs : List (List Run)) (given : ℕ) (run : Option Run) (written : List Entry) → i < length states → (state_at states i).entries ≢ [] → IsSome (state_at states i).kind → length runs ≡ length states → Spilled (state_at states i) state written → KeepsFiles before after → WritesRun before after (state_at states i).kind run written → KeepsRuns before after states (set states i state) runs (runs_after runs i (Ended given run))
+keeps_runs before after states i state runs given None written within some begun lists h kept wrote = keeps_same before after states i state runs written within h kept wrote.0 wrote.1
+keeps_runs before after states i state runs given (Some run) written within some begun lists h kept wrote = keeps_more before after states i state runs run written within some begun lists h kept wrote
 
 -- a spill that ended adds one run at most
 one_more : (runs : List (List Run)) (i freed : ℕ) (run : Option Run) → i < length runs → runs_in (runs_after runs i (Ended freed run)) ≤ runs_in runs + 1
@@ -92,8 +94,8 @@ one_more runs i freed (Some run) within =
     omega (arith, sum, count)
 
 -- in a list of states
-spills_in : (before after : Option Files) (states : List State) (i : ℕ) (state : State) (runs : List (List Run)) (given : ℕ) (pause : Pause) → i < length states → IsSome (state_at states i).kind → length runs ≡ length states → KeepsFiles before after → Pauses (state_at states i) state before after given pause → SpillsAt before after states (set states i state) runs (runs_after runs i pause) i given pause
-spills_in before after states i state runs given (Asks bytes freed) within begun lists kept h =
+spills_in : (before after : Option Files) (states : List State) (i : ℕ) (state : State) (runs : List (List Run)) (given : ℕ) (pause : Pause) → i < length states → (state_at states i).entries ≢ [] → IsSome (state_at states i).kind → length runs ≡ length states → KeepsFiles before after → Pauses (state_at states i) state before after given pause → SpillsAt before after states (set states i state) runs (runs_after runs i pause) i given pause
+spills_in before after states i state runs given (Asks bytes freed) within some begun lists kept h =
     let it : state_at (set states i state) i ≡ state = get_or-set_same states i state blank within in
     record {
       asks = rw it h.0;
@@ -101,17 +103,17 @@ spills_in before after states i state runs given (Asks bytes freed) within begun
       same_files = h.1;
       same_runs = refl;
     }
-spills_in before after states i state runs given (Ended freed run) within begun lists kept h =
+spills_in before after states i state runs given (Ended freed run) within some begun lists kept h =
     let it : state_at (set states i state) i ≡ state = get_or-set_same states i state blank within in
     record {
       ends = rw it h;
       others = ap (set states i) (sym it);
-      kept = keeps_runs before after states i state runs freed run h.written within begun lists h.spilled kept h.wrote;
+      kept = keeps_runs before after states i state runs freed run h.written within some begun lists h.spilled kept h.wrote;
       one = one_more runs i freed run (omega (arith, lists));
     }
 
--- in a list of members
-pub spills_at_is : {A : Type 0} (state_of : A → State) (members : List A) (i : ℕ) (old new : A) (before after : Option Files) (runs : List (List Run)) (given : ℕ) (pause : Pause) → i < length members → IsSome (state_at (map state_of members) i).kind → length runs ≡ length members → KeepsFiles before after → Pauses (state_of (get_or members i old)) (state_of new) before after given pause → SpillsAt before after (map state_of members) (map state_of (set members i new)) runs (runs_after runs i pause) i given pause
-spills_at_is state_of members i old new before after runs given pause within begun lists kept h =
-    let same_length = length-map members state_of in
-    rw (map-set state_of members i new) (spills_in before after (map state_of members) i (state_of new) runs given pause (omega arith) begun (lists ∙ sym same_length) kept (rw (get_or-map state_of members i old blank within) h))
+-- in a list of consumers
+pub spills_at_is : {A : Type 0} (state_of : A → State) (consumers : List A) (i : ℕ) (old new : A) (before after : Option Files) (runs : List (List Run)) (given : ℕ) (pause : Pause) → i < length consumers → (state_at (map state_of consumers) i).entries ≢ [] → IsSome (state_at (map state_of consumers) i).kind → length runs ≡ length consumers → KeepsFiles before after → Pauses (state_of (get_or consumers i old)) (state_of new) before after given pause → SpillsAt before after (map state_of consumers) (map state_of (set consumers i new)) runs (runs_after runs i pause) i given pause
+spills_at_is state_of consumers i old new before after runs given pause within some begun lists kept h =
+    let same_length = length-map consumers state_of in
+    rw (map-set state_of consumers i new) (spills_in before after (map state_of consumers) i (state_of new) runs given pause (omega arith) some begun (lists ∙ sym same_length) kept (rw (get_or-map state_of consumers i old blank within) h))

@@ -20,12 +20,12 @@ use Rattle.task_memory.proofs.Places.{at_or_not}
 use Rattle.task_memory.proofs.Taken.{none_left}
 
 -- the task's own are among all
-pub pick_within : (scene : Scene) (who : ℕ) → IsBetween scene → IsPick scene.stack.picks who → who < length scene.stack.states
-pick_within scene who between pick = subst (λ (place : ℕ). place < length scene.stack.states) pick.there (between.rests.ready.picked.within pick.place pick.within)
+pub pick_within : (scene : Scene) (place : ℕ) → IsBetween scene → IsPick scene.stack.picks place → place < length scene.stack.states
+pick_within scene place between pick = subst (λ (each : ℕ). each < length scene.stack.states) pick.there (between.rests.ready.picked.within pick.consumer pick.within)
 
 -- and were begun
-pub pick_begun : (scene : Scene) (who : ℕ) → IsBetween scene → IsPick scene.stack.picks who → IsSome (state_at scene.stack.states who).kind
-pick_begun scene who between pick = subst (λ (place : ℕ). IsSome (state_at scene.stack.states place).kind) pick.there (between.begun pick.place pick.within)
+pub pick_begun : (scene : Scene) (place : ℕ) → IsBetween scene → IsPick scene.stack.picks place → IsSome (state_at scene.stack.states place).kind
+pick_begun scene place between pick = subst (λ (each : ℕ). IsSome (state_at scene.stack.states each).kind) pick.there (between.begun pick.consumer pick.within)
 
 begun_on : (old new : Stack) → ((j : ℕ) → j < length old.picks → slice_index old.picks j < length old.states) → new.picks ≡ old.picks → AllSame old.states new.states
     → ((j : ℕ) → j < length old.picks → IsSome (state_at old.states (slice_index old.picks j)).kind) → (j : ℕ) → j < length new.picks → IsSome (state_at new.states (slice_index new.picks j)).kind
@@ -33,21 +33,21 @@ begun_on old new within picks same begun =
     subst (λ (list : List ℕ). (j : ℕ) → j < length list → IsSome (state_at new.states (slice_index list j)).kind) (sym picks)
     (λ j below. subst (λ (kind : Option Kind). IsSome kind) (sym (same.each (slice_index old.picks j) (within j below)).kind) (begun j below))
 
-raises_same : (old new : Stack) (who must : ℕ) → Raises old new who must → AllSame old.states new.states
-raises_same old new who must raises = record {
-  members = raises.members;
-  each = λ i below. elim (at_or_not i who) [
+raises_same : (old new : Stack) (place must : ℕ) → Raises old new place must → AllSame old.states new.states
+raises_same old new place must raises = record {
+  consumers = raises.consumers;
+  each = λ i below. elim (at_or_not i place) [
     | inl here ↦ rw here raises.raised.same
     | inr other ↦ (raises.others i below other).same
   ];
 }
 
 -- after bytes were got for a consumer
-pub between_told : (old new : Scene) (who must : ℕ) → IsBetween old → Raises old.stack new.stack who must → Stays old new
+pub between_told : (old new : Scene) (place must : ℕ) → IsBetween old → Raises old.stack new.stack place must → Stays old new
     → new.page ≡ record { rows = []; room = 262144 } → IsAtWork new.pool → IsBetween new
-between_told old new who must between raises stays page at_work = record {
+between_told old new place must between raises stays page at_work = record {
   rests = record { ready = raises.ready; page = page; at_work = at_work };
-  begun = begun_on old.stack new.stack between.rests.ready.picked.within raises.picks (raises_same old.stack new.stack who must raises) between.begun;
+  begun = begun_on old.stack new.stack between.rests.ready.picked.within raises.picks (raises_same old.stack new.stack place must raises) between.begun;
   holds = omega (arith, between.holds, raises.balance, stays.leasts, stays.roomed);
 }
 
@@ -59,17 +59,17 @@ between_kept old new between keeps goes page = record {
   holds = omega (arith, between.holds, keeps.balance, goes.stays.leasts, goes.stays.roomed);
 }
 
-none_bounded : (runs : List (List Run)) (who : ℕ) → AreBounded runs → AreBounded (set runs who [])
-none_bounded runs who bounded i = elim (at_or_not i who) [
-  | inl here ↦ rw here (rw (none_left runs who) (All-nil IsBounded))
-  | inr other ↦ rw (get_or-set_other runs who i [] [] other) (bounded i)
+none_bounded : (runs : List (List Run)) (place : ℕ) → AreBounded runs → AreBounded (set runs place [])
+none_bounded runs place bounded i = elim (at_or_not i place) [
+  | inl here ↦ rw here (rw (none_left runs place) (All-nil IsBounded))
+  | inr other ↦ rw (get_or-set_other runs place i [] [] other) (bounded i)
 ]
 
 -- after a consumer was fed
-pub between_fed : (old new : Scene) (who : ℕ) (entry : Entry) → IsBetween old → FedTo old.stack new.stack who entry → Stays old new
+pub between_fed : (old new : Scene) (place : ℕ) (entry : Entry) → IsBetween old → FedTo old.stack new.stack place entry → Stays old new
     → new.page ≡ record { rows = []; room = 262144 } → IsAtWork new.pool → IsBetween new
-between_fed old new who entry between fed stays page at_work =
-    let kinds : (i : ℕ) → i < length old.stack.states → (state_at new.stack.states i).kind ≡ (state_at old.stack.states i).kind = λ i below. elim (at_or_not i who) [
+between_fed old new place entry between fed stays page at_work =
+    let kinds : (i : ℕ) → i < length old.stack.states → (state_at new.stack.states i).kind ≡ (state_at old.stack.states i).kind = λ i below. elim (at_or_not i place) [
       | inl here ↦ rw here fed.takes.kind
       | inr other ↦ (fed.others i below other).same.kind
     ] in
@@ -81,21 +81,22 @@ between_fed old new who entry between fed stays page at_work =
     }
 
 -- after the runs of a consumer were taken
-pub between_taken : (mid : Scene) (runs : List (List Run)) (picks : List ℕ) (resting : List Bool) (asks : List Ask) (deepest : ℕ) (page : PageView) (who : ℕ) → IsBetween mid
-    → runs ≡ set mid.stack.runs who [] → picks ≡ mid.stack.picks → page ≡ mid.page → deepest ≡ mid.stack.deepest
+pub between_taken : (mid : Scene) (runs : List (List Run)) (picks : List ℕ) (resting : List Bool) (asks : List Ask) (deepest : ℕ) (page : PageView) (place : ℕ) → IsBetween mid
+    → runs ≡ set mid.stack.runs place [] → picks ≡ mid.stack.picks → page ≡ mid.page → asks ≡ mid.stack.asks → deepest ≡ mid.stack.deepest
     → IsBetween (record mid { stack = record mid.stack { runs = runs; picks = picks; resting = resting; asks = asks; deepest = deepest }; page = page })
-between_taken mid runs picks resting asks deepest page who between is_runs is_picks is_page is_deepest =
+between_taken mid runs picks resting asks deepest page place between is_runs is_picks is_page is_asks is_deepest =
     let ready = between.rests.ready in
     record {
       rests = record {
         ready = record {
-          lengths = ap (λ (lists : List (List Run)). length lists) is_runs ∙ length-set mid.stack.runs who [] ∙ ready.lengths;
-          bounded = subst (λ (lists : List (List Run)). AreBounded lists) (sym is_runs) (none_bounded mid.stack.runs who ready.bounded);
+          lengths = ap (λ (lists : List (List Run)). length lists) is_runs ∙ length-set mid.stack.runs place [] ∙ ready.lengths;
+          bounded = subst (λ (lists : List (List Run)). AreBounded lists) (sym is_runs) (none_bounded mid.stack.runs place ready.bounded);
           picked = rw is_picks ready.picked;
           begun = ready.begun;
           rests = ready.rests;
           covered = ready.covered;
           small = ready.small;
+          counted = let as_many = ap (λ (list : List Ask). length list) is_asks in omega (arith, is_deepest, as_many, ready.counted);
           shallow = omega (arith, is_deepest, ready.shallow);
         };
         page = is_page ∙ between.rests.page;
@@ -106,8 +107,8 @@ between_taken mid runs picks resting asks deepest page who between is_runs is_pi
     }
 
 -- whether a call gave up is beside it
-pub drains_live : (old new : Scene) (who : ℕ) (taken : List Run) (live : Bool) → Drains old new who taken → Drains old (record new { live = live }) who taken
-drains_live old new who taken live drains = record {
+pub drains_live : (old new : Scene) (place : ℕ) (taken : List Run) (live : Bool) → Drains old new place taken → Drains old (record new { live = live }) place taken
+drains_live old new place taken live drains = record {
   empty = drains.empty;
   kept = drains.kept;
   picks = drains.picks;

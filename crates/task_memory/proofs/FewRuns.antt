@@ -15,10 +15,10 @@ IsWithin free runs runs' account account' asks asks' =
     runs_in runs' + length asks' + lacking (top_of asks') + account.shorts ≤ runs_in runs + length asks + free + account'.shorts
 
 -- a spill began and asks
-pub few_ask : (runs runs' : List (List Run)) (account account' : Held) (asks asks' : List Ask) (who bytes given : ℕ) → runs' ≡ runs
-    → Tries account account' (asks ++ (new_ask who bytes given ∷ [])) asks' bytes → IsWithin 1 runs runs' account account' asks asks'
-few_ask runs runs' account account' asks asks' who bytes given same tries =
-    let ask = new_ask who bytes given in
+pub few_ask : (runs runs' : List (List Run)) (account account' : Held) (asks asks' : List Ask) (place bytes given : ℕ) → runs' ≡ runs
+    → Tries account account' (asks ++ (new_ask place bytes given ∷ [])) asks' bytes → IsWithin 1 runs runs' account account' asks asks'
+few_ask runs runs' account account' asks asks' place bytes given same tries =
+    let ask = new_ask place bytes given in
     let more = asks ++ (ask ∷ []) in
     let count : length more ≡ length asks + 1 = length-append asks (ask ∷ []) in
     let top : top_of more ≡ ask = ap (λ k. ask_at more (k - 1)) count ∙ get_or_push asks ask no_ask (length asks + 1 - 1) (omega arith) in

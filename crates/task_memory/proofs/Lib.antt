@@ -26,6 +26,7 @@ pub mod SecondRefusal
 pub mod Taken
 pub mod Between
 pub mod FeedingOn
+mod FeedLoop
 pub mod Short
 pub mod FewRuns
 pub mod Beginning

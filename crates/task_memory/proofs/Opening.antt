@@ -61,7 +61,7 @@ single_stack scene ask ready new = record {
   needs = λ k below. let first : k ≡ 0 = omega arith in rw first new.need;
   covered = omega (arith, ready.covered, new.got, new.freed);
   small = ready.small;
-  deepest_is = omega arith;
+  counted = omega arith;
   shallow = ready.shallow;
 }
 
@@ -76,18 +76,18 @@ same_scene states files account picks picks' runs runs' resting resting' asks as
 
 -- the scene once the stack was made that of one ask
 pub opened_scene : (states : List State) (files : Option Files) (account : Held) (old new : Spills) (count : ℕ) (ask : Ask) → count ≡ length states → Opens count ask old new → stack_of states files account new ≡ single (stack_of states files account old) ask
-opened_scene states files account old new count ask members opens =
+opened_scene states files account old new count ask consumers opens =
     same_scene states files account _ _ _ _ _ _ _ _ _ _
     (ap (λ (each : _). each.items) opens.picks)
     (ap (λ (each : _). lists_of each.items) opens.runs)
-    (opens.flags ∙ ap (λ n. replicate n true) members)
+    (opens.flags ∙ ap (λ n. replicate n true) consumers)
     opens.asks
     opens.deepest
 
 -- the stack stands then
 pub opened_stack : (states : List State) (files : Option Files) (account : Held) (old new : Spills) (count : ℕ) (ask : Ask) → IsReady (stack_of states files account old) → IsNewAsk ask → count ≡ length states → Opens count ask old new → IsStack (stack_of states files account new)
-opened_stack states files account old new count ask ready fresh members opens =
-    subst (λ (each : Stack). IsStack each) (sym (opened_scene states files account old new count ask members opens)) (single_stack (stack_of states files account old) ask ready fresh)
+opened_stack states files account old new count ask ready fresh consumers opens =
+    subst (λ (each : Stack). IsStack each) (sym (opened_scene states files account old new count ask consumers opens)) (single_stack (stack_of states files account old) ask ready fresh)
 
 -- what an attempt for the one ask comes to
 pub record IsBegun (old new : Stack) : Type 0 where
@@ -101,7 +101,7 @@ begun_at scene ask account asks tried = record {
   stack = tried.stack;
   tried = tried.tried;
   moves = record {
-    members = refl;
+    consumers = refl;
     picks = refl;
     kept = λ i within. kept_self (state_at scene.states i);
     runs = keeps_runs_self scene.files scene.states scene.runs;
@@ -119,7 +119,7 @@ pub begun_is : (states : List State) (files : Option Files) (account account' : 
     → IsReady (stack_of states files account old) → IsNewAsk ask → count ≡ length states → Opens count ask old opened
     → tried.picks ≡ opened.picks → tried.runs ≡ opened.runs → tried.resting ≡ opened.resting → tried.deepest ≡ opened.deepest → Tries account account' opened.asks.items tried.asks.items wish
     → ask.need ≤ wish → 1 ≤ ask.need → IsBegun (single (stack_of states files account old) ask) (stack_of states files account' tried)
-begun_is states files account account' old opened tried count ask wish ready fresh members opens picks runs resting deepest tries enough some =
+begun_is states files account account' old opened tried count ask wish ready fresh consumers opens picks runs resting deepest tries enough some =
     let scene : Stack = stack_of states files account old in
     let stack = single_stack scene ask ready fresh in
     let first : Tries account account' (ask ∷ []) tried.asks.items wish = subst (λ (each : List Ask). Tries account account' each tried.asks.items wish) opens.asks tries in
@@ -128,7 +128,7 @@ begun_is states files account account' old opened tried count ask wish ready fre
     same_scene states files account' _ _ _ _ _ _ _ _ _ _
     (ap (λ (each : _). each.items) (picks ∙ opens.picks))
     (ap (λ (each : _). lists_of each.items) (runs ∙ opens.runs))
-    (ap (λ (each : _). each.items) resting ∙ opens.flags ∙ ap (λ n. replicate n true) members)
+    (ap (λ (each : _). each.items) resting ∙ opens.flags ∙ ap (λ n. replicate n true) consumers)
     refl
     (deepest ∙ opens.deepest) in
     subst (λ (each : Stack). IsBegun (single scene ask) each) (sym same) (begun_at scene ask account' tried.asks.items result)
@@ -148,7 +148,7 @@ served_keeps ready served ask fresh moves stack one =
     let pending_one = pending_single served.asks one in
     let freed : (ask_at served.asks 0).freed ≡ 0 = moves.freed ∙ fresh.freed in
     record {
-      members = moves.members;
+      consumers = moves.consumers;
       picks = moves.picks;
       kept = moves.kept;
       runs = moves.runs;
@@ -161,6 +161,7 @@ served_keeps ready served ask fresh moves stack one =
         rests = λ i below. rest_is (state_at served.states i).stage (let least = get_or-le-sum_by (λ (state : State). spilling state.stage) served.states i blank below in omega (arith, stack.count, one));
         covered = omega (arith, stack.covered);
         small = stack.small;
+        counted = stack.counted;
         shallow = stack.shallow;
       };
       balance = omega (arith, moves.balance, pending_one, freed, fresh.got, fresh.freed);
@@ -201,7 +202,7 @@ short_is_out ready served ask got is same short =
 -- what came of an ask that fell short, once what it got is given back
 pub short_keeps : (ready served : Stack) (got : ℕ) → IsReady ready → Keeps ready served got → Keeps ready (record served { account = less_by served.account got }) 0
 short_keeps ready served got before keeps = record {
-  members = keeps.members;
+  consumers = keeps.consumers;
   picks = keeps.picks;
   kept = keeps.kept;
   runs = keeps.runs;
@@ -214,6 +215,7 @@ short_keeps ready served got before keeps = record {
     rests = keeps.ready.rests;
     covered = omega (arith, keeps.balance, before.covered);
     small = omega (arith, keeps.ready.small);
+    counted = keeps.ready.counted;
     shallow = keeps.ready.shallow;
   };
   balance = omega (arith, keeps.balance, before.covered);

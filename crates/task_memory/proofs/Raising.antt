@@ -43,53 +43,54 @@ raised_is old mid new must got old_rests mid_rests enough kept told =
 
 -- consumers of the same kinds and entries are as well picked
 pub picks_same : (picks : List ℕ) (states states' : List State) → length states' ≡ length states → ((i : ℕ) → i < length states → SameEntries (state_at states i) (state_at states' i)) → ArePicks picks states → ArePicks picks states'
-picks_same picks states states' members same picked = record {
-  within = λ j below. let within = picked.within j below in omega (arith, members);
-  inert = λ i below apart. let here : i < length states = omega (arith, members) in (same i here).entries ∙ picked.inert i here apart;
+picks_same picks states states' consumers same picked = record {
+  within = λ j below. let within = picked.within j below in omega (arith, consumers);
+  inert = λ i below apart. let here : i < length states = omega (arith, consumers) in (same i here).entries ∙ picked.inert i here apart;
 }
 
 -- and begun
 pub begun_same : (states states' : List State) → length states' ≡ length states → ((i : ℕ) → i < length states → SameEntries (state_at states i) (state_at states' i)) → AreBegun states → AreBegun states'
-begun_same states states' members same begun = λ i below some.
-    let here : i < length states = omega (arith, members) in
+begun_same states states' consumers same begun = λ i below some.
+    let here : i < length states = omega (arith, consumers) in
     subst (λ (kind : Option Kind). IsSome kind) (sym (same i here).kind) (begun i here (λ none. some ((same i here).entries ∙ none)))
 
 -- an acquire, told
-pub asked_is : (old new : Stack) (who must got : ℕ) → IsReady old → who < length old.states → must ≤ got → Tells old new who got → Raises old new who must
-asked_is old new who must got ready within enough tells =
+pub asked_is : (old new : Stack) (place must got : ℕ) → IsReady old → place < length old.states → must ≤ got → Tells old new place got → Raises old new place must
+asked_is old new place must got ready within enough tells =
     let before = tells.before in
     let keeps = tells.keeps in
-    let mid = state_at before who in
+    let mid = state_at before place in
     let raised : State = record mid { used = mid.used + got } in
-    let count = keeps.members in
-    let within_before : who < length before = omega arith in
-    let here : state_at new.states who ≡ raised = ap (λ (states : List State). state_at states who) tells.told ∙ get_or-set_same before who raised blank within_before in
-    let members : length new.states ≡ length before = ap (λ (states : List State). length states) tells.told ∙ length-set before who raised in
-    let sum : used_by new.states + mid.used ≡ used_by before + (mid.used + got) = ap (λ (states : List State). used_by states + mid.used) tells.told ∙ sum_by-set (λ (state : State). state.used) before who raised blank within_before in
+    let count = keeps.consumers in
+    let within_before : place < length before = omega arith in
+    let here : state_at new.states place ≡ raised = ap (λ (states : List State). state_at states place) tells.told ∙ get_or-set_same before place raised blank within_before in
+    let consumers : length new.states ≡ length before = ap (λ (states : List State). length states) tells.told ∙ length-set before place raised in
+    let sum : used_by new.states + mid.used ≡ used_by before + (mid.used + got) = ap (λ (states : List State). used_by states + mid.used) tells.told ∙ sum_by-set (λ (state : State). state.used) before place raised blank within_before in
     let same : (i : ℕ) → i < length before → SameEntries (state_at before i) (state_at new.states i) = λ i below. record {
-      kind = ap (λ (states : List State). (state_at states i).kind) tells.told ∙ same_field (λ (state : State). state.kind) before who raised blank i refl;
-      entries = ap (λ (states : List State). (state_at states i).entries) tells.told ∙ same_field (λ (state : State). state.entries) before who raised blank i refl;
+      kind = ap (λ (states : List State). (state_at states i).kind) tells.told ∙ same_field (λ (state : State). state.kind) before place raised blank i refl;
+      entries = ap (λ (states : List State). (state_at states i).entries) tells.told ∙ same_field (λ (state : State). state.entries) before place raised blank i refl;
     } in
     record {
-      members = members ∙ count;
+      consumers = consumers ∙ count;
       picks = keeps.picks;
       others = λ j below other.
-          let apart : state_at new.states j ≡ state_at before j = ap (λ (states : List State). state_at states j) tells.told ∙ get_or-set_other before who j raised blank other in
+          let apart : state_at new.states j ≡ state_at before j = ap (λ (states : List State). state_at states j) tells.told ∙ get_or-set_other before place j raised blank other in
           rw apart (keeps.kept j below);
-      raised = raised_is (state_at old.states who) mid (state_at new.states who) must got (ready.rests who within) (keeps.ready.rests who within_before) enough (keeps.kept who within) here;
-      runs = keeps_runs_trans old.files new.files new.files old.states before new.states old.runs new.runs new.runs count (λ i below. (keeps.kept i below).same.kind) keeps.runs (keeps_runs_same new.files before new.states new.runs members same);
+      raised = raised_is (state_at old.states place) mid (state_at new.states place) must got (ready.rests place within) (keeps.ready.rests place within_before) enough (keeps.kept place within) here;
+      runs = keeps_runs_trans old.files new.files new.files old.states before new.states old.runs new.runs new.runs count (λ i below. (keeps.kept i below).same.kind) (λ i below. (keeps.kept i below).shorter) keeps.runs (keeps_runs_same new.files before new.states new.runs consumers same);
       shorts = keeps.shorts;
       ready = record {
-        lengths = keeps.ready.lengths ∙ sym members;
+        lengths = keeps.ready.lengths ∙ sym consumers;
         bounded = keeps.ready.bounded;
-        picked = picks_same new.picks before new.states members same keeps.ready.picked;
-        begun = begun_same before new.states members same keeps.ready.begun;
+        picked = picks_same new.picks before new.states consumers same keeps.ready.picked;
+        begun = begun_same before new.states consumers same keeps.ready.begun;
         rests = λ i below.
-            let stage : (state_at new.states i).stage ≡ (state_at before i).stage = ap (λ (states : List State). (state_at states i).stage) tells.told ∙ same_field (λ (state : State). state.stage) before who raised blank i refl in
+            let stage : (state_at new.states i).stage ≡ (state_at before i).stage = ap (λ (states : List State). (state_at states i).stage) tells.told ∙ same_field (λ (state : State). state.stage) before place raised blank i refl in
             stage ∙ keeps.ready.rests i (omega arith);
         covered = omega (arith, keeps.balance, ready.covered, sum);
         small = keeps.ready.small;
-        shallow = omega (arith, keeps.ready.shallow, members);
+        counted = keeps.ready.counted;
+        shallow = omega (arith, keeps.ready.shallow, consumers);
       };
       balance = omega (arith, keeps.balance, sum);
     }

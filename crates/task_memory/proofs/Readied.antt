@@ -12,6 +12,7 @@ use Rattle.task_pool.specs.Accounts.{Held}
 use Rattle.task_memory.specs.RunLists.{runs_at, lists_of, IsBounded}
 use Rattle.task_memory.specs.Stacks.{stack_of, IsDry, IsPick, Stack, used_by}
 use Rattle.task_memory.specs.Asking.{IsReady}
+use Rattle.task_memory.specs.declared.ask.Ask.{Ask}
 use Rattle.task_memory.specs.declared.spills.Spills.{Spills}
 use Rattle.task_memory.proofs.Places.{at_or_not}
 use Rattle.task_memory.specs.Leasts.{leasts_of}
@@ -36,9 +37,9 @@ apart_too pick picks i other others (suc j) below = others j (omega arith)
 among : (picks : List ℕ) (i : ℕ) → IsPick picks i ⊎ ((j : ℕ) → j < length picks → slice_index picks j ≢ i)
 among [] i = inr (λ j below. absurd (omega arith))
 among (pick ∷ picks) i = elim (at_or_not pick i) [
-  | inl here ↦ inl (record { place = zero; within = omega arith; there = here })
+  | inl here ↦ inl (record { consumer = zero; within = omega arith; there = here })
   | inr other ↦ elim (among picks i) [
-    | inl later ↦ inl (record { place = suc later.place; within = let within = later.within in omega arith; there = later.there })
+    | inl later ↦ inl (record { consumer = suc later.consumer; within = let within = later.within in omega arith; there = later.there })
     | inr others ↦ inr (apart_too pick picks i other others)
   ]
 ]
@@ -54,7 +55,7 @@ record IsFresh (state : State) : Type 0 where
 fresh_at : (picks : List ℕ) (kinds : List Kind) (old new : List State) → Begins picks kinds old new → (i : ℕ) → i < length old → IsFresh (state_at new i)
 fresh_at picks kinds old new begins i below = elim (among picks i) [
   | inl pick ↦
-      let begun = begins.begun pick.place pick.within in
+      let begun = begins.begun pick.consumer pick.within in
       subst (λ (k : ℕ). IsFresh (state_at new k)) pick.there (record {
         entries = ap (λ (state : State). state.entries) begun;
         stage = ap (λ (state : State). state.stage) begun;
@@ -71,7 +72,7 @@ fresh_at picks kinds old new begins i below = elim (among picks i) [
 
 -- so none of them has an entry
 pub dry_is : (picks : List ℕ) (kinds : List Kind) (old new : List State) → Begins picks kinds old new → IsDry new
-dry_is picks kinds old new begins = λ i below. (fresh_at picks kinds old new begins i (let members = begins.members in omega arith)).entries
+dry_is picks kinds old new begins = λ i below. (fresh_at picks kinds old new begins i (let consumers = begins.consumers in omega arith)).entries
 
 sum_same : (f g : ℕ → ℕ) (places : List ℕ) → ((j : ℕ) → j < length places → f (slice_index places j) ≡ g (slice_index places j)) → sum_by f places ≡ sum_by g places
 sum_same f g [] same = refl
@@ -106,9 +107,9 @@ pub record IsStarted (stack : Stack) (leasts : ℕ) : Type 0 where
   pub begun : (j : ℕ) → j < length stack.picks → IsSome (state_at stack.states (slice_index stack.picks j)).kind
   pub holds : stack.account.held ≡ leasts + used_by stack.states
 
-pub started_between : (picks : List ℕ) (kinds : List Kind) (old new : List State) (files : Option Files) (account : Held) (spills : Spills) (leasts count : ℕ) → ArePlaces picks kinds old → Begins picks kinds old new → spills.picks.items ≡ picks → lists_of spills.runs.items ≡ replicate count [] → spills.deepest ≡ 0 → count ≡ length new → account.held ≡ leasts → account.held ≤ 2 ^ 50 → IsStarted (stack_of new files account spills) leasts
-started_between picks kinds old new files account spills leasts count places begins are none no_depth each holds small =
-    let fresh : (i : ℕ) → i < length new → IsFresh (state_at new i) = λ i below. fresh_at picks kinds old new begins i (let members = begins.members in omega arith) in
+pub started_between : (picks : List ℕ) (kinds : List Kind) (old new : List State) (files : Option Files) (account : Held) (spills : Spills) (leasts count : ℕ) → ArePlaces picks kinds old → Begins picks kinds old new → spills.picks.items ≡ picks → lists_of spills.runs.items ≡ replicate count [] → spills.deepest ≡ 0 → spills.asks.items ≡ [] → count ≡ length new → account.held ≡ leasts → account.held ≤ 2 ^ 50 → IsStarted (stack_of new files account spills) leasts
+started_between picks kinds old new files account spills leasts count places begins are none no_depth no_asks each holds small =
+    let fresh : (i : ℕ) → i < length new → IsFresh (state_at new i) = λ i below. fresh_at picks kinds old new begins i (let consumers = begins.consumers in omega arith) in
     let nothing : used_by new ≡ 0 = zero_used new (λ i below. (fresh i below).used) in
     record {
       ready = record {
@@ -116,13 +117,14 @@ started_between picks kinds old new files account spills leasts count places beg
         bounded = λ i. none_bounded (runs_at (lists_of spills.runs.items) i) (ap (λ (lists : List (List Run)). runs_at lists i) none ∙ no_runs count i);
         picked = record {
           within = subst (λ (list : List ℕ). (j : ℕ) → j < length list → slice_index list j < length new) (sym are)
-              (λ j below. let within = places.within j below in let members = begins.members in omega arith);
+              (λ j below. let within = places.within j below in let consumers = begins.consumers in omega arith);
           inert = λ i below others. (fresh i below).entries;
         };
         begun = λ i below some. absurd (some (fresh i below).entries);
         rests = λ i below. (fresh i below).stage;
         covered = omega (arith, nothing);
         small = small;
+        counted = let none = ap (λ (list : List Ask). length list) no_asks in omega arith;
         shallow = omega (arith, no_depth);
       };
       begun = subst (λ (list : List ℕ). (j : ℕ) → j < length list → IsSome (state_at new (slice_index list j)).kind) (sym are)

@@ -11,7 +11,7 @@ use Rattle.task_memory.proofs.Holding.{keeps_runs_self, keeps_runs_trans}
 
 pub moves_none : (scene : Stack) → Moves scene scene
 moves_none scene = record {
-  members = refl;
+  consumers = refl;
   picks = refl;
   kept = λ i within. kept_self (state_at scene.states i);
   runs = keeps_runs_self scene.files scene.states scene.runs;
@@ -25,10 +25,10 @@ moves_none scene = record {
 
 pub moves_trans : (a b c : Stack) → Moves a b → Moves b c → Moves a c
 moves_trans a b c first then = record {
-  members = then.members ∙ first.members;
+  consumers = then.consumers ∙ first.consumers;
   picks = then.picks ∙ first.picks;
-  kept = λ i within. keeps_one_trans (state_at a.states i) (state_at b.states i) (state_at c.states i) (first.kept i within) (then.kept i (let members = first.members in omega arith));
-  runs = keeps_runs_trans a.files b.files c.files a.states b.states c.states a.runs b.runs c.runs first.members (λ i within. (first.kept i within).same.kind) first.runs then.runs;
+  kept = λ i within. keeps_one_trans (state_at a.states i) (state_at b.states i) (state_at c.states i) (first.kept i within) (then.kept i (let consumers = first.consumers in omega arith));
+  runs = keeps_runs_trans a.files b.files c.files a.states b.states c.states a.runs b.runs c.runs first.consumers (λ i within. (first.kept i within).same.kind) (λ i within. (first.kept i within).shorter) first.runs then.runs;
   shorts = omega (arith, first.shorts, then.shorts);
   deeper = omega (arith, first.deeper, then.deeper);
   balance = omega (arith, first.balance, then.balance);

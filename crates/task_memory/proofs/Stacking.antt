@@ -26,8 +26,8 @@ one_spills Rest spills = absurd (cc)
 one_spills (Spill progress) spills = refl
 
 -- a consumer whose flag is up rests
-pub flag_rests : (states : List State) (resting : List Bool) (who : ℕ) → who < length states → resting ≡ resting_of states → flag_at resting who ≡ true → is_rest (state_at states who).stage ≡ true
-flag_rests states resting who within are up = sym (get_or-map (λ (state : State). is_rest state.stage) states who blank false within) ∙ ap (λ flags. get_or flags who false) (sym are) ∙ up
+pub flag_rests : (states : List State) (resting : List Bool) (place : ℕ) → place < length states → resting ≡ resting_of states → flag_at resting place ≡ true → is_rest (state_at states place).stage ≡ true
+flag_rests states resting place within are up = sym (get_or-map (λ (state : State). is_rest state.stage) states place blank false within) ∙ ap (λ flags. get_or flags place false) (sym are) ∙ up
 
 -- what becomes of the sums where one consumer changed
 pub record Sums (states states' : List State) (old new : State) : Type 0 where
@@ -35,11 +35,11 @@ pub record Sums (states states' : List State) (old new : State) : Type 0 where
   pub spills : spills_of states' + spilling old.stage ≡ spills_of states + spilling new.stage
   pub entries : entries_in states' + length old.entries ≡ entries_in states + length new.entries
 
-pub sums_at : (states : List State) (who : ℕ) (state : State) → who < length states → Sums states (set states who state) (state_at states who) state
-sums_at states who state within = record {
-  used = sum_by-set (λ (each : State). each.used) states who state blank within;
-  spills = sum_by-set (λ (each : State). spilling each.stage) states who state blank within;
-  entries = sum_by-set (λ (each : State). length each.entries) states who state blank within;
+pub sums_at : (states : List State) (place : ℕ) (state : State) → place < length states → Sums states (set states place state) (state_at states place) state
+sums_at states place state within = record {
+  used = sum_by-set (λ (each : State). each.used) states place state blank within;
+  spills = sum_by-set (λ (each : State). spilling each.stage) states place state blank within;
+  entries = sum_by-set (λ (each : State). length each.entries) states place state blank within;
 }
 
 -- no more spills are in progress than there are consumers
@@ -54,62 +54,62 @@ most_of : (a b most : ℕ) → a ≤ most → b ≤ most → max a b ≤ most
 most_of a b most first second = grind (arith, first, second)
 
 -- a consumer that rests has no ask
-apart_from : (scene : Stack) (who : ℕ) → IsStack scene → is_rest (state_at scene.states who).stage ≡ true → (k : ℕ) → 1 ≤ k → k < length scene.asks → (ask_at scene.asks k).consumer ≢ who
-apart_from scene who stack rests k nested below same =
-    let spills : is_rest (state_at scene.states (ask_at scene.asks k).consumer).stage ≡ false = (stack.stands k nested below).spills in
-    let rests_too : is_rest (state_at scene.states (ask_at scene.asks k).consumer).stage ≡ true = ap (λ place. is_rest (state_at scene.states place).stage) same ∙ rests in
+apart_from : (scene : Stack) (place : ℕ) → IsStack scene → is_rest (state_at scene.states place).stage ≡ true → (k : ℕ) → 1 ≤ k → k < length scene.asks → (ask_at scene.asks k).place ≢ place
+apart_from scene place stack rests k nested below same =
+    let spills : is_rest (state_at scene.states (ask_at scene.asks k).place).stage ≡ false = (stack.stands k nested below).spills in
+    let rests_too : is_rest (state_at scene.states (ask_at scene.asks k).place).stage ≡ true = ap (λ each. is_rest (state_at scene.states each).stage) same ∙ rests in
     cc
 
 -- the ask of a spill that asked
 abbrev pub new_ask : ℕ → ℕ → ℕ → Ask
-new_ask who bytes given = record { consumer = who; need = bytes; got = 0; freed = given }
+new_ask place bytes given = record { place = place; need = bytes; got = 0; freed = given }
 
 -- a spill that began asks: its ask is the innermost
 abbrev pub pushed : Stack → ℕ → State → ℕ → ℕ → Stack
-pushed scene who state bytes given = record scene {
-  states = set scene.states who state;
-  resting = set scene.resting who false;
-  asks = scene.asks ++ (new_ask who bytes given ∷ []);
+pushed scene place state bytes given = record scene {
+  states = set scene.states place state;
+  resting = set scene.resting place false;
+  asks = scene.asks ++ (new_ask place bytes given ∷ []);
   deepest = max scene.deepest (length scene.asks);
 }
 
-pub push_ask : (scene : Stack) (who : ℕ) (state : State) (bytes given : ℕ) → IsStack scene → who < length scene.states → IsCandidate scene.states scene.resting who → AsksFor (state_at scene.states who) state 0 bytes given → IsStack (pushed scene who state bytes given)
-push_ask scene who state bytes given stack within candidate asks_for =
+pub push_ask : (scene : Stack) (place : ℕ) (state : State) (bytes given : ℕ) → IsStack scene → place < length scene.states → IsCandidate scene.states scene.resting place → AsksFor (state_at scene.states place) state 0 bytes given → IsStack (pushed scene place state bytes given)
+push_ask scene place state bytes given stack within candidate asks_for =
     let states = scene.states in
     let asks = scene.asks in
-    let old = state_at states who in
-    let ask = new_ask who bytes given in
+    let old = state_at states place in
+    let ask = new_ask place bytes given in
     let asks' = asks ++ (ask ∷ []) in
-    let states' = set states who state in
-    let rests : is_rest old.stage ≡ true = flag_rests states scene.resting who within stack.rests candidate.0 in
+    let states' = set states place state in
+    let rests : is_rest old.stage ≡ true = flag_rests states scene.resting place within stack.rests candidate.0 in
     let spills : is_rest state.stage ≡ false = ap (λ (each : State). is_rest each.stage) asks_for.same in
-    let sums = sums_at states who state within in
+    let sums = sums_at states place state within in
     let none : spilling old.stage ≡ 0 = none_spills old.stage rests in
     let one : spilling state.stage ≡ 1 = one_spills state.stage spills in
     let count : length asks' ≡ length asks + 1 = length-append asks (ask ∷ []) in
-    let members : length states' ≡ length states = length-set states who state in
+    let consumers : length states' ≡ length states = length-set states place state in
     let fits : spills_of states' ≤ length states' = spills_le states' in
-    let kept = kept_all states who state within (kept_ask old state 0 bytes given candidate.1 asks_for) in
+    let kept = kept_all states place state within (kept_ask old state 0 bytes given candidate.1 asks_for) in
     let pend : pending_of asks' ≡ pending_of asks + given = let sum = sum_by-append pending asks (ask ∷ []) in omega (arith, sum) in
     let earlier : (k : ℕ) → k < length asks → ask_at asks' k ≡ ask_at asks k = λ k below. get_or_append_left asks (ask ∷ []) no_ask k below in
     let last : ask_at asks' (length asks) ≡ ask = get_or_push asks ask no_ask (length asks) refl in
-    let here : state_at states' who ≡ state = get_or-set_same states who state blank within in
-    let others : (place : ℕ) → place ≢ who → state_at states' place ≡ state_at states place = λ place other. get_or-set_other states who place state blank other in
-    let apart = apart_from scene who stack rests in
+    let here : state_at states' place ≡ state = get_or-set_same states place state blank within in
+    let others : (each : ℕ) → each ≢ place → state_at states' each ≡ state_at states each = λ each other. get_or-set_other states place each state blank other in
+    let apart = apart_from scene place stack rests in
     record {
       some = omega (arith, count);
-      lengths = stack.lengths ∙ sym members;
+      lengths = stack.lengths ∙ sym consumers;
       bounded = stack.bounded;
-      picked = picks_kept scene.picks states states' members kept stack.picked;
-      rests = ap (λ flags. set flags who false) stack.rests ∙ ap (λ flag. set (resting_of states) who flag) (sym spills) ∙ sym (map-set (λ (each : State). is_rest each.stage) states who state);
-      begun = begun_kept states states' members kept stack.begun;
+      picked = picks_kept scene.picks states states' consumers kept stack.picked;
+      rests = ap (λ flags. set flags place false) stack.rests ∙ ap (λ flag. set (resting_of states) place flag) (sym spills) ∙ sym (map-set (λ (each : State). is_rest each.stage) states place state);
+      begun = begun_kept states states' consumers kept stack.begun;
       count = omega (arith, sums.spills, none, one, stack.count, count);
       within = λ k nested below. elim (last_or_before k (length asks) (omega (arith, count))) [
-        | inl before ↦ rw (earlier k before) (let inside = stack.within k nested before in omega (arith, members))
-        | inr is ↦ rw (is, last) (omega (arith, members))
+        | inl before ↦ rw (earlier k before) (let inside = stack.within k nested before in omega (arith, consumers))
+        | inr is ↦ rw (is, last) (omega (arith, consumers))
       ];
       stands = λ k nested below. elim (last_or_before k (length asks) (omega (arith, count))) [
-        | inl before ↦ rw (earlier k before, others (ask_at asks k).consumer (apart k nested before)) (stack.stands k nested before)
+        | inl before ↦ rw (earlier k before, others (ask_at asks k).place (apart k nested before)) (stack.stands k nested before)
         | inr is ↦ rw (is, last, here) (record { spills = spills; asked = asks_for.asked; start = asks_for.start; entries = λ empty. candidate.1 (sym (ap (λ (each : State). each.entries) asks_for.same) ∙ empty) })
       ];
       apart = λ j k nested later below. elim (last_or_before k (length asks) (omega (arith, count))) [
@@ -122,90 +122,90 @@ push_ask scene who state bytes given stack within candidate asks_for =
       ];
       covered = omega (arith, sums.used, pend, stack.covered, asks_for.freed);
       small = stack.small;
-      deepest_is = grind arith;
+      counted = grind arith;
       shallow =
-          let spills : length asks ≤ length states' = omega (arith, sums.spills, none, one, stack.count, fits, members) in
+          let spills : length asks ≤ length states' = omega (arith, sums.spills, none, one, stack.count, fits, consumers) in
           let before = stack.shallow in
-          most_of scene.deepest (length asks) (length states') (omega (arith, before, members)) spills;
+          most_of scene.deepest (length asks) (length states') (omega (arith, before, consumers)) spills;
     }
 
 -- a spill that began ended, and what it freed was given back
 abbrev pub ended : Stack → ℕ → State → Option Files → List (List Run) → ℕ → Stack
-ended scene who state files runs given = record scene { states = set scene.states who state; files = files; account = less_by scene.account given; runs = runs }
+ended scene place state files runs given = record scene { states = set scene.states place state; files = files; account = less_by scene.account given; runs = runs }
 
-pub end_spill : (scene : Stack) (who : ℕ) (state : State) (files : Option Files) (runs : List (List Run)) (run : Option Run) (given : ℕ) → IsStack scene → who < length scene.states → IsCandidate scene.states scene.resting who → EndsWith (state_at scene.states who) state scene.files files run 0 given → KeepsRuns scene.files files scene.states (set scene.states who state) scene.runs runs → IsStack (ended scene who state files runs given)
-end_spill scene who state files runs run given stack within candidate ends keeps =
+pub end_spill : (scene : Stack) (place : ℕ) (state : State) (files : Option Files) (runs : List (List Run)) (run : Option Run) (given : ℕ) → IsStack scene → place < length scene.states → IsCandidate scene.states scene.resting place → EndsWith (state_at scene.states place) state scene.files files run 0 given → KeepsRuns scene.files files scene.states (set scene.states place state) scene.runs runs → IsStack (ended scene place state files runs given)
+end_spill scene place state files runs run given stack within candidate ends keeps =
     let states = scene.states in
-    let old = state_at states who in
-    let states' = set states who state in
-    let rests : is_rest old.stage ≡ true = flag_rests states scene.resting who within stack.rests candidate.0 in
+    let old = state_at states place in
+    let states' = set states place state in
+    let rests : is_rest old.stage ≡ true = flag_rests states scene.resting place within stack.rests candidate.0 in
     let rests' : is_rest state.stage ≡ true = ap is_rest ends.rest in
-    let sums = sums_at states who state within in
+    let sums = sums_at states place state within in
     let none : spilling old.stage ≡ 0 = none_spills old.stage rests in
     let none' : spilling state.stage ≡ 0 = none_spills state.stage rests' in
-    let members : length states' ≡ length states = length-set states who state in
-    let kept = kept_all states who state within (kept_end old state scene.files files run 0 given candidate.1 ends) in
-    let others : (place : ℕ) → place ≢ who → state_at states' place ≡ state_at states place = λ place other. get_or-set_other states who place state blank other in
-    let apart = apart_from scene who stack rests in
+    let consumers : length states' ≡ length states = length-set states place state in
+    let kept = kept_all states place state within (kept_end old state scene.files files run 0 given candidate.1 ends) in
+    let others : (each : ℕ) → each ≢ place → state_at states' each ≡ state_at states each = λ each other. get_or-set_other states place each state blank other in
+    let apart = apart_from scene place stack rests in
     record {
       some = stack.some;
-      lengths = keeps.lengths ∙ stack.lengths ∙ sym members;
+      lengths = keeps.lengths ∙ stack.lengths ∙ sym consumers;
       bounded = keeps.bounded stack.bounded;
-      picked = picks_kept scene.picks states states' members kept stack.picked;
-      rests = stack.rests ∙ sym (map-set_same (λ (each : State). is_rest each.stage) states who state blank (rests' ∙ sym rests));
-      begun = begun_kept states states' members kept stack.begun;
+      picked = picks_kept scene.picks states states' consumers kept stack.picked;
+      rests = stack.rests ∙ sym (map-set_same (λ (each : State). is_rest each.stage) states place state blank (rests' ∙ sym rests));
+      begun = begun_kept states states' consumers kept stack.begun;
       count = omega (arith, sums.spills, none, none', stack.count);
-      within = λ k nested below. let inside = stack.within k nested below in omega (arith, members);
-      stands = λ k nested below. rw (others (ask_at scene.asks k).consumer (apart k nested below)) (stack.stands k nested below);
+      within = λ k nested below. let inside = stack.within k nested below in omega (arith, consumers);
+      stands = λ k nested below. rw (others (ask_at scene.asks k).place (apart k nested below)) (stack.stands k nested below);
       apart = stack.apart;
       needs = stack.needs;
       covered = omega (arith, sums.used, stack.covered, ends.freed);
       small = omega (arith, stack.small);
-      deepest_is = stack.deepest_is;
-      shallow = omega (arith, stack.shallow, members);
+      counted = stack.counted;
+      shallow = omega (arith, stack.shallow, consumers);
     }
 
 -- the innermost ask was answered, its consumer's spill ended, and what it freed was given back
 abbrev pub popped : Stack → List Ask → ℕ → State → Option Files → List (List Run) → ℕ → Stack
-popped scene asks who state files runs given = record scene { states = set scene.states who state; files = files; account = less_by scene.account given; runs = runs; resting = set scene.resting who true; asks = asks }
+popped scene asks place state files runs given = record scene { states = set scene.states place state; files = files; account = less_by scene.account given; runs = runs; resting = set scene.resting place true; asks = asks }
 
-pub pop_ask : (scene : Stack) (asks : List Ask) (ask : Ask) (state : State) (files : Option Files) (runs : List (List Run)) (run : Option Run) (given : ℕ) → IsStack (record scene { asks = asks ++ (ask ∷ []) }) → 1 ≤ length asks → EndsWith (record (state_at scene.states ask.consumer) { used = (state_at scene.states ask.consumer).used + ask.got }) state scene.files files run ask.freed given → KeepsRuns scene.files files scene.states (set scene.states ask.consumer state) scene.runs runs → IsStack (popped scene asks ask.consumer state files runs given)
+pub pop_ask : (scene : Stack) (asks : List Ask) (ask : Ask) (state : State) (files : Option Files) (runs : List (List Run)) (run : Option Run) (given : ℕ) → IsStack (record scene { asks = asks ++ (ask ∷ []) }) → 1 ≤ length asks → EndsWith (record (state_at scene.states ask.place) { used = (state_at scene.states ask.place).used + ask.got }) state scene.files files run ask.freed given → KeepsRuns scene.files files scene.states (set scene.states ask.place state) scene.runs runs → IsStack (popped scene asks ask.place state files runs given)
 pop_ask scene asks ask state files runs run given stack some ends keeps =
-    let who = ask.consumer in
+    let place = ask.place in
     let states = scene.states in
-    let old = state_at states who in
+    let old = state_at states place in
     let all = asks ++ (ask ∷ []) in
-    let states' = set states who state in
+    let states' = set states place state in
     let count : length all ≡ length asks + 1 = length-append asks (ask ∷ []) in
     let earlier : (k : ℕ) → k < length asks → ask_at all k ≡ ask_at asks k = λ k below. get_or_append_left asks (ask ∷ []) no_ask k below in
     let last : ask_at all (length asks) ≡ ask = get_or_push asks ask no_ask (length asks) refl in
-    let within : who < length states = rw last at (stack.within (length asks) some (omega (arith, count))) in
+    let within : place < length states = rw last at (stack.within (length asks) some (omega (arith, count))) in
     let stood : Stands old ask.freed = rw last at (stack.stands (length asks) some (omega (arith, count))) in
     let rests' : is_rest state.stage ≡ true = ap is_rest ends.rest in
-    let sums = sums_at states who state within in
+    let sums = sums_at states place state within in
     let one : spilling old.stage ≡ 1 = one_spills old.stage stood.spills in
     let none' : spilling state.stage ≡ 0 = none_spills state.stage rests' in
-    let members : length states' ≡ length states = length-set states who state in
-    let kept = kept_all states who state within (kept_told old state scene.files files run ask.got ask.freed given stood.entries stood.spills ends) in
+    let consumers : length states' ≡ length states = length-set states place state in
+    let kept = kept_all states place state within (kept_told old state scene.files files run ask.got ask.freed given stood.entries stood.spills ends) in
     let pend : pending_of all ≡ pending_of asks + (ask.got + ask.freed) = let sum = sum_by-append pending asks (ask ∷ []) in omega (arith, sum) in
-    let others : (place : ℕ) → place ≢ who → state_at states' place ≡ state_at states place = λ place other. get_or-set_other states who place state blank other in
-    let apart : (k : ℕ) → 1 ≤ k → k < length asks → (ask_at asks k).consumer ≢ who = λ k nested below. rw (earlier k below, last) at (stack.apart k (length asks) nested below (omega (arith, count))) in
+    let others : (each : ℕ) → each ≢ place → state_at states' each ≡ state_at states each = λ each other. get_or-set_other states place each state blank other in
+    let apart : (k : ℕ) → 1 ≤ k → k < length asks → (ask_at asks k).place ≢ place = λ k nested below. rw (earlier k below, last) at (stack.apart k (length asks) nested below (omega (arith, count))) in
     record {
       some = some;
-      lengths = keeps.lengths ∙ stack.lengths ∙ sym members;
+      lengths = keeps.lengths ∙ stack.lengths ∙ sym consumers;
       bounded = keeps.bounded stack.bounded;
-      picked = picks_kept scene.picks states states' members kept stack.picked;
-      rests = ap (λ flags. set flags who true) stack.rests ∙ ap (λ flag. set (resting_of states) who flag) (sym rests') ∙ sym (map-set (λ (each : State). is_rest each.stage) states who state);
-      begun = begun_kept states states' members kept stack.begun;
+      picked = picks_kept scene.picks states states' consumers kept stack.picked;
+      rests = ap (λ flags. set flags place true) stack.rests ∙ ap (λ flag. set (resting_of states) place flag) (sym rests') ∙ sym (map-set (λ (each : State). is_rest each.stage) states place state);
+      begun = begun_kept states states' consumers kept stack.begun;
       count = omega (arith, sums.spills, one, none', stack.count, count);
-      within = λ k nested below. let inside : (ask_at asks k).consumer < length states = rw (earlier k below) at (stack.within k nested (omega (arith, count))) in omega (arith, members);
+      within = λ k nested below. let inside : (ask_at asks k).place < length states = rw (earlier k below) at (stack.within k nested (omega (arith, count))) in omega (arith, consumers);
       stands = λ k nested below.
-          let stands : Stands (state_at states (ask_at asks k).consumer) (ask_at asks k).freed = rw (earlier k below) at (stack.stands k nested (omega (arith, count))) in
-          rw (others (ask_at asks k).consumer (apart k nested below)) stands;
+          let stands : Stands (state_at states (ask_at asks k).place) (ask_at asks k).freed = rw (earlier k below) at (stack.stands k nested (omega (arith, count))) in
+          rw (others (ask_at asks k).place (apart k nested below)) stands;
       apart = λ j k nested later below. rw (earlier k below, earlier j (omega arith)) at (stack.apart j k nested later (omega (arith, count)));
       needs = λ k below. rw (earlier k below) at (stack.needs k (omega (arith, count)));
       covered = omega (arith, sums.used, stack.covered, ends.freed, pend);
       small = omega (arith, stack.small);
-      deepest_is = omega (arith, stack.deepest_is, count);
-      shallow = omega (arith, stack.shallow, members);
+      counted = omega (arith, stack.counted, count);
+      shallow = omega (arith, stack.shallow, consumers);
     }

@@ -32,7 +32,7 @@ tried_at scene account want granted stack grants enough some =
     let asks' = set asks last raised in
     let within : last < length asks = omega (arith, stack.some) in
     let count : length asks' ≡ length asks = length-set asks last raised in
-    let consumer : (k : ℕ) → (ask_at asks' k).consumer ≡ (ask_at asks k).consumer = λ k. same_field (λ (each : Ask). each.consumer) asks last raised no_ask k refl in
+    let consumer : (k : ℕ) → (ask_at asks' k).place ≡ (ask_at asks k).place = λ k. same_field (λ (each : Ask). each.place) asks last raised no_ask k refl in
     let need : (k : ℕ) → (ask_at asks' k).need ≡ (ask_at asks k).need = λ k. same_field (λ (each : Ask). each.need) asks last raised no_ask k refl in
     let freed : (k : ℕ) → (ask_at asks' k).freed ≡ (ask_at asks k).freed = λ k. same_field (λ (each : Ask). each.freed) asks last raised no_ask k refl in
     let top : ask_at asks' last ≡ raised = get_or-set_same asks last raised no_ask within in
@@ -52,7 +52,7 @@ tried_at scene account want granted stack grants enough some =
         needs = λ k below. rw (need k) (stack.needs k (omega (arith, count)));
         covered = omega (arith, stack.covered, sum, grants.held);
         small = grants.small;
-        deepest_is = omega (arith, stack.deepest_is, count);
+        counted = omega (arith, stack.counted, count);
         shallow = stack.shallow;
       };
       tried = subst (λ (each : Ask). each.got < each.need → WasShort account each.need × (account.floor ≤ account.held)) (sym (ap (λ n. ask_at asks' (n - 1)) count ∙ top)) (λ short. (record { granted = granted; got = grants.got; short = omega (arith, grants.asked, enough); less = omega arith }, grants.floored (omega (arith, enough))));

@@ -9,11 +9,11 @@ use Rattle.task_memory.specs.declared.obtained.Obtained.{Obtained}
 use Rattle.task_memory.specs.declared.obtained.Obtained.TheVariants.{Got, NoRoom}
 use Rattle.task_pool.specs.Accounts.{WasShort}
 use Rattle.task_memory.specs.RunLists.{AreBounded, runs_in}
-use Rattle.task_memory.specs.Stacks.{Stack, ArePicks, AreBegun, IsDry, used_by}
+use Rattle.task_memory.specs.Stacks.{Stack, ArePicks, AreBegun, IsCounted, IsDry, used_by}
 use Rattle.task_memory.specs.Serving.{KeepsOne, KeepsRuns}
 
--- all consumers rest, those with an entry were begun, and what they use is held; and there were never more spills in progress than
--- consumers
+-- all consumers rest, those with an entry were begun, and what they use is held; and the most spills that were in progress at once
+-- are counted, and were never more than consumers
 pub record IsReady (scene : Stack) : Type 0 where
   pub lengths : length scene.runs ≡ length scene.states
   pub bounded : AreBounded scene.runs
@@ -22,6 +22,7 @@ pub record IsReady (scene : Stack) : Type 0 where
   pub rests : (i : ℕ) → i < length scene.states → (state_at scene.states i).stage ≡ Rest
   pub covered : used_by scene.states ≤ scene.account.held
   pub small : scene.account.held ≤ 2 ^ 50
+  pub counted : IsCounted scene
   pub shallow : scene.deepest ≤ length scene.states
 
 -- the stack of one ask over so many resting consumers
@@ -34,7 +35,7 @@ pub record Opens (count : ℕ) (ask : Ask) (old new : Spills) : Type 0 where
 
 -- the consumers keep what they were fed, and the bytes that are held beside theirs are `extra` more
 pub record Keeps (old new : Stack) (extra : ℕ) : Type 0 where
-  pub members : length new.states ≡ length old.states
+  pub consumers : length new.states ≡ length old.states
   pub picks : new.picks ≡ old.picks
   pub kept : (i : ℕ) → i < length old.states → KeepsOne (state_at old.states i) (state_at new.states i)
   pub runs : KeepsRuns old.files new.files old.states new.states old.runs new.runs

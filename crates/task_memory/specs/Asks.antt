@@ -6,7 +6,7 @@ use Rattle.task_pool.specs.Accounts.{Held, Grants, less_by}
 
 -- it stands for an ask that isn't there
 abbrev pub no_ask : Ask
-no_ask = record { consumer = 0; need = 0; got = 0; freed = 0 }
+no_ask = record { place = 0; need = 0; got = 0; freed = 0 }
 
 -- the ask at a place
 abbrev pub ask_at : List Ask → ℕ → Ask

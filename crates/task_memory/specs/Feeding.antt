@@ -27,13 +27,13 @@ EmptyUseNothing states = (i : ℕ) → i < length states → (state_at states i)
 
 -- the same of all but one
 abbrev pub OthersEmptyUseNothing : List State → ℕ → Type 0
-OthersEmptyUseNothing states who = (i : ℕ) → i < length states → i ≢ who → (state_at states i).entries ≡ [] → (state_at states i).used ≡ 0
+OthersEmptyUseNothing states place = (i : ℕ) → i < length states → i ≢ place → (state_at states i).entries ≡ [] → (state_at states i).used ≡ 0
 
 -- so many bytes were got for a consumer, which was told of them; all else is kept
-pub record Tells (old new : Stack) (who got : ℕ) : Type 0 where
+pub record Tells (old new : Stack) (place got : ℕ) : Type 0 where
   pub before : List State
   pub keeps : Keeps old (record new { states = before }) got
-  pub told : new.states ≡ slice_set before who (record (state_at before who) { used = (state_at before who).used + got })
+  pub told : new.states ≡ slice_set before place (record (state_at before place) { used = (state_at before place).used + got })
 
 -- a consumer for which at least so many bytes were got
 pub record IsRaised (old new : State) (must : ℕ) : Type 0 where
@@ -43,11 +43,11 @@ pub record IsRaised (old new : State) (must : ℕ) : Type 0 where
   pub idle : old.entries ≡ [] → (new.entries ≡ []) × (old.used + must ≤ new.used)
 
 -- what that does to all
-pub record Raises (old new : Stack) (who must : ℕ) : Type 0 where
-  pub members : length new.states ≡ length old.states
+pub record Raises (old new : Stack) (place must : ℕ) : Type 0 where
+  pub consumers : length new.states ≡ length old.states
   pub picks : new.picks ≡ old.picks
-  pub others : (j : ℕ) → j < length old.states → j ≢ who → KeepsOne (state_at old.states j) (state_at new.states j)
-  pub raised : IsRaised (state_at old.states who) (state_at new.states who) must
+  pub others : (j : ℕ) → j < length old.states → j ≢ place → KeepsOne (state_at old.states j) (state_at new.states j)
+  pub raised : IsRaised (state_at old.states place) (state_at new.states place) must
   pub runs : KeepsRuns old.files new.files old.states new.states old.runs new.runs
   pub shorts : old.account.shorts ≤ new.account.shorts
   pub ready : IsReady new
@@ -56,11 +56,11 @@ pub record Raises (old new : Stack) (who must : ℕ) : Type 0 where
 -- where the runs stood before, they stand, and the consumer's total is that of what it was fed before and this entry; that of
 -- each other consumer is what it was
 abbrev pub FeedsTotals : Stack → Stack → ℕ → Entry → Type 0
-FeedsTotals old new who entry =
+FeedsTotals old new place entry =
     (spilled : List (List Entry)) → HoldRuns old.files old.states old.runs spilled
     → (spilled' : List (List Entry)) × HoldRuns new.files new.states new.runs spilled'
-    × ((i : ℕ) → i < length old.states → i ≢ who → gathered_total new.states spilled' i ≡ gathered_total old.states spilled i)
-    × (gathered_total new.states spilled' who ≡ total_by (state_at old.states who).kind (gathered old.states spilled who ++ entry ∷ []))
+    × ((i : ℕ) → i < length old.states → i ≢ place → gathered_total new.states spilled' i ≡ gathered_total old.states spilled i)
+    × (gathered_total new.states spilled' place ≡ total_by (state_at old.states place).kind (gathered old.states spilled place ++ entry ∷ []))
 
 -- a consumer that took an entry
 pub record TakesIn (old new : State) (entry : Entry) : Type 0 where
@@ -72,14 +72,14 @@ pub record TakesIn (old new : State) (entry : Entry) : Type 0 where
   pub some : new.entries ≢ []
 
 -- what that does to all
-pub record FedTo (old new : Stack) (who : ℕ) (entry : Entry) : Type 0 where
-  pub members : length new.states ≡ length old.states
+pub record FedTo (old new : Stack) (place : ℕ) (entry : Entry) : Type 0 where
+  pub consumers : length new.states ≡ length old.states
   pub picks : new.picks ≡ old.picks
-  pub others : (j : ℕ) → j < length old.states → j ≢ who → KeepsOne (state_at old.states j) (state_at new.states j)
-  pub takes : TakesIn (state_at old.states who) (state_at new.states who) entry
+  pub others : (j : ℕ) → j < length old.states → j ≢ place → KeepsOne (state_at old.states j) (state_at new.states j)
+  pub takes : TakesIn (state_at old.states place) (state_at new.states place) entry
   pub lengths : length new.runs ≡ length old.runs
   pub grow : RunsGrow old.runs new.runs
-  pub totals : FeedsTotals old new who entry
+  pub totals : FeedsTotals old new place entry
   pub stay : KeepsFiles old.files new.files
   pub added : AddedAreNew old.files old.runs new.runs
   pub shorts : old.account.shorts ≤ new.account.shorts
@@ -103,14 +103,14 @@ pub record LacksRoom (old new : Stack) (entry : Entry) (asked : ℕ) : Type 0 wh
   pub small : new.account.held ≤ 2 ^ 50
 
 -- the numbers of a refusal: what the task then holds, and its floor
-pub record TellsHeld (account : Held) (held floor : ℕ) : Type 0 where
+pub record NamesHeld (account : Held) (held floor : ℕ) : Type 0 where
   pub holds : held ≡ account.held
   pub floors : floor ≡ account.floor
 
 -- what a refusal for want of room says, of a task with this account
 abbrev pub IfNoRoom : {T : Type 0} → Result T TaskFault → Held → (ℕ → Type 0) → Type 0
 IfNoRoom (Ok x) account says = ⊤
-IfNoRoom (Err (NoRoom asked held floor)) account says = says asked × TellsHeld account held floor
+IfNoRoom (Err (NoRoom asked held floor)) account says = says asked × NamesHeld account held floor
 IfNoRoom (Err DiskFault) account says = ⊤
 IfNoRoom (Err NoMemory) account says = ⊤
 
@@ -142,9 +142,9 @@ NeverNoRoom (Err DiskFault) = ⊤
 NeverNoRoom (Err NoMemory) = ⊤
 
 -- of all consumers but one nothing changed that no spill changes; of that one no more than how often it was fed
-pub record OthersSame (states states' : List State) (who : ℕ) : Type 0 where
-  pub members : length states' ≡ length states
-  pub each : (i : ℕ) → i < length states → i ≢ who → SameConsumer (state_at states i) (state_at states' i)
-  pub kind : (state_at states' who).kind ≡ (state_at states who).kind
-  pub least : (state_at states' who).least ≡ (state_at states who).least
-  pub serves : (state_at states' who).serves ≡ (state_at states who).serves
+pub record OthersSame (states states' : List State) (place : ℕ) : Type 0 where
+  pub consumers : length states' ≡ length states
+  pub each : (i : ℕ) → i < length states → i ≢ place → SameConsumer (state_at states i) (state_at states' i)
+  pub kind : (state_at states' place).kind ≡ (state_at states place).kind
+  pub least : (state_at states' place).least ≡ (state_at states place).least
+  pub serves : (state_at states' place).serves ≡ (state_at states place).serves

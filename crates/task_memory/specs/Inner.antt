@@ -17,9 +17,9 @@ pub record IsStanding (scene : Scene) : Type 0 where
   pub at_work : IsAtWork scene.pool
 
 -- the consumer at this place can be spilled
-pub record CanSpill (scene : Scene) (who : ℕ) : Type 0 where
-  pub within : who < length scene.stack.states
-  pub candidate : IsCandidate scene.stack.states scene.stack.resting who
+pub record CanSpill (scene : Scene) (place : ℕ) : Type 0 where
+  pub within : place < length scene.stack.states
+  pub candidate : IsCandidate scene.stack.states scene.stack.resting place
 
 pub record StepsOn (old new : Scene) : Type 0 where
   pub steps : Steps old.stack new.stack
@@ -48,7 +48,7 @@ pub record SpillsOne (old new : Scene) : Type 0 where
   pub falls : entries_in new.stack.states < entries_in old.stack.states
   pub page : new.page ≡ record { rows = []; room = 262144 }
 
-pub record Empties (old new : Scene) (who : ℕ) : Type 0 where
+pub record Empties (old new : Scene) (place : ℕ) : Type 0 where
   pub keeps : Keeps old.stack new.stack 0
-  pub empty : (state_at new.stack.states who).entries ≡ []
+  pub empty : (state_at new.stack.states place).entries ≡ []
   pub page : new.page ≡ record { rows = []; room = 262144 }

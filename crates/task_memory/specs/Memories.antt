@@ -13,14 +13,14 @@ use Rattle.task_memory.specs.declared.fault.TaskFault.{TaskFault}
 use Rattle.task_memory.specs.declared.fault.TaskFault.TheVariants.{DiskFault}
 use Rattle.task_memory.specs.Disks.{LeavesDisk}
 use Rattle.task_memory.specs.Pauses.{AllSame}
-use Rattle.task_memory.specs.Stacks.{Stack, used_by}
+use Rattle.task_memory.specs.Stacks.{IsCounted, Stack, used_by}
 use Rattle.task_memory.specs.Asking.{IsReady}
 use Rattle.task_memory.specs.Feeding.{OthersSame}
 
 -- what is lent to the memory, by name: who lent it finds it again by this
 pub record Lent : Type 0 where
   pub pool : ℕ
-  pub members : ℕ
+  pub consumers : ℕ
   pub disk : ℕ
 
 -- the consumers with their runs, files and account; the page that spills are written by; how often the disk failed; the pool
@@ -67,28 +67,36 @@ pub record Stays (old new : Scene) : Type 0 where
   pub leasts : new.leasts ≡ old.leasts
   pub roomed : new.roomed ≡ old.roomed
 
+-- the count of the most spills that were ever in progress at once doesn't fall, and it has counted those whose asks stand then, also
+-- where a call gave up amid them
+pub record Deepens (old new : Stack) : Type 0 where
+  pub grows : old.deepest ≤ new.deepest
+  pub counts : IsCounted old → IsCounted new
+
 pub record GoesOn (old new : Scene) : Type 0 where
   pub same : AllSame old.stack.states new.stack.states
   pub disk : LeavesDisk old.stack.files new.stack.files old.faults new.faults
   pub pool : Goes old.pool new.pool
   pub stays : Stays old new
+  pub deeper : Deepens old.stack new.stack
 
 -- the same of a call that may feed the consumer at a place
-pub record GoesOnBut (old new : Scene) (who : ℕ) : Type 0 where
-  pub others : OthersSame old.stack.states new.stack.states who
+pub record GoesOnBut (old new : Scene) (place : ℕ) : Type 0 where
+  pub others : OthersSame old.stack.states new.stack.states place
   pub disk : LeavesDisk old.stack.files new.stack.files old.faults new.faults
   pub pool : Goes old.pool new.pool
   pub stays : Stays old new
+  pub deeper : Deepens old.stack new.stack
 
 -- where the consumer has room for an entry, the pool isn't asked
 abbrev pub AsksNothing : Scene → Scene → ℕ → Entry → Type 0
-AsksNothing old new who entry =
-    let state = state_at old.stack.states who in
+AsksNothing old new place entry =
+    let state = state_at old.stack.states place in
     charge state.kind state.entries entry ≤ room state → own_entries new.pool.worker ≡ own_entries old.pool.worker
 
-pub record FeedsOn (old new : Scene) (who : ℕ) (entry : Entry) : Type 0 where
-  pub goes : GoesOnBut old new who
-  pub still : AsksNothing old new who entry
+pub record FeedsOn (old new : Scene) (place : ℕ) (entry : Entry) : Type 0 where
+  pub goes : GoesOnBut old new place
+  pub still : AsksNothing old new place entry
 
 -- whether a call gave up, and why: the disk's count rose; no consumer was fed then
 pub record Fails {T : Type 0} (old new : Scene) (result : Result T TaskFault) : Type 0 where

@@ -63,9 +63,9 @@ AreApart runs =
     (i j k l : ℕ) → k < length (runs_at runs i) → l < length (runs_at runs j) → (run_at runs i k).file ≡ (run_at runs j l).file
     → (i ≡ j) × (k ≡ l)
 
--- the disk tells, and the consumers' runs stand on it with these entries
+-- the disk shows its bytes, and the consumers' runs stand on it with these entries
 pub record HoldRuns (files : Option Files) (states : List State) (runs : List (List Run)) (spilled : List (List Entry)) : Type 0 where
-  pub telling : IsSome files
+  pub shown : IsSome files
   pub lists : length runs ≡ length states
   pub lengths : length spilled ≡ length states
   pub each : (i : ℕ) → i < length states → HaveEntries files (state_at states i).kind (runs_at runs i) (spilled_at spilled i)

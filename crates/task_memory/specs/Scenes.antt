@@ -24,10 +24,10 @@ pub record AreBytes (must wish : ℕ) : Type 0 where
   pub most : wish ≤ 2 ^ 50
 
 -- so many bytes were got for the consumer at a place, and it was told of them
-pub record Acquires (old new : Scene) (who must wish got : ℕ) : Type 0 where
+pub record Acquires (old new : Scene) (place must wish got : ℕ) : Type 0 where
   pub enough : must ≤ got
   pub few : got ≤ wish
-  pub told : Tells old.stack new.stack who got
+  pub told : Tells old.stack new.stack place got
   pub first : FirstAsks wish old.pool.worker new.pool.worker
   pub shorts : SpillsWhenShort old.stack new.stack
   pub few_runs : AddsFewRuns old.stack new.stack
@@ -44,8 +44,8 @@ RefusesAsk old new must wish result = IfNoRoom result new.stack.account (LacksBy
 -- Entries
 
 -- the consumer at a place was fed an entry
-pub record Feeds (old new : Scene) (who : ℕ) (entry : Entry) : Type 0 where
-  pub fed : FedTo old.stack new.stack who entry
+pub record Feeds (old new : Scene) (place : ℕ) (entry : Entry) : Type 0 where
+  pub fed : FedTo old.stack new.stack place entry
   pub charged : new.leasts + cost entry ≤ new.stack.account.held
   pub shorts : SpillsWhenShort old.stack new.stack
   pub few_runs : AddsFewRuns old.stack new.stack
@@ -60,10 +60,10 @@ abbrev pub RefusesEntry : {T : Type 0} → Scene → Scene → Entry → Result 
 RefusesEntry old new entry result = IfNoRoom result new.stack.account (LacksRoom old.stack new.stack entry)
 
 -- the consumer at a place is one of the task's own, and may be fed the entry
-pub record CanFeed (scene : Scene) (who : ℕ) (entry : Entry) : Type 0 where
+pub record CanFeed (scene : Scene) (place : ℕ) (entry : Entry) : Type 0 where
   pub between : IsBetween scene
-  pub pick : IsPick scene.stack.picks who
-  pub formed : IsEntryBy (state_at scene.stack.states who).kind entry
+  pub pick : IsPick scene.stack.picks place
+  pub formed : IsEntryBy (state_at scene.stack.states place).kind entry
 
 -- Bytes beside the consumers
 
@@ -100,12 +100,12 @@ pub record Frees (old new : Scene) : Type 0 where
 -- Runs
 
 -- the consumer at a place was emptied, and these are its runs
-pub record Drains (old new : Scene) (who : ℕ) (taken : List Run) : Type 0 where
-  pub empty : (state_at new.stack.states who).entries ≡ []
+pub record Drains (old new : Scene) (place : ℕ) (taken : List Run) : Type 0 where
+  pub empty : (state_at new.stack.states place).entries ≡ []
   pub kept : (i : ℕ) → i < length old.stack.states → KeepsOne (state_at old.stack.states i) (state_at new.stack.states i)
   pub picks : new.stack.picks ≡ old.stack.picks
   pub bounded : All IsBounded taken
-  pub totals : DrainsTotals old.stack new.stack who taken
-  pub new_files : TakesNew old.stack who taken
-  pub only : AddsOnly old.stack new.stack who taken
+  pub totals : DrainsTotals old.stack new.stack place taken
+  pub new_files : TakesNew old.stack place taken
+  pub only : AddsOnly old.stack new.stack place taken
   pub between : IsBetween new

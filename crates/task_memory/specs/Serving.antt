@@ -21,7 +21,7 @@ abbrev pub RunsGrow : List (List Run) → List (List Run) → Type 0
 RunsGrow runs runs' = (i : ℕ) → IsPrefix (runs_at runs i) (runs_at runs' i)
 
 -- what a spill of one consumer does to the runs: where they stood, they stand, and those that it adds are in files that weren't
--- there; a consumer that wasn't begun gets no run
+-- there; a consumer that wasn't begun, or has no entry in memory, gets no run
 pub record KeepsRuns (files files' : Option Files) (states states' : List State) (runs runs' : List (List Run)) : Type 0 where
   pub lengths : length runs' ≡ length runs
   pub bounded : AreBounded runs → AreBounded runs'
@@ -31,6 +31,7 @@ pub record KeepsRuns (files files' : Option Files) (states states' : List State)
   pub added : AddedAreNew files runs runs'
   pub only : OnlyAdds files files' runs runs'
   pub unbegun : (i : ℕ) → (state_at states i).kind ≡ None → runs_at runs' i ≡ runs_at runs i
+  pub idle : (i : ℕ) → (state_at states i).entries ≡ [] → runs_at runs' i ≡ runs_at runs i
 
 -- a spill of the consumer at a place asks for bytes: it has no run
 pub record AsksAt (files files' : Option Files) (states states' : List State) (runs runs' : List (List Run)) (i before bytes given : ℕ) : Type 0 where
@@ -62,7 +63,7 @@ pub record KeepsOne (old new : State) : Type 0 where
 
 -- what steps keep: the consumers, what was fed to them, the bytes that are held beside theirs, and the outermost ask
 pub record Moves (old new : Stack) : Type 0 where
-  pub members : length new.states ≡ length old.states
+  pub consumers : length new.states ≡ length old.states
   pub picks : new.picks ≡ old.picks
   pub kept : (i : ℕ) → i < length old.states → KeepsOne (state_at old.states i) (state_at new.states i)
   pub runs : KeepsRuns old.files new.files old.states new.states old.runs new.runs

@@ -12,7 +12,7 @@ use Rattle.task_memory.specs.Asks.{ask_at, top_of, pending_of}
 use Rattle.task_memory.specs.RunLists.{lists_of, AreBounded}
 use Rattle.task_memory.specs.Pauses.{IsUnwritten}
 
--- the states of the consumers, a telling disk's files, what the task holds, the places of the task's own consumers among all,
+-- the states of the consumers, a disk's files where it shows them, what the task holds, the places of the task's own consumers among all,
 -- each consumer's runs, which of them rest, the asks in progress, the outermost first, and the greatest number of spills that were
 -- ever in progress at once, each with an ask of its own
 pub record Stack : Type 0 where
@@ -95,16 +95,20 @@ IsNextForTop states resting asks None = (top_of asks).got < (top_of asks).need �
 
 -- the stack of asks
 
+-- each spill in progress is counted: it has an ask of its own, beside the outermost
+abbrev pub IsCounted : Stack → Type 0
+IsCounted scene = length scene.asks ≤ scene.deepest + 1
+
 -- the task's consumers are among all, and the others have no entry in memory
 pub record ArePicks (picks : List ℕ) (states : List State) : Type 0 where
   pub within : (j : ℕ) → j < length picks → slice_index picks j < length states
   pub inert : (i : ℕ) → i < length states → ((j : ℕ) → j < length picks → slice_index picks j ≢ i) → (state_at states i).entries ≡ []
 
 -- a consumer is one of the task's own
-pub record IsPick (picks : List ℕ) (who : ℕ) : Type 0 where
-  pub place : ℕ
-  pub within : place < length picks
-  pub there : slice_index picks place ≡ who
+pub record IsPick (picks : List ℕ) (place : ℕ) : Type 0 where
+  pub consumer : ℕ
+  pub within : consumer < length picks
+  pub there : slice_index picks consumer ≡ place
 
 -- a consumer with an entry in memory was begun
 abbrev pub AreBegun : List State → Type 0
@@ -127,13 +131,13 @@ pub record IsStack (scene : Stack) : Type 0 where
   pub rests : scene.resting ≡ resting_of scene.states
   pub begun : AreBegun scene.states
   pub count : spills_of scene.states + 1 ≡ length scene.asks
-  pub within : (k : ℕ) → 1 ≤ k → k < length scene.asks → (ask_at scene.asks k).consumer < length scene.states
-  pub stands : (k : ℕ) → 1 ≤ k → k < length scene.asks → Stands (state_at scene.states (ask_at scene.asks k).consumer) (ask_at scene.asks k).freed
-  pub apart : (j k : ℕ) → 1 ≤ j → j < k → k < length scene.asks → (ask_at scene.asks j).consumer ≢ (ask_at scene.asks k).consumer
+  pub within : (k : ℕ) → 1 ≤ k → k < length scene.asks → (ask_at scene.asks k).place < length scene.states
+  pub stands : (k : ℕ) → 1 ≤ k → k < length scene.asks → Stands (state_at scene.states (ask_at scene.asks k).place) (ask_at scene.asks k).freed
+  pub apart : (j k : ℕ) → 1 ≤ j → j < k → k < length scene.asks → (ask_at scene.asks j).place ≢ (ask_at scene.asks k).place
   pub needs : (k : ℕ) → k < length scene.asks → (ask_at scene.asks k).need ≤ 2 ^ 50
   pub covered : used_by scene.states + pending_of scene.asks ≤ scene.account.held
   pub small : scene.account.held ≤ 2 ^ 50
-  pub deepest_is : length scene.asks ≤ scene.deepest + 1
+  pub counted : IsCounted scene
   pub shallow : scene.deepest ≤ length scene.states
 
 -- where the innermost ask lacks bytes, the last attempt was granted less than it asked, and less than that ask needs; what is

@@ -15,11 +15,11 @@ use task_pool::Pool;
 /// The memory of a task that has begun and not ended: what it draws bytes from, its consumers and the disk that they
 /// spill to, all lent to it, their runs, and what the task holds. It has to be ended: it can't be dropped.
 ///
-/// `C` is a box of a consumer. `S` is always `Spills`: beside a field that declares a vector, callers would not learn
-/// what is left in the boxes.
+/// `S` is always `Spills`: beside a field that declares a vector, callers would not learn what is left in the
+/// consumers.
 pub struct TaskMemory<'a, C: Consumer, P: Pool, D: Disk, S = Spills> {
     pub(crate) pool: &'a mut P,
-    pub(crate) members: &'a mut [C],
+    pub(crate) consumers: &'a mut [C],
     pub(crate) disk: &'a mut D,
     pub(crate) spills: S,
     pub(crate) leasts: u64,
@@ -153,8 +153,8 @@ impl<'a, C: Consumer, P: Pool, D: Disk> Memory for TaskMemory<'a, C, P, D, Spill
 
     fn used(&mut self, consumer: usize) -> u64 {
         let place = self.spills.picks()[consumer];
-        let members = &mut *self.members;
-        used_at(members, place)
+        let consumers = &mut *self.consumers;
+        used_at(consumers, place)
     }
 
     fn free_leasts(&mut self) -> Result<(), TaskFault> {
@@ -171,7 +171,7 @@ impl<'a, C: Consumer, P: Pool, D: Disk> Memory for TaskMemory<'a, C, P, D, Spill
     }
 
     fn room(&mut self, must: u64, wish: u64) -> Result<u64, TaskFault> {
-        let held = self.leasts + used_in(self.members) + self.roomed;
+        let held = self.leasts + used_in(self.consumers) + self.roomed;
         match acquire_alone(self.pool, must, wish, held) {
             Ok(got) => {
                 self.roomed += got;
@@ -199,7 +199,7 @@ impl<'a, C: Consumer, P: Pool, D: Disk> Memory for TaskMemory<'a, C, P, D, Spill
 }
 
 impl<'a, C: Consumer, P: Pool, D: Disk> TaskMemory<'a, C, P, D, Spills> {
-    ghost use Rattle.std.specs.Prelude.{◌≡◌, [], ℕ, Some, map, slice_get, true};
+    ghost use Rattle.std.specs.Prelude.{◌≡◌, [], ℕ, None, Some, map, slice_get, true};
     ghost use Rattle.task_memory.specs.RunLists.{lists_of, runs_at};
     ghost use Rattle.task_memory.specs.Stacks.{stack_of};
     ghost use Rattle.std.specs.Borrow.{Lends, sem};
@@ -216,15 +216,15 @@ impl<'a, C: Consumer, P: Pool, D: Disk> TaskMemory<'a, C, P, D, Spills> {
     }
 
     /// The memory of a task that was started, with what is lent to it until its end.
-    pub fn over(
+    pub fn of(
         pool: &'a mut P,
-        members: &'a mut [C],
+        consumers: &'a mut [C],
         disk: &'a mut D,
         spills: Spills,
         leasts: u64,
     ) -> TaskMemory<'a, C, P, D, Spills>
         ensures { scene_of C.state P.state D.files D.faults result ≡ record {
-          stack = stack_of (map C.state members.old) (D.files disk.old) (P.state pool.old).account spills;
+          stack = stack_of (map C.state consumers.old) (D.files disk.old) (P.state pool.old).account spills;
           page = spills.page;
           faults = D.faults disk.old;
           pool = P.state pool.old;
@@ -233,14 +233,14 @@ impl<'a, C: Consumer, P: Pool, D: Disk> TaskMemory<'a, C, P, D, Spills> {
           live = true;
           lent = record {
             pool = pool.entry.ghost_name;
-            members = members.entry.ghost_name;
+            consumers = consumers.entry.ghost_name;
             disk = disk.entry.ghost_name;
           };
         } }
     {
         TaskMemory {
             pool,
-            members,
+            consumers,
             disk,
             spills,
             leasts,
@@ -259,19 +259,19 @@ impl<'a, C: Consumer, P: Pool, D: Disk> TaskMemory<'a, C, P, D, Spills> {
         self.disk
     }
 
-    /// Takes the runs that a consumer has, in the order in which they were written; none where there is no such
-    /// consumer. Whoever ends a memory that gave up can remove their files. It takes no memory.
+    /// Takes the runs that a consumer has; none where there is no such consumer.
     pub fn take_left(&mut self, consumer: usize) -> Vec<Run>
         ensures taken { (place : ℕ) → slice_get self.old.spills.picks.items consumer ≡ Some place
             → result.items ≡ runs_at (lists_of self.old.spills.runs.items) place }
+        ensures none { slice_get self.old.spills.picks.items consumer ≡ None → result.items ≡ [] }
         ensures pool { self.new.pool ≡ self.old.pool }
-        ensures members { self.new.members ≡ self.old.members }
+        ensures consumers { self.new.consumers ≡ self.old.consumers }
         ensures disk { self.new.disk ≡ self.old.disk }
         ensures live { self.new.live ≡ self.old.live }
     {
         let place = match self.spills.picks().get(consumer) {
             Some(place) => *place,
-            None => usize::MAX,
+            None => return Vec::new(self.spills.alloc),
         };
         self.spills.take_runs(place)
     }
@@ -279,12 +279,12 @@ impl<'a, C: Consumer, P: Pool, D: Disk> TaskMemory<'a, C, P, D, Spills> {
     /// Gives back what was lent. The task goes on until it is ended.
     pub fn end(self)
         ensures pool { self.exit.0.now ≡ self.entry.pool.now }
-        ensures members { self.exit.1.0.now ≡ self.entry.members.now }
+        ensures consumers { self.exit.1.0.now ≡ self.entry.consumers.now }
         ensures disk { self.exit.1.1.0.now ≡ self.entry.disk.now }
     {
         let TaskMemory {
             pool: _,
-            members: _,
+            consumers: _,
             disk: _,
             spills: _,
             leasts: _,

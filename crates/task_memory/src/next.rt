@@ -15,54 +15,54 @@ use std::alloc::Global;
 use task_pool::{Pool, pools_go_on};
 
 // What the consumer at a place counts with: whoever asks comes last.
-fn use_of<C: Consumer>(members: &[C], asker: usize, i: usize) -> u64
-    requires within { i < length members.now }
-    ensures { result ≡ use_by (map C.state members.now) asker i }
+fn use_of<C: Consumer>(consumers: &[C], asker: usize, place: usize) -> u64
+    requires within { place < length consumers.now }
+    ensures { result ≡ use_by (map C.state consumers.now) asker place }
 {
-    if i == asker {
+    if place == asker {
         return 0;
     }
-    used_at(members, i)
+    used_at(consumers, place)
 }
 
 // Whether the consumer at a place rests and has an entry in memory.
-fn is_candidate<C: Consumer>(members: &[C], resting: &[bool], i: usize) -> bool
-    requires within { i < length members.now }
-    requires flags { length resting.now ≡ length members.now }
-    ensures { result ≡ candidate_by (map C.state members.now) resting.now i }
+fn is_candidate<C: Consumer>(consumers: &[C], resting: &[bool], place: usize) -> bool
+    requires within { place < length consumers.now }
+    requires flags { length resting.now ≡ length consumers.now }
+    ensures { result ≡ candidate_by (map C.state consumers.now) resting.now place }
 {
-    if !resting[i] {
+    if !resting[place] {
         return false;
     }
-    !is_empty_at(members, i)
+    !is_empty_at(consumers, place)
 }
 
 // The consumer to spill for what the asker lacks, by its place. Consumers are numbered as in `picks`: of equal uses
 // the one with the higher number is chosen.
 pub(crate) fn choose_next<C: Consumer>(
     alloc: Global,
-    members: &[C],
+    consumers: &[C],
     picks: &[usize],
     resting: &[bool],
     asker: usize,
     remainder: u64,
 ) -> Result<Option<usize>, Fault>
-    requires picked { ArePicks picks.now (map C.state members.now) }
-    requires flags { length resting.now ≡ length members.now }
-    ensures next { IfOk result (IsNext (map C.state members.now) resting.now) }
-    ensures chosen { IfOk result (IsChoice (map C.state members.now) resting.now picks.now asker remainder) }
+    requires picked { ArePicks picks.now (map C.state consumers.now) }
+    requires flags { length resting.now ≡ length consumers.now }
+    ensures next { IfOk result (IsNext (map C.state consumers.now) resting.now) }
+    ensures chosen { IfOk result (IsChoice (map C.state consumers.now) resting.now picks.now asker remainder) }
 {
     let mut uses = Vec::new(alloc);
     let mut candidates = Vec::new(alloc);
     for j in 0..picks.len() {
-        let used = use_of(members, asker, picks[j]);
-        let candidate = is_candidate(members, resting, picks[j]);
+        let used = use_of(consumers, asker, picks[j]);
+        let candidate = is_candidate(consumers, resting, picks[j]);
         if uses.push(used).is_err() || candidates.push(candidate).is_err() {
             return Err(Fault::NoMemory);
         }
     }
     match choose(&uses, &candidates, remainder) {
-        Some(number) => Ok(Some(picks[number])),
+        Some(consumer) => Ok(Some(picks[consumer])),
         None => Ok(None),
     }
 }
@@ -76,6 +76,7 @@ pub(crate) fn try_pool<P: Pool>(pool: &mut P, asks: &mut Vec<Ask>, want: u64) ->
     requires small { (top_of asks.old.items).got ≤ 2 ^ 50 }
     ensures tries { OnOk result
         (Tries (P.state pool.old).account (P.state pool.new).account asks.old.items asks.new.items want) }
+    ensures kept { length asks.new.items ≡ length asks.old.items }
     ensures first { OnOk result (FirstAsks want (P.state pool.old).worker (P.state pool.new).worker) }
     ensures goes { Goes (P.state pool.old) (P.state pool.new) }
 {
@@ -94,6 +95,7 @@ pub(crate) fn settle<P: Pool>(pool: &mut P, asks: &mut Vec<Ask>, freed: u64) -> 
     requires most { (top_of asks.old.items).need ≤ 2 ^ 50 }
     ensures settles { OnOk result
         (Settles (P.state pool.old).account (P.state pool.new).account asks.old.items asks.new.items freed) }
+    ensures kept { length asks.new.items ≡ length asks.old.items }
     ensures goes { Goes (P.state pool.old) (P.state pool.new) }
 {
     // For the proof: no call is a way to go on, and so are two calls.

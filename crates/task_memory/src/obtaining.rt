@@ -24,9 +24,9 @@ pub(crate) trait Obtaining: Memory {
     // Gets at least `must` bytes for the consumer at a place, with a first attempt for `wish`. While the grants fall
     // short, consumers are spilled one by one, each chosen by what they use then; a spill may ask for bytes itself,
     // which are got in the same way. `NoRoom` where no consumer is left to spill; what was got is then given back.
-    fn obtain(&mut self, consumer: usize, must: u64, wish: u64) -> Result<Obtained, Fault>
+    fn obtain(&mut self, place: usize, must: u64, wish: u64) -> Result<Obtained, Fault>
         requires rests { IsResting (Self.scene self.old) }
-        requires within { consumer < length (Self.scene self.old).stack.states }
+        requires within { place < length (Self.scene self.old).stack.states }
         requires bytes { AreBytes must wish }
         ensures obtains { IfOk result (ObtainsFor (Self.scene self.old) (Self.scene self.new) must wish) }
         ensures goes { GoesOn (Self.scene self.old) (Self.scene self.new) }
@@ -44,18 +44,18 @@ pub(crate) trait Obtaining: Memory {
 }
 
 impl<'a, C: Consumer, P: Pool, D: Disk> Obtaining for TaskMemory<'a, C, P, D, Spills> {
-    fn obtain(&mut self, consumer: usize, must: u64, wish: u64) -> Result<Obtained, Fault> {
+    fn obtain(&mut self, place: usize, must: u64, wish: u64) -> Result<Obtained, Fault> {
         // For the proof: scenes that go on one behind the other go on.
         scenes_go_on();
         // For the proof: no call is a way to go on, and so are two calls.
         task_pool::pools_go_on();
         let ask = Ask {
-            consumer,
+            place,
             need: must,
             got: 0,
             freed: 0,
         };
-        let Ok(()) = self.spills.open(self.members.len(), ask) else {
+        let Ok(()) = self.spills.open(self.consumers.len(), ask) else {
             return Err(Fault::NoMemory);
         };
         let Ok(()) = try_pool(self.pool, &mut self.spills.asks, wish) else {
@@ -78,12 +78,12 @@ impl<'a, C: Consumer, P: Pool, D: Disk> Obtaining for TaskMemory<'a, C, P, D, Sp
     fn acquire_at(&mut self, place: usize, must: u64, wish: u64) -> Result<u64, TaskFault> {
         match self.obtain(place, must, wish) {
             Ok(Obtained::Got(got)) => {
-                grant_at(self.members, place, got);
+                grant_at(self.consumers, place, got);
                 Ok(got)
             }
             Ok(Obtained::NoRoom) => Err(TaskFault::NoRoom {
                 asked: must,
-                held: self.leasts + used_in(self.members) + self.roomed,
+                held: self.leasts + used_in(self.consumers) + self.roomed,
                 floor: self.pool.floor(),
             }),
             Err(fault) => Err(refused_by(fault)),

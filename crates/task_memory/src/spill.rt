@@ -1,6 +1,6 @@
 //! One spill, from where it stands until it asks for bytes or ends.
 
-ghost use Rattle.std.specs.Prelude.{◌≡◌, ◌+◌, ◌≤◌, ◌<◌, ◌^◌, ◌++◌, ◌∷◌, [], IsSome, IfOk, OnOk, OnErr, length, map, slice_set};
+ghost use Rattle.std.specs.Prelude.{◌≡◌, ◌≢◌, ◌+◌, ◌≤◌, ◌<◌, ◌^◌, ◌++◌, ◌∷◌, [], IsSome, IfOk, OnOk, OnErr, length, map, slice_set};
 ghost use Rattle.fault_count.specs.Faults.{HasCauseAt};
 ghost use Rattle.task_memory.specs.Disks.{LeavesDisk};
 ghost use Rattle.task_memory.specs.Ending.{runs_after};
@@ -77,55 +77,56 @@ fn finished(writer: Option<RunWriter>) -> Option<Run>
 }
 
 // Puts a run behind those of the consumer at a place.
-fn add_run(runs: &mut Vec<Vec<Run>>, i: usize, run: Run) -> Result<(), AllocError>
-    requires within { i < length runs.old.items }
+fn add_run(runs: &mut Vec<Vec<Run>>, place: usize, run: Run) -> Result<(), AllocError>
+    requires within { place < length runs.old.items }
     ensures ok { OnOk result (lists_of runs.new.items
-        ≡ slice_set (lists_of runs.old.items) i (runs_at (lists_of runs.old.items) i ++ run ∷ [])) }
+        ≡ slice_set (lists_of runs.old.items) place (runs_at (lists_of runs.old.items) place ++ run ∷ [])) }
     ensures err { OnErr result (lists_of runs.new.items ≡ lists_of runs.old.items) }
 {
-    runs[i].push(run)?;
+    runs[place].push(run)?;
     Ok(())
 }
 
 // The same for the run of a spill that ended, if it has one.
-fn keep_run(runs: &mut Vec<Vec<Run>>, i: usize, pause: Pause) -> Result<(), AllocError>
-    requires within { i < length runs.old.items }
-    ensures { OnOk result (lists_of runs.new.items ≡ runs_after (lists_of runs.old.items) i pause) }
+fn keep_run(runs: &mut Vec<Vec<Run>>, place: usize, pause: Pause) -> Result<(), AllocError>
+    requires within { place < length runs.old.items }
+    ensures { OnOk result (lists_of runs.new.items ≡ runs_after (lists_of runs.old.items) place pause) }
 {
     match pause {
         Pause::Ended {
             freed: _,
             run: Some(run),
-        } => add_run(runs, i, run),
+        } => add_run(runs, place, run),
         _ => Ok(()),
     }
 }
 
 // Goes on with the spill of the consumer at a place, whose run is put behind those that it has.
 pub(crate) fn spill_at<C: Consumer, D: Disk>(
-    members: &mut [C],
+    consumers: &mut [C],
     disk: &mut D,
     runs: &mut Vec<Vec<Run>>,
     page: &mut Page,
-    i: usize,
+    place: usize,
     before: u64,
 ) -> Result<Pause, Fault>
-    requires within { i < length members.old }
-    requires lengths { length runs.old.items ≡ length members.old }
-    requires kind { IsSome (state_at (map C.state members.old) i).kind }
+    requires within { place < length consumers.old }
+    requires lengths { length runs.old.items ≡ length consumers.old }
+    requires kind { IsSome (state_at (map C.state consumers.old) place).kind }
+    requires some { (state_at (map C.state consumers.old) place).entries ≢ [] }
     requires page { page.old ≡ record { rows = []; room = 262144 } }
-    requires start { IsUnwritten (state_at (map C.state members.old) i) before }
-    requires small { before + (state_at (map C.state members.old) i).used ≤ 2 ^ 50 }
+    requires start { IsUnwritten (state_at (map C.state consumers.old) place) before }
+    requires small { before + (state_at (map C.state consumers.old) place).used ≤ 2 ^ 50 }
     ensures spill { IfOk result
-        (SpillsAt (D.files disk.old) (D.files disk.new) (map C.state members.old) (map C.state members.new)
-        (lists_of runs.old.items) (lists_of runs.new.items) i before) }
+        (SpillsAt (D.files disk.old) (D.files disk.new) (map C.state consumers.old) (map C.state consumers.new)
+        (lists_of runs.old.items) (lists_of runs.new.items) place before) }
     ensures page { IfOk result (λ _. page.new ≡ record { rows = []; room = 262144 }) }
-    ensures same { AllSame (map C.state members.old) (map C.state members.new) }
+    ensures same { AllSame (map C.state consumers.old) (map C.state consumers.new) }
     ensures disk { LeavesDisk (D.files disk.old) (D.files disk.new) (D.faults disk.old) (D.faults disk.new) }
     ensures cause { HasCauseAt Fault.DiskFault (D.faults disk.old) (D.faults disk.new) result }
 {
-    let pause = run_spill(&mut members[i], disk, page, before)?;
-    match keep_run(runs, i, pause) {
+    let pause = run_spill(&mut consumers[place], disk, page, before)?;
+    match keep_run(runs, place, pause) {
         Ok(()) => Ok(pause),
         Err(_) => Err(Fault::NoMemory),
     }

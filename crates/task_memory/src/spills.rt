@@ -1,6 +1,6 @@
 //! What is kept of a task's spills.
 
-ghost use Rattle.std.specs.Prelude.{◌≡◌, ◌<◌, [], length, true, IfOk, OnOk, replicate, slice_set};
+ghost use Rattle.std.specs.Prelude.{◌≡◌, ◌≤◌, ◌<◌, [], length, true, IfOk, OnOk, replicate, slice_set};
 ghost use Rattle.task_memory.specs.Asking.{Opens};
 ghost use Rattle.task_memory.specs.RunLists.{lists_of, runs_at};
 
@@ -31,6 +31,7 @@ impl Spills {
         ensures picks { IfOk result (λ spills. spills.picks.items ≡ picks.now) }
         ensures runs { IfOk result (λ spills. lists_of spills.runs.items ≡ replicate count []) }
         ensures page { IfOk result (λ spills. spills.page ≡ record { rows = []; room = 262144 }) }
+        ensures asks { IfOk result (λ spills. spills.asks.items ≡ []) }
         ensures deepest { IfOk result (λ spills. spills.deepest ≡ 0) }
     {
         let mut places = Vec::new(alloc);
@@ -59,22 +60,25 @@ impl Spills {
 
     /// Takes the runs of the consumer at a place, in the order in which they were written; none where there is no such
     /// place. It takes no memory.
-    pub(crate) fn take_runs(&mut self, i: usize) -> Vec<Run>
-        ensures taken { result.items ≡ runs_at (lists_of self.old.runs.items) i }
-        ensures runs { lists_of self.new.runs.items ≡ slice_set (lists_of self.old.runs.items) i [] }
+    pub(crate) fn take_runs(&mut self, place: usize) -> Vec<Run>
+        ensures taken { result.items ≡ runs_at (lists_of self.old.runs.items) place }
+        ensures runs { lists_of self.new.runs.items ≡ slice_set (lists_of self.old.runs.items) place [] }
         ensures picks { self.new.picks ≡ self.old.picks }
+        ensures asks { self.new.asks ≡ self.old.asks }
         ensures page { self.new.page ≡ self.old.page }
         ensures deepest { self.new.deepest ≡ self.old.deepest }
     {
-        if i >= self.runs.len() {
+        if place >= self.runs.len() {
             return Vec::new(self.alloc);
         }
-        mem::replace(&mut self.runs[i], Vec::new(self.alloc))
+        mem::replace(&mut self.runs[place], Vec::new(self.alloc))
     }
 
     // Makes the stack that of one ask, where all `count` consumers rest.
     pub(crate) fn open(&mut self, count: usize, ask: Ask) -> Result<(), Fault>
         ensures opens { OnOk result (Opens count ask self.old self.new) }
+        ensures few { length self.new.asks.items ≤ 1 }
+        ensures deepest { self.new.deepest ≡ self.old.deepest }
         ensures page { self.new.page ≡ self.old.page }
     {
         self.resting.clear();

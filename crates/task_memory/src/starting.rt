@@ -31,17 +31,17 @@ pub struct Started {
 
 // Gets the leasts of the consumers at these places, one by one, and answers their sum.
 fn take_leasts<C: Consumer, P: Pool>(
-    members: &[C],
+    consumers: &[C],
     pool: &mut P,
     picks: &[usize],
 ) -> Result<u64, TaskFault>
     requires at_work { IsAtWork (P.state pool.old) }
     requires nothing { (P.state pool.old).account.held ≡ 0 }
-    requires within { (j : ℕ) → j < length picks.now → slice_index picks.now j < length members.now }
+    requires within { (j : ℕ) → j < length picks.now → slice_index picks.now j < length consumers.now }
     ensures takes { IfOk result
-        (TakesLeasts (P.state pool.new).account (leasts_of picks.now (map C.state members.now))) }
+        (TakesLeasts (P.state pool.new).account (leasts_of picks.now (map C.state consumers.now))) }
     ensures no_room { IfNoRoom result (P.state pool.new).account
-        (IsLeastLacking (P.state pool.new).account (leasts_of picks.now (map C.state members.now))) }
+        (IsLeastLacking (P.state pool.new).account (leasts_of picks.now (map C.state consumers.now))) }
     ensures no_disk { (faults : ℕ) → HasCauseAt TaskFault.DiskFault faults faults result }
     ensures goes { Goes (P.state pool.old) (P.state pool.new) }
 {
@@ -49,7 +49,7 @@ fn take_leasts<C: Consumer, P: Pool>(
     pools_go_on();
     let mut sum: u64 = 0;
     for j in 0..picks.len() {
-        let least = least_at(members, picks[j]);
+        let least = least_at(consumers, picks[j]);
         // A least of 0 isn't asked for.
         if least > 0 {
             sum += acquire_alone(pool, least, least, sum)?;
@@ -58,40 +58,41 @@ fn take_leasts<C: Consumer, P: Pool>(
     Ok(sum)
 }
 
-/// Makes a task that holds nothing ready. All members are reset, and those at `picks` are begun, each with its kind:
-/// they are the task's consumers, in this order. Their leasts are got at once, each by one attempt: `NoRoom` where one
-/// isn't granted whole. After an `Err` the task holds what it got until it is ended, and the members can be begun again.
+/// Makes a task that holds nothing ready. All consumers are reset, and those at `picks` are begun, each with its kind:
+/// they are the task's own, in this order. Their leasts are got at once, each by one attempt: `NoRoom` where one isn't
+/// granted whole. After an `Err` the task holds what it got until it is ended, and the consumers can be begun again.
 pub fn start<C: Consumer, P: Pool>(
     alloc: Global,
     pool: &mut P,
-    members: &mut [C],
+    consumers: &mut [C],
     picks: &[usize],
     kinds: &[Kind],
 ) -> Result<Started, TaskFault>
     requires at_work { IsAtWork (P.state pool.old) }
     requires nothing { (P.state pool.old).account.held ≡ 0 }
-    requires places { ArePlaces picks.now kinds.now (map C.state members.old) }
+    requires places { ArePlaces picks.now kinds.now (map C.state consumers.old) }
     ensures live { IfOk result (λ started. (files : Option Files) (faults : ℕ) → IsLive
-        (begun_scene (map C.state members.new) (P.state pool.new) files faults started.spills started.leasts)) }
+        (begun_scene (map C.state consumers.new) (P.state pool.new) files faults started.spills started.leasts)) }
     ensures picks { IfOk result (λ started. started.spills.picks.items ≡ picks.now) }
-    ensures runs { IfOk result (λ started. lists_of started.spills.runs.items ≡ replicate (length members.old) []) }
-    ensures begun { IfOk result (λ _. Begins picks.now kinds.now (map C.state members.old) (map C.state members.new)) }
+    ensures runs { IfOk result (λ started. lists_of started.spills.runs.items ≡ replicate (length consumers.old) []) }
+    ensures begun { IfOk result
+        (λ _. Begins picks.now kinds.now (map C.state consumers.old) (map C.state consumers.new)) }
     ensures no_room { IfNoRoom result (P.state pool.new).account
         (CannotStart (P.state pool.new).account
-        (leasts_of picks.now (map C.state members.old)) (map C.state members.new)) }
+        (leasts_of picks.now (map C.state consumers.old)) (map C.state consumers.new)) }
     ensures no_disk { (faults : ℕ) → HasCauseAt TaskFault.DiskFault faults faults result }
-    ensures alike { AreAlike (map C.state members.old) (map C.state members.new) }
+    ensures alike { AreAlike (map C.state consumers.old) (map C.state consumers.new) }
     ensures goes { Goes (P.state pool.old) (P.state pool.new) }
 {
     // For the proof: no call is a way to go on, and so are two calls.
     pools_go_on();
-    let Ok(()) = begin_all(members, picks, kinds) else {
+    let Ok(()) = begin_all(consumers, picks, kinds) else {
         return Err(TaskFault::NoMemory);
     };
-    let Ok(spills) = Spills::new(alloc, picks, members.len()) else {
+    let Ok(spills) = Spills::new(alloc, picks, consumers.len()) else {
         return Err(TaskFault::NoMemory);
     };
-    match take_leasts(members, pool, picks) {
+    match take_leasts(consumers, pool, picks) {
         Ok(leasts) => Ok(Started { spills, leasts }),
         Err(fault) => Err(fault),
     }

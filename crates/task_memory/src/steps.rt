@@ -29,10 +29,10 @@ pub(crate) trait Serving: Memory {
     ghost use Rattle.task_memory.specs.Inner.{CanSpill, IsStanding, ServesOn, StepsIf, StepsOn};
     ghost use Rattle.task_memory.specs.Scenes.{GoesOn};
 
-    // Begins a spill of the consumer `next` for the innermost ask. It ends, or asks for bytes itself.
-    fn spill_next(&mut self, next: usize) -> Result<(), Fault>
+    // Begins a spill of the consumer at a place for the innermost ask. It ends, or asks for bytes itself.
+    fn spill_next(&mut self, place: usize) -> Result<(), Fault>
         requires stands { IsStanding (Self.scene self.old) }
-        requires next { CanSpill (Self.scene self.old) next }
+        requires candidate { CanSpill (Self.scene self.old) place }
         ensures steps { OnOk result (StepsOn (Self.scene self.old) (Self.scene self.new)) }
         ensures few_runs { OnOk result (AddsRunsWithin 1 (Self.scene self.old).stack (Self.scene self.new).stack) }
         ensures goes { GoesOn (Self.scene self.old) (Self.scene self.new) }
@@ -68,22 +68,22 @@ pub(crate) trait Serving: Memory {
 }
 
 impl<'a, C: Consumer, P: Pool, D: Disk> Serving for TaskMemory<'a, C, P, D, Spills> {
-    fn spill_next(&mut self, next: usize) -> Result<(), Fault> {
+    fn spill_next(&mut self, place: usize) -> Result<(), Fault> {
         // For the proof: no call is a way to go on, and so are two calls.
         task_pool::pools_go_on();
         match spill_at(
-            self.members,
+            self.consumers,
             self.disk,
             &mut self.spills.runs,
             &mut self.spills.page,
-            next,
+            place,
             0,
         )? {
             Pause::Asks { bytes, freed } => {
-                self.spills.resting[next] = false;
+                self.spills.resting[place] = false;
                 self.spills.deepest = self.spills.deepest.max(self.spills.asks.len());
                 let ask = Ask {
-                    consumer: next,
+                    place,
                     need: bytes,
                     got: 0,
                     freed,
@@ -109,18 +109,18 @@ impl<'a, C: Consumer, P: Pool, D: Disk> Serving for TaskMemory<'a, C, P, D, Spil
         // For the proof: no call is a way to go on, and so are two calls.
         task_pool::pools_go_on();
         let top = self.spills.asks[self.spills.asks.len() - 1];
-        grant_at(self.members, top.consumer, top.got);
+        grant_at(self.consumers, top.place, top.got);
         match spill_at(
-            self.members,
+            self.consumers,
             self.disk,
             &mut self.spills.runs,
             &mut self.spills.page,
-            top.consumer,
+            top.place,
             top.freed,
         )? {
             Pause::Asks { bytes: _, freed: _ } => unreachable!(),
             Pause::Ended { freed, run: _ } => {
-                self.spills.resting[top.consumer] = true;
+                self.spills.resting[top.place] = true;
                 self.spills.asks.truncate(self.spills.asks.len() - 1);
                 match settle(self.pool, &mut self.spills.asks, freed) {
                     Ok(()) => Ok(()),
@@ -133,10 +133,10 @@ impl<'a, C: Consumer, P: Pool, D: Disk> Serving for TaskMemory<'a, C, P, D, Spil
     fn step(&mut self) -> Result<bool, Fault> {
         // For the proof: scenes that go on one behind the other go on.
         scenes_go_on();
-        let members = &mut *self.members;
-        match next_for_top(members, &self.spills) {
-            Ok(Some(next)) => {
-                self.spill_next(next)?;
+        let consumers = &mut *self.consumers;
+        match next_for_top(consumers, &self.spills) {
+            Ok(Some(place)) => {
+                self.spill_next(place)?;
                 Ok(true)
             }
             Ok(None) => {
@@ -162,13 +162,14 @@ impl<'a, C: Consumer, P: Pool, D: Disk> Serving for TaskMemory<'a, C, P, D, Spil
 }
 
 // The consumer to spill for the innermost ask, if it lacks bytes.
-fn next_for_top<C: Consumer>(members: &[C], spills: &Spills) -> Result<Option<usize>, Fault>
+fn next_for_top<C: Consumer>(consumers: &[C], spills: &Spills) -> Result<Option<usize>, Fault>
     requires some { 1 ≤ length spills.now.asks.items }
-    requires flags { length spills.now.resting.items ≡ length members.now }
-    requires picked { ArePicks spills.now.picks.items (map C.state members.now) }
-    ensures next { IfOk result (IsNextForTop (map C.state members.now) spills.now.resting.items spills.now.asks.items) }
+    requires flags { length spills.now.resting.items ≡ length consumers.now }
+    requires picked { ArePicks spills.now.picks.items (map C.state consumers.now) }
+    ensures next { IfOk result
+        (IsNextForTop (map C.state consumers.now) spills.now.resting.items spills.now.asks.items) }
     ensures chosen { IfOk result
-        (IsChoiceForTop (map C.state members.now) spills.now.resting.items
+        (IsChoiceForTop (map C.state consumers.now) spills.now.resting.items
         spills.now.picks.items spills.now.asks.items) }
 {
     let top = spills.asks[spills.asks.len() - 1];
@@ -177,10 +178,10 @@ fn next_for_top<C: Consumer>(members: &[C], spills: &Spills) -> Result<Option<us
     }
     choose_next(
         spills.alloc,
-        members,
+        consumers,
         &spills.picks,
         &spills.resting,
-        top.consumer,
+        top.place,
         top.need - top.got,
     )
 }

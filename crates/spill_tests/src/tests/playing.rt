@@ -106,7 +106,7 @@ fn live_over<C: Consumer, P: Pool, D: Disk>(
     ensures goes { Goes (P.state pool.old) (P.state pool.new) }
 {
     let count = picks.len();
-    let mut memory = TaskMemory::over(pool, boxes, disk, started.spills, started.leasts);
+    let mut memory = TaskMemory::of(pool, boxes, disk, started.spills, started.leasts);
     let outcome = take_all(&mut memory, picks, count, steps, answers);
     let live = memory.live();
     let taken = note_left(&mut memory, count, &mut answers.runs);

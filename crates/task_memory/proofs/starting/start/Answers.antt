@@ -12,10 +12,10 @@ returns-in-Ok-take_leasts-clause-live g c = λ files faults.
     let state_of = g.C.Consumer.state in
     let leasts = c.in-Ok-take_leasts.ensures.takes in
     let account = (g.P.Pool.state c.take_leasts.new.pool).account in
-    let started : IsStarted (stack_of (map state_of c.begin_all.new.members) files account c.in-Ok-new.spills) c.in-Ok-take_leasts.leasts =
-    started_between c.args.picks.now c.args.kinds.now (map state_of c.args.members.now) (map state_of c.begin_all.new.members) files account
-    c.in-Ok-new.spills c.in-Ok-take_leasts.leasts (length c.begin_all.new.members) c.requires.places c.in-Ok.ensures.ok c.in-Ok-new.ensures.picks c.in-Ok-new.ensures.runs c.in-Ok-new.ensures.deepest
-    (sym (length-map c.begin_all.new.members state_of)) leasts.holds leasts.small in
+    let started : IsStarted (stack_of (map state_of c.begin_all.new.consumers) files account c.in-Ok-new.spills) c.in-Ok-take_leasts.leasts =
+    started_between c.args.picks.now c.args.kinds.now (map state_of c.args.consumers.now) (map state_of c.begin_all.new.consumers) files account
+    c.in-Ok-new.spills c.in-Ok-take_leasts.leasts (length c.begin_all.new.consumers) c.requires.places c.in-Ok.ensures.ok c.in-Ok-new.ensures.picks c.in-Ok-new.ensures.runs c.in-Ok-new.ensures.deepest c.in-Ok-new.ensures.asks
+    (sym (length-map c.begin_all.new.consumers state_of)) leasts.holds leasts.small in
     record {
       between = record {
         rests = record { ready = started.ready; page = c.in-Ok-new.ensures.page; at_work = c.take_leasts.ensures.goes.at_work };
@@ -27,8 +27,8 @@ returns-in-Ok-take_leasts-clause-live g c = λ files faults.
 
 pub returns-in-Err-clause-no_room : goal.returns-in-Err-clause-no_room
 returns-in-Err-clause-no_room g c =
-    let before = map g.C.Consumer.state c.args.members.now in
-    let after = map g.C.Consumer.state c.begin_all.new.members in
+    let before = map g.C.Consumer.state c.args.consumers.now in
+    let after = map g.C.Consumer.state c.begin_all.new.consumers in
     let account = (g.P.Pool.state c.take_leasts.new.pool).account in
     let begins = c.in-Ok.ensures.ok in
     let leasts = leasts_kept c.args.picks.now c.args.kinds.now before after begins in

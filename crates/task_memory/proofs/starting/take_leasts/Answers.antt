@@ -10,7 +10,7 @@ use Rattle.task_memory.proofs.starting.take_leasts.Goals as goal
 pub returns-in_err-sum-clause-no_room : goal.returns-in_err-sum-clause-no_room
 returns-in_err-sum-clause-no_room g c =
     let so_far = c.loop-j.invariant in
-    let states = map g.C.Consumer.state c.args.members.now in
+    let states = map g.C.Consumer.state c.args.consumers.now in
     let before : Held = (g.P.Pool.state c.loop-j.pool).account in
     let after : Held = (g.P.Pool.state c.acquire_alone.new.pool).account in
     let total : before.held ≡ leasts_of (take c.loop-j.j c.args.picks.now) states = omega (arith, so_far.holds, so_far.sum) in
@@ -21,7 +21,7 @@ returns-in_err-sum-clause-no_room g c =
 pub loop-j-preserved : goal.loop-j-preserved
 loop-j-preserved g c =
     let so_far = c.loop-j.invariant in
-    let states = map g.C.Consumer.state c.args.members.now in
+    let states = map g.C.Consumer.state c.args.consumers.now in
     let more = leasts_more c.args.picks.now states c.loop-j.j c.loop-j-test.true in
     let least = c.least_at-least.ensures.value in
     elim c.if-least-gt0.branch [

@@ -12,7 +12,7 @@ pub returns-clause-drains : goal.returns-clause-drains
 returns-clause-drains g c =
     let old : Scene = scene_of g.C.Consumer.state g.P.Pool.state g.D.Disk.files g.D.Disk.faults c.args.self.now in
     let new : Scene = scene_of g.C.Consumer.state g.P.Pool.state g.D.Disk.files g.D.Disk.faults c.drain_at-result.new.self in
-    let who : ℕ = place_in old c.args.consumer in
-    let drains : IfOk c.drain_at-result.result (λ runs. Drains old new who runs.items) = rw c.picks.ensures at c.drain_at-result.ensures.drains in
-    IfOk-weaker c.drain_at-result.result (λ (runs : Vec Run). Drains old new who runs.items) (λ (runs : Vec Run). Drains old (record new { live = c.is_ok-self.result }) who runs.items)
-    (λ runs drained. drains_live old new who runs.items c.is_ok-self.result drained) drains
+    let place : ℕ = place_in old c.args.consumer in
+    let drains : IfOk c.drain_at-result.result (λ runs. Drains old new place runs.items) = rw c.picks.ensures at c.drain_at-result.ensures.drains in
+    IfOk-weaker c.drain_at-result.result (λ (runs : Vec Run). Drains old new place runs.items) (λ (runs : Vec Run). Drains old (record new { live = c.is_ok-self.result }) place runs.items)
+    (λ runs drained. drains_live old new place runs.items c.is_ok-self.result drained) drains

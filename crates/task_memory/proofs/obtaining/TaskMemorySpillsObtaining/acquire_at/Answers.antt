@@ -8,10 +8,10 @@ use Rattle.task_memory.proofs.obtaining.TaskMemorySpillsObtaining.acquire_at.Goa
 
 pub returns-in-Ok-Got-clause-acquires : goal.returns-in-Ok-Got-clause-acquires
 returns-in-Ok-Got-clause-acquires g c =
-    let members = c.args.self.now.members.now in
+    let consumers = c.args.self.now.consumers.now in
     let old : Scene = scene_of g.C.Consumer.state g.P.Pool.state g.D.Disk.files g.D.Disk.faults c.args.self.now in
     let mid : Scene = scene_of g.C.Consumer.state g.P.Pool.state g.D.Disk.files g.D.Disk.faults c.obtain.new.self in
-    let new : Scene = scene_of g.C.Consumer.state g.P.Pool.state g.D.Disk.files g.D.Disk.faults (record c.obtain.new.self { members = record c.obtain.new.self.members { now = c.grant_at.new.members } }) in
+    let new : Scene = scene_of g.C.Consumer.state g.P.Pool.state g.D.Disk.files g.D.Disk.faults (record c.obtain.new.self { consumers = record c.obtain.new.self.consumers { now = c.grant_at.new.members } }) in
     let within : c.args.place < length old.stack.states = c.requires.within in
     let came = c.in-Ok-Got.ensures.obtains in
     let obtains = rw c.in-Ok-Got.field-0-is at came.obtains in

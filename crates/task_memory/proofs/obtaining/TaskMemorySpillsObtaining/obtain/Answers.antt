@@ -21,12 +21,12 @@ use Rattle.task_memory.proofs.obtaining.TaskMemorySpillsObtaining.obtain.Goals a
 pub serve-requires-clause-stands : goal.serve-requires-clause-stands
 serve-requires-clause-stands g c =
     let self = c.args.self.now in
-    let ask : Ask = record { consumer = c.args.consumer; need = c.args.must; got = 0; freed = 0 } in
-    let count : length self.members.now ≡ length (map g.C.Consumer.state self.members.now) = sym (length-map self.members.now g.C.Consumer.state) in
+    let ask : Ask = record { place = c.args.place; need = c.args.must; got = 0; freed = 0 } in
+    let count : length self.consumers.now ≡ length (map g.C.Consumer.state self.consumers.now) = sym (length-map self.consumers.now g.C.Consumer.state) in
     let fresh : IsNewAsk ask = record { got = refl; freed = refl; need = omega (arith, c.requires.bytes.ordered, c.requires.bytes.most) } in
     let tried : Spills = record c.open.new.self { asks = c.try_pool.new.asks } in
     let ready : Stack = (scene_of g.C.Consumer.state g.P.Pool.state g.D.Disk.files g.D.Disk.faults self).stack in
-    let begun : IsBegun (single ready ask) (stack_of (map g.C.Consumer.state self.members.now) (g.D.Disk.files self.disk.now) (g.P.Pool.state c.try_pool.new.pool).account tried) =
+    let begun : IsBegun (single ready ask) (stack_of (map g.C.Consumer.state self.consumers.now) (g.D.Disk.files self.disk.now) (g.P.Pool.state c.try_pool.new.pool).account tried) =
     begun_is _ _ _ _ self.spills c.open.new.self tried _ ask c.args.wish c.requires.rests.ready fresh count c.in-Ok.ensures.opens refl refl refl refl c.in-Ok-try_pool.ensures.tries c.requires.bytes.ordered c.requires.bytes.some in
     record {
       stack = begun.stack;
@@ -37,12 +37,12 @@ serve-requires-clause-stands g c =
 pub returns-then-got-must-clause-obtains : goal.returns-then-got-must-clause-obtains
 returns-then-got-must-clause-obtains g c =
     let self = c.args.self.now in
-    let ask : Ask = record { consumer = c.args.consumer; need = c.args.must; got = 0; freed = 0 } in
-    let count : length self.members.now ≡ length (map g.C.Consumer.state self.members.now) = sym (length-map self.members.now g.C.Consumer.state) in
+    let ask : Ask = record { place = c.args.place; need = c.args.must; got = 0; freed = 0 } in
+    let count : length self.consumers.now ≡ length (map g.C.Consumer.state self.consumers.now) = sym (length-map self.consumers.now g.C.Consumer.state) in
     let fresh : IsNewAsk ask = record { got = refl; freed = refl; need = omega (arith, c.requires.bytes.ordered, c.requires.bytes.most) } in
     let tried : Spills = record c.open.new.self { asks = c.try_pool.new.asks } in
     let ready : Stack = (scene_of g.C.Consumer.state g.P.Pool.state g.D.Disk.files g.D.Disk.faults self).stack in
-    let begun : IsBegun (single ready ask) (stack_of (map g.C.Consumer.state self.members.now) (g.D.Disk.files self.disk.now) (g.P.Pool.state c.try_pool.new.pool).account tried) =
+    let begun : IsBegun (single ready ask) (stack_of (map g.C.Consumer.state self.consumers.now) (g.D.Disk.files self.disk.now) (g.P.Pool.state c.try_pool.new.pool).account tried) =
     begun_is _ _ _ _ self.spills c.open.new.self tried _ ask c.args.wish c.requires.rests.ready fresh count c.in-Ok.ensures.opens refl refl refl refl c.in-Ok-try_pool.ensures.tries c.requires.bytes.ordered c.requires.bytes.some in
     let page : c.open.new.self.page ≡ record { rows = []; room = 262144 } = c.open.ensures.page ∙ c.requires.rests.page in
     let served : Stack = (scene_of g.C.Consumer.state g.P.Pool.state g.D.Disk.files g.D.Disk.faults c.if-index-must.self).stack in
@@ -75,8 +75,8 @@ returns-then-got-must-clause-obtains g c =
     subst (λ (each : List Ask). Tries ready.account (g.P.Pool.state c.try_pool.new.pool).account each c.try_pool.new.asks.items c.args.wish) c.in-Ok.ensures.opens.asks c.in-Ok-try_pool.ensures.tries in
     let counted = tries_counted ready.account (g.P.Pool.state c.try_pool.new.pool).account (ask ∷ []) c.try_pool.new.asks.items c.args.wish (omega arith) (omega (arith, c.requires.bytes.ordered)) tries in
     let few_runs : AddsFewRuns ready served = elim c.if-index-must.branch [
-      | then-index-must+in_ok-serve w ↦ rw w.self-is (few_served ready (stack_of (map g.C.Consumer.state self.members.now) (g.D.Disk.files self.disk.now) (g.P.Pool.state c.try_pool.new.pool).account tried) (scene_of g.C.Consumer.state g.P.Pool.state g.D.Disk.files g.D.Disk.faults w.serve.new.self).stack ask opened_runs counted w.in_ok-serve.ensures.few_runs w.in_ok-serve.ensures.serves.serves.served.single)
-      | else-index-must w ↦ rw w.self-is (few_at_once ready (stack_of (map g.C.Consumer.state self.members.now) (g.D.Disk.files self.disk.now) (g.P.Pool.state c.try_pool.new.pool).account tried) opened_runs tries.grants.counts)
+      | then-index-must+in_ok-serve w ↦ rw w.self-is (few_served ready (stack_of (map g.C.Consumer.state self.consumers.now) (g.D.Disk.files self.disk.now) (g.P.Pool.state c.try_pool.new.pool).account tried) (scene_of g.C.Consumer.state g.P.Pool.state g.D.Disk.files g.D.Disk.faults w.serve.new.self).stack ask opened_runs counted w.in_ok-serve.ensures.few_runs w.in_ok-serve.ensures.serves.serves.served.single)
+      | else-index-must w ↦ rw w.self-is (few_at_once ready (stack_of (map g.C.Consumer.state self.consumers.now) (g.D.Disk.files self.disk.now) (g.P.Pool.state c.try_pool.new.pool).account tried) opened_runs tries.grants.counts)
     ] in
     let first_asks : FirstAsks c.args.wish (g.P.Pool.state self.pool.now).worker (g.P.Pool.state c.if-index-must.self.pool.now).worker = elim c.if-index-must.branch [
       | then-index-must+in_ok-serve w ↦ rw w.self-is (c.pools_go_on.ensures.asks c.args.wish (g.P.Pool.state self.pool.now) (g.P.Pool.state c.try_pool.new.pool) (g.P.Pool.state w.serve.new.self.pool.now) c.in-Ok-try_pool.ensures.first w.serve.ensures.goes.pool)
@@ -102,12 +102,12 @@ returns-then-got-must-clause-obtains g c =
 pub returns-in-Ok-release-clause-obtains : goal.returns-in-Ok-release-clause-obtains
 returns-in-Ok-release-clause-obtains g c =
     let self = c.args.self.now in
-    let ask : Ask = record { consumer = c.args.consumer; need = c.args.must; got = 0; freed = 0 } in
-    let count : length self.members.now ≡ length (map g.C.Consumer.state self.members.now) = sym (length-map self.members.now g.C.Consumer.state) in
+    let ask : Ask = record { place = c.args.place; need = c.args.must; got = 0; freed = 0 } in
+    let count : length self.consumers.now ≡ length (map g.C.Consumer.state self.consumers.now) = sym (length-map self.consumers.now g.C.Consumer.state) in
     let fresh : IsNewAsk ask = record { got = refl; freed = refl; need = omega (arith, c.requires.bytes.ordered, c.requires.bytes.most) } in
     let tried : Spills = record c.open.new.self { asks = c.try_pool.new.asks } in
     let ready : Stack = (scene_of g.C.Consumer.state g.P.Pool.state g.D.Disk.files g.D.Disk.faults self).stack in
-    let begun : IsBegun (single ready ask) (stack_of (map g.C.Consumer.state self.members.now) (g.D.Disk.files self.disk.now) (g.P.Pool.state c.try_pool.new.pool).account tried) =
+    let begun : IsBegun (single ready ask) (stack_of (map g.C.Consumer.state self.consumers.now) (g.D.Disk.files self.disk.now) (g.P.Pool.state c.try_pool.new.pool).account tried) =
     begun_is _ _ _ _ self.spills c.open.new.self tried _ ask c.args.wish c.requires.rests.ready fresh count c.in-Ok.ensures.opens refl refl refl refl c.in-Ok-try_pool.ensures.tries c.requires.bytes.ordered c.requires.bytes.some in
     let page : c.open.new.self.page ≡ record { rows = []; room = 262144 } = c.open.ensures.page ∙ c.requires.rests.page in
     let served : Stack = (scene_of g.C.Consumer.state g.P.Pool.state g.D.Disk.files g.D.Disk.faults c.if-index-must.self).stack in
@@ -140,8 +140,8 @@ returns-in-Ok-release-clause-obtains g c =
     subst (λ (each : List Ask). Tries ready.account (g.P.Pool.state c.try_pool.new.pool).account each c.try_pool.new.asks.items c.args.wish) c.in-Ok.ensures.opens.asks c.in-Ok-try_pool.ensures.tries in
     let counted = tries_counted ready.account (g.P.Pool.state c.try_pool.new.pool).account (ask ∷ []) c.try_pool.new.asks.items c.args.wish (omega arith) (omega (arith, c.requires.bytes.ordered)) tries in
     let few_runs : AddsFewRuns ready served = elim c.if-index-must.branch [
-      | then-index-must+in_ok-serve w ↦ rw w.self-is (few_served ready (stack_of (map g.C.Consumer.state self.members.now) (g.D.Disk.files self.disk.now) (g.P.Pool.state c.try_pool.new.pool).account tried) (scene_of g.C.Consumer.state g.P.Pool.state g.D.Disk.files g.D.Disk.faults w.serve.new.self).stack ask opened_runs counted w.in_ok-serve.ensures.few_runs w.in_ok-serve.ensures.serves.serves.served.single)
-      | else-index-must w ↦ rw w.self-is (few_at_once ready (stack_of (map g.C.Consumer.state self.members.now) (g.D.Disk.files self.disk.now) (g.P.Pool.state c.try_pool.new.pool).account tried) opened_runs tries.grants.counts)
+      | then-index-must+in_ok-serve w ↦ rw w.self-is (few_served ready (stack_of (map g.C.Consumer.state self.consumers.now) (g.D.Disk.files self.disk.now) (g.P.Pool.state c.try_pool.new.pool).account tried) (scene_of g.C.Consumer.state g.P.Pool.state g.D.Disk.files g.D.Disk.faults w.serve.new.self).stack ask opened_runs counted w.in_ok-serve.ensures.few_runs w.in_ok-serve.ensures.serves.serves.served.single)
+      | else-index-must w ↦ rw w.self-is (few_at_once ready (stack_of (map g.C.Consumer.state self.consumers.now) (g.D.Disk.files self.disk.now) (g.P.Pool.state c.try_pool.new.pool).account tried) opened_runs tries.grants.counts)
     ] in
     let first_asks : FirstAsks c.args.wish (g.P.Pool.state self.pool.now).worker (g.P.Pool.state c.if-index-must.self.pool.now).worker = elim c.if-index-must.branch [
       | then-index-must+in_ok-serve w ↦ rw w.self-is (c.pools_go_on.ensures.asks c.args.wish (g.P.Pool.state self.pool.now) (g.P.Pool.state c.try_pool.new.pool) (g.P.Pool.state w.serve.new.self.pool.now) c.in-Ok-try_pool.ensures.first w.serve.ensures.goes.pool)
@@ -175,6 +175,7 @@ returns-then-got-must-clause-goes g c =
       disk = leaves_self _ _;
       pool = c.try_pool.ensures.goes;
       stays = record { lent = refl; leasts = refl; roomed = refl };
+      deeper = let opened = c.open.ensures.deepest in let one = c.open.ensures.few in let kept = c.try_pool.ensures.kept in record { grows = omega arith; counts = λ _. omega arith };
     } in
     let so_far : GoesOn (scene_of g.C.Consumer.state g.P.Pool.state g.D.Disk.files g.D.Disk.faults c.args.self.now) (scene_of g.C.Consumer.state g.P.Pool.state g.D.Disk.files g.D.Disk.faults c.if-index-must.self) = elim c.if-index-must.branch [
       | then-index-must+in_ok-serve w ↦ rw w.self-is (c.scenes_go_on.ensures.more _ _ _ first w.serve.ensures.goes)
@@ -189,6 +190,7 @@ returns-in-Ok-release-clause-goes g c =
       disk = leaves_self _ _;
       pool = c.try_pool.ensures.goes;
       stays = record { lent = refl; leasts = refl; roomed = refl };
+      deeper = let opened = c.open.ensures.deepest in let one = c.open.ensures.few in let kept = c.try_pool.ensures.kept in record { grows = omega arith; counts = λ _. omega arith };
     } in
     let so_far : GoesOn (scene_of g.C.Consumer.state g.P.Pool.state g.D.Disk.files g.D.Disk.faults c.args.self.now) (scene_of g.C.Consumer.state g.P.Pool.state g.D.Disk.files g.D.Disk.faults c.if-index-must.self) = elim c.if-index-must.branch [
       | then-index-must+in_ok-serve w ↦ rw w.self-is (c.scenes_go_on.ensures.more _ _ _ first w.serve.ensures.goes)
@@ -199,6 +201,7 @@ returns-in-Ok-release-clause-goes g c =
       disk = leaves_self _ _;
       pool = c.release.ensures.goes;
       stays = record { lent = refl; leasts = refl; roomed = refl };
+      deeper = record { grows = omega arith; counts = λ counted. counted };
     })
 
 pub returns-in-Err-clause-goes : goal.returns-in-Err-clause-goes
@@ -208,6 +211,7 @@ returns-in-Err-clause-goes g c =
       disk = leaves_self _ _;
       pool = c.try_pool.ensures.goes;
       stays = record { lent = refl; leasts = refl; roomed = refl };
+      deeper = let opened = c.open.ensures.deepest in let one = c.open.ensures.few in let kept = c.try_pool.ensures.kept in record { grows = omega arith; counts = λ _. omega arith };
     } in
     let so_far : GoesOn (scene_of g.C.Consumer.state g.P.Pool.state g.D.Disk.files g.D.Disk.faults c.args.self.now) (scene_of g.C.Consumer.state g.P.Pool.state g.D.Disk.files g.D.Disk.faults c.if-index-must.self) = elim c.if-index-must.branch [
       | then-index-must+in_ok-serve w ↦ rw w.self-is (c.scenes_go_on.ensures.more _ _ _ first w.serve.ensures.goes)
@@ -218,4 +222,5 @@ returns-in-Err-clause-goes g c =
       disk = leaves_self _ _;
       pool = c.release.ensures.goes;
       stays = record { lent = refl; leasts = refl; roomed = refl };
+      deeper = record { grows = omega arith; counts = λ counted. counted };
     })

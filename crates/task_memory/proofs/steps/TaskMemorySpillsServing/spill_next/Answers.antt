@@ -18,12 +18,12 @@ returns-in-Ok-clause-steps g c =
     let after = (g.P.Pool.state c.try_pool.new.pool).account in
     let spills = rw c.in-Asks.is at c.in_ok-bytes.ensures.spill in
     let pushed : is_ok c.push.result ≡ true = c.is_err.ensures.negation ∙ ap not c.if-is_err.false in
-    let items : c.push.new.self.items ≡ old.asks ++ (new_ask c.args.next c.in-Asks.bytes c.in-Asks.freed ∷ []) = rw pushed at c.push.ensures.items in
+    let items : c.push.new.self.items ≡ old.asks ++ (new_ask c.args.place c.in-Asks.bytes c.in-Asks.freed ∷ []) = rw pushed at c.push.ensures.items in
     let tries = subst (λ (asks : List Ask). Tries before after asks c.try_pool.new.asks.items c.in-Asks.bytes) items c.in-Ok.ensures.tries in
     let deepest : c.max-self.result ≡ max old.deepest (length old.asks) = grind (arith, c.max-self.ensures, c.len.ensures, c.args.self.now.spills.asks.ok) in
     record {
-      steps = next_ask old (map g.C.Consumer.state c.spill_at.new.members) (g.D.Disk.files c.spill_at.new.disk) (lists_of c.spill_at.new.runs.items) after c.try_pool.new.asks.items
-          c.args.next c.in-Asks.bytes c.in-Asks.freed c.max-self.result deepest c.requires.stands.stack c.requires.next.within c.requires.next.candidate spills tries;
+      steps = next_ask old (map g.C.Consumer.state c.spill_at.new.consumers) (g.D.Disk.files c.spill_at.new.disk) (lists_of c.spill_at.new.runs.items) after c.try_pool.new.asks.items
+          c.args.place c.in-Asks.bytes c.in-Asks.freed c.max-self.result deepest c.requires.stands.stack c.requires.candidate.within c.requires.candidate.candidate spills tries;
       page = c.in_ok-bytes.ensures.page;
     }
 
@@ -32,8 +32,8 @@ returns-in-Ok-settle-clause-steps g c =
     let old : Stack = (scene_of g.C.Consumer.state g.P.Pool.state g.D.Disk.files g.D.Disk.faults c.args.self.now).stack in
     let spills = rw c.in-Ended.is at c.in_ok-bytes.ensures.spill in
     record {
-      steps = next_end old (map g.C.Consumer.state c.spill_at.new.members) (g.D.Disk.files c.spill_at.new.disk) (lists_of c.spill_at.new.runs.items) (g.P.Pool.state c.settle.new.pool).account c.settle.new.asks.items
-          c.args.next c.in-Ended.freed c.in-Ended.run' c.requires.stands.stack c.requires.next.within c.requires.next.candidate spills c.in-Ok-settle.ensures.settles;
+      steps = next_end old (map g.C.Consumer.state c.spill_at.new.consumers) (g.D.Disk.files c.spill_at.new.disk) (lists_of c.spill_at.new.runs.items) (g.P.Pool.state c.settle.new.pool).account c.settle.new.asks.items
+          c.args.place c.in-Ended.freed c.in-Ended.run' c.requires.stands.stack c.requires.candidate.within c.requires.candidate.candidate spills c.in-Ok-settle.ensures.settles;
       page = c.in_ok-bytes.ensures.page;
     }
 
@@ -44,9 +44,9 @@ returns-in-Ok-clause-few_runs g c =
     let after = (g.P.Pool.state c.try_pool.new.pool).account in
     let spills = rw c.in-Asks.is at c.in_ok-bytes.ensures.spill in
     let pushed : is_ok c.push.result ≡ true = c.is_err.ensures.negation ∙ ap not c.if-is_err.false in
-    let items : c.push.new.self.items ≡ old.asks ++ (new_ask c.args.next c.in-Asks.bytes c.in-Asks.freed ∷ []) = rw pushed at c.push.ensures.items in
+    let items : c.push.new.self.items ≡ old.asks ++ (new_ask c.args.place c.in-Asks.bytes c.in-Asks.freed ∷ []) = rw pushed at c.push.ensures.items in
     let tries = subst (λ (asks : List Ask). Tries before after asks c.try_pool.new.asks.items c.in-Asks.bytes) items c.in-Ok.ensures.tries in
-    few_ask old.runs (lists_of c.spill_at.new.runs.items) before after old.asks c.try_pool.new.asks.items c.args.next c.in-Asks.bytes c.in-Asks.freed spills.same_runs tries
+    few_ask old.runs (lists_of c.spill_at.new.runs.items) before after old.asks c.try_pool.new.asks.items c.args.place c.in-Asks.bytes c.in-Asks.freed spills.same_runs tries
 
 pub returns-in-Ok-settle-clause-few_runs : goal.returns-in-Ok-settle-clause-few_runs
 returns-in-Ok-settle-clause-few_runs g c =
