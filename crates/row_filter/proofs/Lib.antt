@@ -1,4 +1,6 @@
-mod Meanings
-mod Columns
+pub mod Meanings
+pub mod Columns
+pub mod Lineage
+pub mod Movings
 mod Negations
 mod Selections

@@ -16,6 +16,10 @@ links_of chain = chain.links
 abbrev pub form_of : Chain → Form
 form_of chain = chain.form
 
+-- the number by which the chain's blocks name the input; those that follow name the others, in their order
+abbrev pub base_of : Chain → ℕ
+base_of chain = chain.base
+
 -- how a dataset is made; the input isn't
 abbrev pub link_at : Chain → ℕ → Option Link
 link_at chain zero = None

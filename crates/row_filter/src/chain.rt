@@ -1,7 +1,8 @@
 //! From which rows each dataset is made.
 
-ghost use Rattle.std.specs.Prelude.{◌≡◌, ◌≢◌, ◌≤◌, length, option_map};
-ghost use Rattle.row_filter.specs.Chains.{filter_at, form_of, level_at, links_of, parent_at};
+ghost use Rattle.std.specs.Prelude.{◌≡◌, ◌≢◌, ◌<◌, ◌≤◌, ◌^◌, length, option_map};
+ghost use Rattle.row_filter.specs.Chains.{base_of, filter_at, form_of, level_at, links_of, parent_at};
+ghost use Rattle.row_filter.specs.Lines.{AreOrdered, derives as derives_from};
 
 use crate::filter::Filter;
 use item_lists::Listed;
@@ -23,15 +24,53 @@ pub struct Link {
 pub struct Chain {
     links: Listed<Link>,
     form: Form,
+    base: u32,
 }
 
 impl Chain {
-    /// The chain of these datasets. Takes no memory. Plans make it.
+    /// The chain of these datasets, whose blocks have the datasets' own numbers. Takes no memory. Plans make
+    /// it.
     pub fn of(links: Listed<Link>, form: Form) -> Chain
         ensures links { links_of result ≡ links }
         ensures form { form_of result ≡ form }
+        ensures base { base_of result ≡ 0 }
     {
-        Chain { links, form }
+        Chain {
+            links,
+            form,
+            base: 0,
+        }
+    }
+
+    /// The same chain, whose blocks name the input by this number and the others by those behind it, so that
+    /// the blocks of several jobs are told apart. Takes no memory.
+    pub fn based(self, dataset: u32) -> Chain
+        requires { dataset ≤ 4096 }
+        ensures links { links_of result ≡ links_of self }
+        ensures form { form_of result ≡ form_of self }
+        ensures base { base_of result ≡ dataset }
+    {
+        let Chain { links, form, .. } = self;
+        Chain {
+            links,
+            form,
+            base: dataset,
+        }
+    }
+
+    /// The number by which the chain's blocks name the input.
+    pub fn base(&self) -> u32
+        ensures { result ≡ base_of self.now }
+    {
+        self.base
+    }
+
+    /// How many datasets there are beside the input.
+    pub fn datasets(&self) -> u32
+        requires { length (links_of self.now) < 2 ^ 32 }
+        ensures { result ≡ length (links_of self.now) }
+    {
+        self.links.items().len() as u32
     }
 
     /// The dataset that this one is made from.
@@ -63,6 +102,20 @@ impl Chain {
             return None;
         }
         self.links.items()[dataset as usize - 1].filter.as_ref()
+    }
+
+    /// Whether a dataset is another one or derives from it.
+    pub fn derives(&self, dataset: u32, from: u32) -> bool
+        requires ordered { AreOrdered (links_of self.now) }
+        requires there { dataset ≤ length (links_of self.now) }
+        ensures { result ≡ derives_from (links_of self.now) dataset from }
+    {
+        let mut at = dataset;
+        // A dataset is made from one with a lower number.
+        while at > from {
+            at = self.parent(at);
+        }
+        at == from
     }
 
     /// The form of the input's landed rows.

@@ -6,6 +6,7 @@ mod covering;
 mod filter;
 mod keeping;
 mod laws;
+mod moving;
 mod selecting;
 #[cfg(test)]
 mod tests;
@@ -14,5 +15,8 @@ pub use chain::{Chain, Link};
 pub use covering::covers;
 pub use filter::{Comparison, Constant, Filter, FilterList};
 pub use keeping::keeps;
-pub use laws::{empty_lists_and_double_negation, negated_lists};
+pub use laws::{
+    datasets_are_derived, empty_lists_and_double_negation, moved_filters_keep, negated_lists,
+};
+pub use moving::move_filter;
 pub use selecting::select;

@@ -30,7 +30,7 @@ pub fn select(filter: &Filter, from: &Page, into: &mut Page) -> Result<(), PageF
             into.push(row)?;
         }
     }
-    // Asked for its clause alone: a page's bytes never pass its room.
+    // For the proof: a page's bytes never pass its room, as this clause says.
     let _ = into.bytes();
     Ok(())
 }

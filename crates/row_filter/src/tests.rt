@@ -1,6 +1,7 @@
 // Chains and filters.
 mod filters;
 mod keeping;
+mod moving;
 mod selecting;
 
 use crate::{Chain, Comparison, Constant, Filter, Link};
@@ -56,6 +57,10 @@ fn a_chain_gives_back_what_it_was_made_of(rt: HostRuntime) -> Result<(), Fail> {
         numbers: NumberList::of(alloc, &[1])?,
     };
     let chain = Chain::of(Listed::of(links), form);
+    assert_eq!(rt; chain.base(), 0);
+    let chain = chain.based(4096);
+    assert_eq!(rt; chain.base(), 4096);
+    assert_eq!(rt; chain.datasets(), 2);
     for (dataset, parent, level, tests) in [(1, 0, Some(Level::Disk), 2), (2, 1, None, 0)] {
         assert_eq!(rt; chain.parent(dataset), parent, "dataset {dataset}");
         assert_eq!(rt; chain.level(dataset), level, "dataset {dataset}");
