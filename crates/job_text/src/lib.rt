@@ -1,6 +1,7 @@
 //! The job language, read and printed.
 #![tactic(auto)]
 
+mod column_spelling;
 mod columns;
 mod datasets;
 mod fault;
@@ -22,6 +23,7 @@ mod step;
 mod token;
 mod tokens;
 
+pub use column_spelling::spell_column;
 pub use fault::JobFault;
 pub use filter_laws::{
     filters_are_fine, filters_are_read, filters_are_written, filters_go_on,
