@@ -1,7 +1,12 @@
+mod Assembled
 mod Firsts
+mod Linked
+mod MovedFilters
 mod Moving
+mod PassLists
 mod Picked
 mod Places
 mod Queries
 mod Sizes
+mod Texts
 mod Whole

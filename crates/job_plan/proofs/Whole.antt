@@ -1,32 +1,30 @@
 -- The plan of a job over a header, from the places of its names.
-use Rattle.std.proofs.Common.{◌≡◌, ◌≢◌, ◌<◌, ◌≤◌, ◌+◌, ◌∙◌, ◌++◌, ℕ, List, [], ◌∷◌, Some, None, true, length, map, get_or, take, refl, sym, ap, inl, inr, arith, subst, slice_index}
-use Rattle.std.specs.Prelude.{◌==◌, All, nat_lt}
+use Rattle.std.proofs.Common.{◌≡◌, ◌≢◌, ◌<◌, ◌≤◌, ◌+◌, ◌∙◌, ◌++◌, ℕ, List, [], ◌∷◌, Option, Some, None, true, length, map, get_or, take, refl, sym, ap, inl, inr, arith, subst, slice_index}
+use Rattle.std.specs.Prelude.{◌==◌, All, nat_lt, slice_index_or, unwrap_or}
 use Rattle.std.specs.List.{flat_map, list_any, range_with_len}
 use Rattle.std.specs.Str.{bytes_eq}
 use Rattle.std.proofs.lemmas.Bool.{cases_Bool, eqb-true, ltb-true, ltb-false}
 use Rattle.std.proofs.lemmas.Bool.Decides.{nat_tests}
 use Rattle.std.proofs.lemmas.List.{get_or-map, length-map, map-append, map_more, map_push}
-use Rattle.std.proofs.lemmas.List.Elements.{All-map, All-push, All-same}
+use Rattle.std.proofs.lemmas.List.Elements.{All-map, All-push, All-same, filter_passes}
 use Rattle.std.proofs.lemmas.List.Folds.{flat_map-map, list_any_at}
 use Rattle.std.proofs.lemmas.List.FromFn.{get_or-range_with_len, length-range_with_len}
 use Rattle.std.proofs.lemmas.Slice.Eq.{bytes_eq-Decides}
-use Rattle.row_filter.specs.Chains.{form_of, links_of}
-use Rattle.row_filter.specs.declared.chain.Chain.{Chain}
-use Rattle.run_file.specs.declared.form.Form.TheVariants.{Landed}
 use Rattle.job_text.specs.Jobs.{IsJob, IsShape}
+use Rattle.job_text.specs.declared.job.Dataset.{Dataset}
 use Rattle.job_text.specs.declared.job.Job.{Job}
 use Rattle.job_text.specs.declared.job.Query.{Query}
 use Rattle.job_text.specs.declared.job.Shape.{Shape}
 use Rattle.job_text.specs.declared.job.Shape.TheVariants.{Group, Order}
-use Rattle.job_plan.specs.Columns.{Fields, kept, kept_place, missing, name_of, number_columns, number_places, numbers_in, over_kept, place, stands_at}
+use Rattle.job_plan.specs.Columns.{Fields, kept, kept_place, linked, name_of, number_columns, number_places, numbers_for, numbers_in, over_kept, place, stands_at}
 use Rattle.job_plan.specs.Entries.{kind_of}
-use Rattle.job_plan.specs.Making.{AreFound, ArePlannedOf, IsPlannedOf, ascending, place_in}
-use Rattle.job_plan.specs.Moved.{moved}
-use Rattle.job_plan.specs.Planning.{ArePlanned, IsPlanned, columns_of}
-use Rattle.job_plan.specs.Plans.{IsPlanOf, no_shape}
+use Rattle.job_plan.specs.Making.{AreFound, ArePlannedOf, IsPlannedOf, ascending, name_for, numbers_told, place_in}
+use Rattle.job_plan.specs.Moved.{link_over, moved}
+use Rattle.job_plan.specs.Planning.{IsPlanned}
+use Rattle.job_plan.specs.Plans.{no_shape}
 use Rattle.job_plan.specs.declared.planned.Planned.{Planned}
-use Rattle.job_plan.specs.declared.query_plan.Plan.{Plan}
 use Rattle.job_plan.proofs.Firsts.{any_of_kept, any_of_map, filter_same, first_at, first_of_any}
+use Rattle.job_plan.proofs.Linked.{links_alike, links_numbers}
 use Rattle.job_plan.proofs.Moving.{map_same, moved-same, numbers-moved, shape-moved}
 
 -- ---- one more query
@@ -37,9 +35,10 @@ list_more f g ps p qs i q lt e h same =
     map_push f ps p ∙ rw (h, same, ap g e) refl ∙ sym (map_more g qs i q lt)
 
 pub planned_more : (names : List (List ℕ)) (places : List ℕ) (qs : List Query) (ps : List Planned) (i : ℕ) (q : Query) (p : Planned)
-    → i < length qs → q ≡ get_or qs i q → ArePlannedOf names places (take i qs) ps → IsPlannedOf names places q.shape p
+    → i < length qs → q ≡ get_or qs i q → ArePlannedOf names places (take i qs) ps → IsPlannedOf names places q p
     → ArePlannedOf names places (take (i + 1) qs) (ps ++ p ∷ [])
 planned_more names places qs ps i q p lt e h is = record {
+  datasets = list_more (λ (x : Planned). x.dataset) _ ps p qs i q lt e h.datasets is.dataset;
   shapes = list_more (λ (x : Planned). x.shape) _ ps p qs i q lt e h.shapes is.shape;
   over = list_more (λ (x : Planned). x.kept) _ ps p qs i q lt e h.over is.over;
   kinds = All-push (λ (x : Planned). x.kind ≡ kind_of x.kept) ps p h.kinds is.kind;
@@ -73,10 +72,10 @@ flat-moved g [] = refl
 flat-moved g (q ∷ qs) = rw (numbers-moved g q.shape, flat-moved g qs) (sym (map-append g (numbers_in q.shape) (flat_map (λ (x : Query). numbers_in x.shape) qs)))
 
 module _ (job : Job) (header : Fields) (places : List ℕ) (is : IsJob job) (found : AreFound job.names header places) where
-  abbrev the-kept : List ℕ
+  abbrev pub the-kept : List ℕ
   the-kept = kept job.names header
 
-  abbrev count : ℕ
+  abbrev pub count : ℕ
   count = length job.names
 
   long : length places ≡ count
@@ -129,7 +128,7 @@ module _ (job : Job) (header : Fields) (places : List ℕ) (is : IsJob job) (fou
       let inside : c < length places = omega (arith, long) in
       get_or-map (place_in the-kept) places c 0 0 inside ∙ rw (found_at c lt) refl
 
-  abbrev indexes : List ℕ
+  abbrev pub indexes : List ℕ
   indexes = map (place_in the-kept) places
 
   -- the same, as it was told of lists that are these
@@ -160,37 +159,43 @@ module _ (job : Job) (header : Fields) (places : List ℕ) (is : IsJob job) (fou
         kind = h.kinds i d lt;
       }
 
+  pub links_are : map (link_over (slice_index indexes)) job.datasets ≡ linked job header
+  links_are = links_alike (slice_index indexes) (kept_place job header) count index_is job.datasets is.datasets
+
   pub numbers_is : (ps : List Planned) → ArePlannedOf job.names indexes job.queries ps
-      → ascending (flat_map (λ (p : Planned). numbers_in p.kept) ps) (length the-kept) ≡ number_places job header
+      → ascending (numbers_told (linked job header) ps) (length the-kept) ≡ number_places job header
   numbers_is ps h =
-      let all : flat_map (λ (p : Planned). numbers_in p.kept) ps ≡ map (kept_place job header) (number_columns job) =
+      let queries : flat_map (λ (p : Planned). numbers_in p.kept) ps ≡ map (kept_place job header) (flat_map (λ (q : Query). numbers_in q.shape) job.queries) =
       sym (flat_map-map numbers_in (λ (p : Planned). p.kept) ps) ∙ ap (flat_map numbers_in) (over_is ps h)
       ∙ ap (flat_map numbers_in) (map_same (λ (q : Query). over_kept job header q.shape) (λ (q : Query). moved (kept_place job header) q.shape) job.queries (λ i d lt. over-moved job header (get_or job.queries i d).shape))
       ∙ flat_map-map numbers_in (λ (q : Query). moved (kept_place job header) q.shape) job.queries ∙ flat-moved (kept_place job header) job.queries in
+      let filters = flat_map (λ (d : Dataset). numbers_for d.filter) job.datasets in
+      let all : numbers_told (linked job header) ps ≡ map (kept_place job header) (number_columns job) =
+      ap (λ (front : List ℕ). front ++ flat_map (λ (p : Planned). numbers_in p.kept) ps) (links_numbers (kept_place job header) job.datasets)
+      ∙ ap (λ (back : List ℕ). map (kept_place job header) filters ++ back) queries
+      ∙ sym (map-append (kept_place job header) filters (flat_map (λ (q : Query). numbers_in q.shape) job.queries)) in
       ap (λ list. ascending list (length the-kept)) all
       ∙ filter_same (λ k. list_any (λ q. q == k) (map (kept_place job header) (number_columns job))) (λ k. list_any (λ c. kept_place job header c == k) (number_columns job))
       (range_with_len 0 (length the-kept)) (λ k. any_of_map (λ q. q == k) (kept_place job header) (number_columns job))
 
-  -- the chain has the kept columns and the numbers among them
-  pub are_planned : (chain : Chain) (n : ℕ) (numbers : List ℕ) (ps : List Planned) → form_of chain ≡ Landed n numbers → n ≡ length the-kept
-      → ArePlannedOf job.names indexes job.queries ps → ArePlanned chain ps
-  are_planned chain n numbers ps form wide h =
-      let several = is.several.few in
-      let columns : columns_of (form_of chain) ≡ length the-kept = ap columns_of form ∙ wide in
-      record {
-        few = omega (arith, several, ap length h.shapes, length-map ps (λ (p : Planned). p.shape), length-map job.queries (λ (q : Query). q.shape));
-        each = subst (λ (m : ℕ). All (IsPlanned m) ps) (sym columns) (planned_is ps h);
-      }
+  -- the name that stands at a kept place is the header's field there
+  name_stands : (p : ℕ) → list_any (stands_at header p) job.names ≡ true → name_for job.names places p ≡ get_or header p []
+  name_stands p stands =
+      let any : list_any (λ q. q == p) places ≡ true = any_found header job.names places p found ∙ stands in
+      let first = first_of_any (λ q. q == p) 0 places any in
+      let at = first_at (λ q. q == p) places first.0 0 first.1 in
+      let same : get_or places first.0 0 ≡ p = eqb-true (get_or places first.0 0) p at.1 in
+      let lt : first.0 < count = omega (arith, at.0, long) in
+      let field = (first_at (λ f. bytes_eq f (name_of job first.0)) header (get_or places first.0 0) [] (found_at first.0 lt)).1 in
+      let name : get_or header p [] ≡ name_of job first.0 =
+      subst (λ (q : ℕ). get_or header q [] ≡ name_of job first.0) same ((bytes_eq-Decides (get_or header (get_or places first.0 0) []) (name_of job first.0)).0 field) in
+      ap (λ (o : Option ℕ). get_or job.names (unwrap_or o 0) []) first.1 ∙ sym name
 
-  pub is_plan : (plan : Plan) (n : ℕ) (numbers : List ℕ) → missing job.names header ≡ None → plan.places.items ≡ the-kept
-      → form_of plan.chain ≡ Landed n numbers → n ≡ length the-kept → numbers ≡ ascending (flat_map (λ (p : Planned). numbers_in p.kept) plan.queries.items) n
-      → links_of plan.chain ≡ [] → ArePlannedOf job.names indexes job.queries plan.queries.items → IsPlanOf job header plan
-  is_plan plan n numbers there at form wide told alone h = record {
-    found = there;
-    places = at;
-    form = form ∙ rw (told, wide) (ap (λ (list : List ℕ). Landed (length the-kept) list) (numbers_is plan.queries.items h));
-    alone = alone;
-    shapes = h.shapes;
-    over = over_is plan.queries.items h;
-    headings = h.headings;
-  }
+  pub names_are : map (name_for job.names places) the-kept ≡ map (λ p. slice_index_or header p []) the-kept
+  names_are = map_same (name_for job.names places) (λ p. slice_index_or header p []) the-kept
+      (λ i d lt. name_stands (get_or the-kept i d) (filter_passes (λ p. list_any (stands_at header p) job.names) (range_with_len 0 (length header)) i d lt))
+
+  pub asked_there : (n : ℕ) (ps : List Planned) → n ≡ length job.datasets → ArePlannedOf job.names indexes job.queries ps → All (λ (d : ℕ). d ≤ n) (map (λ (p : Planned). p.dataset) ps)
+  asked_there n ps same h =
+      subst (All (λ (d : ℕ). d ≤ n)) (sym h.datasets) (All-map (λ (d : ℕ). d ≤ n) (λ (q : Query). q.dataset) job.queries
+      (λ i d lt. (let below : (get_or job.queries i d).dataset ≤ length job.datasets = (is.queries i d lt).dataset in omega arith)))

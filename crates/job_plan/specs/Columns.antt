@@ -1,14 +1,22 @@
 -- Where the columns that a job names stand in a header, and which of them are kept.
 -- This project's own.
-use Rattle.std.specs.Prelude.{ℕ, ◌==◌, Bool, false, not, List, [], Option, length, map, option_map, is_some, unwrap_or, slice_index_or}
+use Rattle.std.specs.Prelude.{ℕ, ◌==◌, Bool, false, not, List, [], ◌∷◌, ◌++◌, Option, length, map, option_map, is_some, unwrap_or, slice_index_or}
 use Rattle.std.specs.List.{filter, find, flat_map, list_any, position_from, range_with_len}
 use Rattle.std.specs.Option.{option_map_or, option_to_list}
 use Rattle.std.specs.Str.{bytes_eq}
+use Rattle.row_filter.specs.declared.chain.Link.{Link}
+use Rattle.row_filter.specs.declared.filter.Constant.{Constant}
+use Rattle.row_filter.specs.declared.filter.Constant.TheVariants as constants
+use Rattle.row_filter.specs.declared.filter.Filter.{Filter}
+use Rattle.row_filter.specs.declared.filter.Filter.TheFolds.{fold-Filter}
+use Rattle.row_filter.specs.declared.filter.Filter.TheOpen.{Filter-F}
+use Rattle.row_filter.specs.declared.filter.Filter.TheOpen as layers
 use Rattle.job_text.specs.declared.job.Job.{Job}
 use Rattle.job_text.specs.declared.job.KeyItem.{KeyItem}
 use Rattle.job_text.specs.declared.job.Part.{Part}
 use Rattle.job_text.specs.declared.job.Shape.{Shape}
 use Rattle.job_text.specs.declared.job.Shape.TheVariants.{Group, Order}
+use Rattle.job_plan.specs.Moved.{link_over}
 
 -- a record: its fields
 abbrev pub Fields : Type 0
@@ -49,9 +57,30 @@ abbrev pub numbers_in : Shape → List ℕ
 numbers_in (Group columns parts) = flat_map (λ part. option_to_list part.column) parts
 numbers_in (Order keys columns) = map (λ key. key.column) (filter (λ key. key.number) keys)
 
--- those of a job
+-- the column of a test, where it is compared with a number
+abbrev pub test_numbers : ℕ → Constant → List ℕ
+test_numbers column (constants.Number value) = column ∷ []
+test_numbers column (constants.Text text) = []
+
+-- the columns that a filter compares with a number, where they are told of the filters in it
+abbrev pub filter_numbers_step : Filter-F (List ℕ) → List ℕ
+filter_numbers_step (layers.Test column test constant) = test_numbers column constant
+filter_numbers_step (layers.And parts) = flat_map (λ columns. columns) parts
+filter_numbers_step (layers.Or parts) = flat_map (λ columns. columns) parts
+filter_numbers_step (layers.Not inner) = inner
+
+-- the columns that a filter compares with a number
+abbrev pub filter_numbers : Filter → List ℕ
+filter_numbers = fold-Filter (List ℕ) filter_numbers_step
+
+-- those that a dataset's filter does, if it has one
+abbrev pub numbers_for : Option Filter → List ℕ
+numbers_for filter = option_map_or filter_numbers filter []
+
+-- those of a job: of all its datasets, and then of its queries
 abbrev pub number_columns : Job → List ℕ
-number_columns job = flat_map (λ query. numbers_in query.shape) job.queries
+number_columns job =
+    flat_map (λ dataset. numbers_for dataset.filter) job.datasets ++ flat_map (λ query. numbers_in query.shape) job.queries
 
 -- whether one of these columns is the kept one at a place
 abbrev pub is_number_place : Job → Fields → List ℕ → ℕ → Bool
@@ -62,7 +91,7 @@ abbrev pub number_places : Job → Fields → List ℕ
 number_places job header =
     filter (is_number_place job header (number_columns job)) (range_with_len 0 (length (kept job.names header)))
 
--- ---- shapes over the kept columns
+-- ---- shapes and datasets over the kept columns
 
 -- an aggregate over the kept columns, and a key item over them
 abbrev pub part_over : Job → Fields → Part → Part
@@ -77,3 +106,7 @@ over_kept job header (Group columns parts) =
     Group (map (kept_place job header) columns) (map (part_over job header) parts)
 over_kept job header (Order keys columns) =
     Order (map (item_over job header) keys) (map (kept_place job header) columns)
+
+-- how the datasets are made, over the kept columns
+abbrev pub linked : Job → Fields → List Link
+linked job header = map (link_over (kept_place job header)) job.datasets

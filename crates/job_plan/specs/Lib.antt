@@ -1,9 +1,11 @@
 pub mod Columns
 pub mod Entries
+pub mod Making
+pub mod Moved
+pub mod Passes
+pub mod PlanText
 pub mod Planning
 pub mod Plans
 pub mod Rows
 pub mod Telling
 pub mod Within
-pub mod Moved
-pub mod Making

@@ -1,13 +1,19 @@
 -- A plan while it is made: which places are found, and what is planned for each query.
 -- This project's own.
-use Rattle.std.specs.Prelude.{◌≡◌, ℕ, ◌==◌, All, List, Some, map, slice_index, unwrap_or}
-use Rattle.std.specs.List.{filter, list_any, position_from, range_with_len}
+use Rattle.std.specs.Prelude.{◌≡◌, ℕ, ◌==◌, ◌++◌, All, List, [], Some, length, map, slice_index, slice_index_or, take, unwrap_or}
+use Rattle.std.specs.List.{filter, flat_map, list_any, position_from, range_with_len}
+use Rattle.row_filter.specs.Chains.{base_of, form_of, links_of}
+use Rattle.row_filter.specs.declared.chain.Chain.{Chain}
+use Rattle.row_filter.specs.declared.chain.Link.{Link}
+use Rattle.run_file.specs.declared.form.Form.TheVariants.{Landed}
+use Rattle.job_text.specs.declared.job.Dataset.{Dataset}
 use Rattle.job_text.specs.declared.job.Query.{Query}
-use Rattle.job_text.specs.declared.job.Shape.{Shape}
-use Rattle.job_plan.specs.Columns.{Fields, place}
+use Rattle.job_plan.specs.Columns.{Fields, numbers_for, numbers_in, place}
 use Rattle.job_plan.specs.Entries.{kind_of}
-use Rattle.job_plan.specs.Moved.{moved}
+use Rattle.job_plan.specs.Moved.{link_over, moved}
+use Rattle.job_plan.specs.Passes.{pass_datasets, queries_over, removed_after}
 use Rattle.job_plan.specs.Plans.{heading_of}
+use Rattle.job_plan.specs.declared.passing.Pass.{Pass}
 use Rattle.job_plan.specs.declared.planned.Planned.{Planned}
 
 -- each name's column stands at its place in the header
@@ -22,16 +28,48 @@ ascending places count = filter (λ p. list_any (λ q. q == p) places) (range_wi
 abbrev pub place_in : List ℕ → ℕ → ℕ
 place_in list number = unwrap_or (position_from (λ p. p == number) 0 list) 0
 
--- what is planned for a query of this shape, where the names' columns stand at these places among the kept ones
-pub record IsPlannedOf (names : List (List ℕ)) (kept : List ℕ) (asked : Shape) (planned : Planned) : Type 0 where
-  pub shape : planned.shape ≡ asked
-  pub over : planned.kept ≡ moved (slice_index kept) asked
+-- the name whose column stands at a place, where the names' columns stand at these places
+abbrev pub name_for : List (List ℕ) → List ℕ → ℕ → List ℕ
+name_for names places p = slice_index_or names (place_in places p) []
+
+-- what is planned for a query, where the names' columns stand at these places among the kept ones
+pub record IsPlannedOf (names : List (List ℕ)) (kept : List ℕ) (query : Query) (planned : Planned) : Type 0 where
+  pub dataset : planned.dataset ≡ query.dataset
+  pub shape : planned.shape ≡ query.shape
+  pub over : planned.kept ≡ moved (slice_index kept) query.shape
   pub kind : planned.kind ≡ kind_of planned.kept
-  pub heading : planned.heading ≡ heading_of names asked
+  pub heading : planned.heading ≡ heading_of names query.shape
 
 -- what is planned for several queries, in their order
 pub record ArePlannedOf (names : List (List ℕ)) (kept : List ℕ) (queries : List Query) (planned : List Planned) : Type 0 where
+  pub datasets : map (λ p. p.dataset) planned ≡ map (λ query. query.dataset) queries
   pub shapes : map (λ p. p.shape) planned ≡ map (λ query. query.shape) queries
   pub over : map (λ p. p.kept) planned ≡ map (λ query. moved (slice_index kept) query.shape) queries
   pub kinds : All (λ p. p.kind ≡ kind_of p.kept) planned
   pub headings : map (λ p. p.heading) planned ≡ map (λ query. heading_of names query.shape) queries
+
+-- one of the passes over these datasets
+pub record IsPassAt (links : List Link) (asked over : List ℕ) (place : ℕ) (pass : Pass) : Type 0 where
+  pub dataset : pass.dataset ≡ slice_index_or over place 0
+  pub queries : pass.queries.items ≡ queries_over asked pass.dataset
+  pub removed : pass.removed.items ≡ removed_after links over place
+
+-- the first passes of queries over these datasets, so many of them
+pub record AreFirstPasses (links : List Link) (asked : List ℕ) (count : ℕ) (passes : List Pass) : Type 0 where
+  pub datasets : map (λ pass. pass.dataset) passes ≡ take count (pass_datasets asked)
+  pub queries : map (λ pass. pass.queries.items) passes ≡ map (queries_over asked) (take count (pass_datasets asked))
+  pub removed : map (λ pass. pass.removed.items) passes ≡ map (removed_after links (pass_datasets asked)) (range_with_len 0 count)
+
+-- the passes of queries over these datasets
+abbrev pub ArePasses : List Link → List ℕ → List Pass → Type 0
+ArePasses links asked = AreFirstPasses links asked (length (pass_datasets asked))
+
+-- the columns over the kept ones whose fields are numbers, of all datasets and then of the queries
+abbrev pub numbers_told : List Link → List Planned → List ℕ
+numbers_told links planned = flat_map (λ link. numbers_for link.filter) links ++ flat_map (λ p. numbers_in p.kept) planned
+
+-- the chain of these datasets over so many kept columns, among which the names' columns stand as they are moved
+pub record IsChainOf (columns : ℕ) (move : ℕ → ℕ) (datasets : List Dataset) (planned : List Planned) (chain : Chain) : Type 0 where
+  pub links : links_of chain ≡ map (link_over move) datasets
+  pub form : form_of chain ≡ Landed columns (ascending (numbers_told (map (link_over move) datasets) planned) columns)
+  pub base : base_of chain ≡ 0

@@ -1,11 +1,13 @@
--- What holds of each plan: its shapes over the kept columns are shapes of so many columns.
+-- What holds of each plan, whichever job it is of.
 -- This project's own.
-use Rattle.std.specs.Prelude.{◌≡◌, ℕ, ◌≤◌, All, List, length}
-use Rattle.row_filter.specs.Chains.{form_of}
-use Rattle.row_filter.specs.declared.chain.Chain.{Chain}
+use Rattle.std.specs.Prelude.{◌≡◌, ℕ, ◌+◌, ◌<◌, ◌≤◌, All, AllPairs, Bool, true, false, IfSome, List, length}
+use Rattle.row_filter.specs.Lines.{AreOrdered}
+use Rattle.row_filter.specs.Rows.{Covers}
+use Rattle.row_filter.specs.declared.chain.Link.{Link}
 use Rattle.run_file.specs.declared.form.Form.{Form}
 use Rattle.run_file.specs.declared.form.Form.TheVariants.{Entries, Landed}
 use Rattle.job_text.specs.Jobs.{IsShape}
+use Rattle.job_plan.specs.declared.passing.Pass.{Pass}
 use Rattle.job_plan.specs.declared.planned.Planned.{Planned}
 use Rattle.job_plan.specs.Entries.{kind_of}
 
@@ -14,12 +16,39 @@ abbrev pub columns_of : Form → ℕ
 columns_of (Landed columns numbers) = columns
 columns_of (Entries kind) = 0
 
+-- whether a form is one of landed rows
+abbrev pub is_landed : Form → Bool
+is_landed (Landed columns numbers) = true
+is_landed (Entries kind) = false
+
+-- landed rows, at most eight datasets beside the input, each made from an earlier one by a filter over their columns
+pub record FitsChain (form : Form) (links : List Link) : Type 0 where
+  pub landed : is_landed form ≡ true
+  pub few : length links ≤ 8
+  pub ordered : AreOrdered links
+  pub covered : All (λ link. IfSome link.filter (Covers (columns_of form + 1))) links
+
+-- the queries of a pass, of so many in all: one or more, ascending
+pub record FitsQueries (count : ℕ) (queries : List ℕ) : Type 0 where
+  pub some : 1 ≤ length queries
+  pub ascend : AllPairs (λ earlier later. earlier < later) queries
+  pub named : All (λ query. query < count) queries
+
+-- a pass over one of so many datasets beside the input
+pub record IsPass (datasets count : ℕ) (pass : Pass) : Type 0 where
+  pub there : pass.dataset ≤ datasets
+  pub queries : FitsQueries count pass.queries.items
+
 -- what is planned for a query, over so many kept columns
 pub record IsPlanned (columns : ℕ) (planned : Planned) : Type 0 where
   pub shape : IsShape columns planned.kept
   pub kind : planned.kind ≡ kind_of planned.kept
 
--- the same of all queries of a plan, which are at most eight
-pub record ArePlanned (chain : Chain) (queries : List Planned) : Type 0 where
+-- the form of landed rows, the datasets, the one to eight queries and the one to eight passes of a plan
+pub record ArePlanned (form : Form) (links : List Link) (queries : List Planned) (over : List Pass) : Type 0 where
+  pub chain : FitsChain form links
   pub few : length queries ≤ 8
-  pub each : All (IsPlanned (columns_of (form_of chain))) queries
+  pub each : All (IsPlanned (columns_of form)) queries
+  pub some : 1 ≤ length over
+  pub several : length over ≤ 8
+  pub passes : All (IsPass (length links) (length queries)) over

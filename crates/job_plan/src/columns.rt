@@ -81,8 +81,8 @@ pub(crate) fn below(alloc: Global, count: u32, places: &[u32]) -> Result<Vec<u32
         .collect(alloc)
 }
 
-// Where a number stands in a list first.
-fn index_of(list: &[u32], number: u32) -> Option<usize>
+/// Where a number stands in a list first.
+pub(crate) fn index_of(list: &[u32], number: u32) -> Option<usize>
     ensures index { result ≡ position_from (λ p. p == number) 0 list.now }
     ensures within { IfSome result (λ index. index < length list.now) }
 {

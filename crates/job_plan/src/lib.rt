@@ -4,9 +4,13 @@
 mod columns;
 mod entries;
 mod fault;
+mod filter_numbers;
 mod headings;
+mod linking;
 mod making;
+mod passing;
 mod planned;
+mod printing;
 mod query_plan;
 mod shapes;
 

@@ -1,31 +1,32 @@
 //! The plan of a job over a header.
 
-ghost use Rattle.std.specs.Prelude.{◌≡◌, ◌≤◌, ◌++◌, [], ℕ, All, List, Some, None, IfOk, IsErrOf, OnOk, length, map};
-ghost use Rattle.std.specs.List.{flat_map};
+ghost use Rattle.std.specs.Prelude.{◌≡◌, ◌≤◌, ℕ, All, List, Some, None, IfOk, IsErrOf, length, map, slice_index};
 ghost use Rattle.csv.specs.Records.{fields_of};
 ghost use Rattle.job_text.specs.Jobs.{IsJob, IsShape};
-ghost use Rattle.job_plan.specs.Columns.{missing, numbers_in};
-ghost use Rattle.job_plan.specs.Making.{AreFound, ArePlannedOf, IsPlannedOf};
+ghost use Rattle.job_plan.specs.Columns.{missing};
+ghost use Rattle.job_plan.specs.Making.{AreFound, ArePlannedOf, IsChainOf, IsPlannedOf, numbers_told};
 ghost use Rattle.job_plan.specs.Plans.{IsPlanOf};
 
 use crate::columns::{below, find_places, indexes_in};
 use crate::fault::PlanFault;
+use crate::filter_numbers::put_filter_numbers;
 use crate::headings::make_heading;
+use crate::linking::{link_datasets, names_at, names_of};
+use crate::passing::make_passes;
 use crate::planned::Planned;
 use crate::query_plan::Plan;
 use crate::shapes::{copy_shape, make_kind, move_shape, put_numbers};
 use csv::ByteRecord;
 use item_lists::{Listed, Name};
-use job_text::{Job, Query, Shape};
-use row_filter::Chain;
+use job_text::{Dataset, Job, Query};
+use row_filter::{Chain, Link};
 use run_file::{Form, NumberList};
 use std::alloc::{AllocError, Global};
 
-/// The plan of a job without datasets over an input with this header. A column is the first header field
-/// with exactly its bytes.
+/// The plan of a job over an input with this header. A column is the first header field with exactly its
+/// bytes.
 pub fn plan(alloc: Global, job: &Job, header: &ByteRecord) -> Result<Plan, PlanFault>
     requires job { IsJob job.now }
-    requires plain { job.now.datasets ≡ [] }
     requires short { length (fields_of header.now) ≤ 1024 }
     ensures ok { IfOk result (IsPlanOf job.now (fields_of header.now)) }
     ensures refused { (column : List ℕ) → IsErrOf result (PlanFault.NoColumn column) → missing job.now.names (fields_of header.now) ≡ Some column }
@@ -53,16 +54,43 @@ fn plan_at(
     let kept = below(alloc, header.len() as u32, places)?;
     let indexes = indexes_in(alloc, &kept, places)?;
     let queries = plan_queries(alloc, job.names.items(), &indexes, job.queries.items())?;
-    let numbers = below(alloc, kept.len() as u32, &number_columns(alloc, &queries)?)?;
+    let chain = make_chain(alloc, &kept, &indexes, job.datasets.items(), &queries)?;
+    let passes = make_passes(alloc, &chain, &datasets_of(alloc, &queries)?)?;
+    let columns = names_at(alloc, job.names.items(), places, &kept)?;
+    let names = names_of(alloc, job.datasets.items())?;
+    Ok(Plan {
+        places: kept,
+        columns,
+        names,
+        chain,
+        queries,
+        passes,
+        first_task: 0,
+    })
+}
+
+// The datasets over the kept columns, and the form of landed rows.
+fn make_chain(
+    alloc: Global,
+    kept: &[u32],
+    indexes: &[u32],
+    datasets: &[Dataset],
+    queries: &[Planned],
+) -> Result<Chain, AllocError>
+    requires { length kept.now ≤ 1024 }
+    ensures { IfOk result (IsChainOf (length kept.now) (slice_index indexes.now) datasets.now queries.now) }
+{
+    let links = link_datasets(alloc, indexes, datasets)?;
+    let numbers = below(
+        alloc,
+        kept.len() as u32,
+        &number_columns(alloc, &links, queries)?,
+    )?;
     let form = Form::Landed {
         columns: kept.len() as u32,
         numbers: NumberList::of(alloc, &numbers)?,
     };
-    Ok(Plan {
-        places: kept,
-        chain: Chain::of(Listed::of(Vec::new(alloc)), form),
-        queries,
-    })
+    Ok(Chain::of(Listed::of(links), form))
 }
 
 // What is planned for each query.
@@ -79,37 +107,54 @@ fn plan_queries(
 {
     let mut planned = Vec::new(alloc);
     for query in queries {
-        planned.push(plan_query(alloc, names, kept, &query.shape)?)?;
+        planned.push(plan_query(alloc, names, kept, query)?)?;
     }
     Ok(planned)
 }
 
-// What is planned for a query of this shape.
+// What is planned for a query.
 fn plan_query(
     alloc: Global,
     names: &[Name],
     kept: &[u32],
-    shape: &Shape,
+    query: &Query,
 ) -> Result<Planned, AllocError>
     requires names { All (λ name. length name ≤ 1024) names.now }
-    requires shape { IsShape (length names.now) shape.now }
-    ensures { IfOk result (IsPlannedOf names.now kept.now shape.now) }
+    requires shape { IsShape (length names.now) query.now.shape }
+    ensures { IfOk result (IsPlannedOf names.now kept.now query.now) }
 {
     Ok(Planned {
-        shape: copy_shape(alloc, shape)?,
-        kept: move_shape(alloc, kept, shape)?,
-        kind: make_kind(alloc, shape)?,
-        heading: make_heading(alloc, names, shape)?,
+        dataset: query.dataset,
+        shape: copy_shape(alloc, &query.shape)?,
+        kept: move_shape(alloc, kept, &query.shape)?,
+        kind: make_kind(alloc, &query.shape)?,
+        heading: make_heading(alloc, names, &query.shape)?,
     })
 }
 
-// The kept columns whose fields are numbers for a query, one query behind the other.
-fn number_columns(alloc: Global, queries: &[Planned]) -> Result<Vec<u32>, AllocError>
-    ensures { IfOk result (λ columns. columns.items ≡ flat_map (λ planned. numbers_in planned.kept) queries.now) }
+// The kept columns whose fields are numbers, one dataset behind the other and then one query behind the other.
+fn number_columns(
+    alloc: Global,
+    links: &[Link],
+    queries: &[Planned],
+) -> Result<Vec<u32>, AllocError>
+    ensures { IfOk result (λ columns. columns.items ≡ numbers_told links.now queries.now) }
 {
     let mut columns = Vec::new(alloc);
+    put_filter_numbers(&mut columns, links)?;
     for planned in queries {
         put_numbers(&mut columns, &planned.kept)?;
     }
     Ok(columns)
+}
+
+// The datasets of the queries.
+fn datasets_of(alloc: Global, queries: &[Planned]) -> Result<Vec<u32>, AllocError>
+    ensures { IfOk result (λ datasets. datasets.items ≡ map (λ planned. planned.dataset) queries.now) }
+{
+    let mut datasets = Vec::new(alloc);
+    for planned in queries {
+        datasets.push(planned.dataset)?;
+    }
+    Ok(datasets)
 }

@@ -1,3 +1,4 @@
 mod jobs;
+mod passes;
 mod plans;
 mod texts;

@@ -1,6 +1,6 @@
 //! An input that is landed.
 
-ghost use Rattle.std.specs.Prelude.{◌≡◌, ◌≤◌, [], IfOk, IfSome, IfErr, IsErrOf, OnOk, Some, option_map};
+ghost use Rattle.std.specs.Prelude.{◌≡◌, ◌≤◌, IfOk, IfSome, IfErr, IsErrOf, OnOk, Some, option_map};
 ghost use Rattle.std.specs.Io.KnownBytes.{IsAtEnd};
 ghost use Rattle.fault_count.specs.Faults.{Rose};
 ghost use Rattle.byte_io.specs.Records.{IsReading, rows_left, source_under};
@@ -101,7 +101,6 @@ fn land_all<T: Tap, O: Origin, D: Disk, H: Shelf<D>>(
 ) -> Result<Landed, LandFault>
     requires reading { IsReading records.old }
     requires job { IsJob job.now }
-    requires plain { job.now.datasets ≡ [] }
     requires some { 1 ≤ part_rows }
     requires few { max_rows ≤ 10000000 }
     requires one { 1 ≤ workers }
@@ -151,7 +150,6 @@ fn land_from<T: Tap, O: Origin, D: Disk, H: Shelf<D>>(
     requires name { T.name source ≡ O.name }
     requires faults { T.faults source ≡ O.faults }
     requires job { IsJob job.now }
-    requires plain { job.now.datasets ≡ [] }
     requires some { 1 ≤ part_rows }
     requires few { max_rows ≤ 10000000 }
     requires one { 1 ≤ workers }
@@ -198,7 +196,6 @@ pub fn land<S: Source, D: Disk, H: Shelf<D>>(
     shelf: &mut H,
 ) -> Result<Landed, LandFault>
     requires job { IsJob job.now }
-    requires plain { job.now.datasets ≡ [] }
     requires some { 1 ≤ part_rows }
     requires few { max_rows ≤ 10000000 }
     requires one { 1 ≤ workers }

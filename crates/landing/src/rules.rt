@@ -37,7 +37,6 @@ pub(crate) fn rules_of(
     max_rows: u64,
 ) -> Result<Rules, LandFault>
     requires job { IsJob job.now }
-    requires plain { job.now.datasets ≡ [] }
     ensures rules { IfOk result (AreRules job.now (fields_of header.now)) }
     ensures most { IfOk result (λ rules. rules.max_rows ≡ max_rows) }
     ensures short { OnOk result (is_too_long (fields_of header.now) ≡ false) }

@@ -1,5 +1,5 @@
 // Jobs read from their texts, and printed.
-ghost use Rattle.std.specs.Prelude.{◌≡◌, [], IfOk, IfSome};
+ghost use Rattle.std.specs.Prelude.{IfOk};
 ghost use Rattle.job_text.specs.Jobs.{IsJob};
 
 use job_text::{Job, JobFault, print, read};
@@ -10,19 +10,6 @@ pub fn job_of(alloc: Global, text: &str) -> Result<Job, JobFault>
     ensures job { IfOk result IsJob }
 {
     read(alloc, text)
-}
-
-/// The job of a text, where it is one query over the input.
-pub fn plain_job_of(alloc: Global, text: &str) -> Result<Option<Job>, JobFault>
-    ensures job { IfOk result (λ found. IfSome found IsJob) }
-    ensures plain { IfOk result (λ found. IfSome found (λ job. job.datasets ≡ [])) }
-{
-    let job = read(alloc, text)?;
-    if job.is_plain() {
-        Ok(Some(job))
-    } else {
-        Ok(None)
-    }
 }
 
 /// The job's text.

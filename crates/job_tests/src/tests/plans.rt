@@ -1,5 +1,5 @@
 // Plans and entries against examples that were worked by hand.
-use crate::tests::jobs::plain_job_of;
+use crate::tests::jobs::job_of;
 use csv::ByteRecord;
 use job_plan::{Plan, PlanFault, plan};
 use row_page::{RowBuf, RowView};
@@ -19,9 +19,9 @@ fn header_of(alloc: Global, columns: &str) -> Result<ByteRecord, AllocError> {
     Ok(header)
 }
 
-// The plan of a job over a header with these columns.
-fn plan_over(alloc: Global, job: &str, columns: &str) -> Result<Result<Plan, PlanFault>, Fail> {
-    let job = plain_job_of(alloc, job)?.ok_or("no query over the input alone")?;
+/// The plan of a job over a header with these columns.
+pub fn plan_over(alloc: Global, job: &str, columns: &str) -> Result<Result<Plan, PlanFault>, Fail> {
+    let job = job_of(alloc, job)?;
     let header = header_of(alloc, columns)?;
     if header.len() > 1024 {
         return Err("a wide header".into());
@@ -189,6 +189,7 @@ fn the_first_column_that_is_missing_is_told(rt: HostRuntime) -> Result<(), Fail>
 #[test]
 fn the_final_task_stands_behind_the_partitions(rt: HostRuntime) -> Result<(), Fail> {
     let plan = plan_over(rt.alloc(), COUNT_AND_SUM, "city,price")??;
+    assert_eq!(rt; plan.passes(), 1);
     assert_eq!(rt; plan.task(4, 0, 0), 0);
     assert_eq!(rt; plan.task(4, 0, 3), 3);
     assert_eq!(rt; plan.task(4, 0, 4), 4);

@@ -10,6 +10,6 @@ heads_of-requires c =
     let header = fields_of c.args.header.now in
     let planned = c.in-Ok.ensures.ok in
     let form = sym c.in-Landed.is ∙ c.form.ensures in
-    let numbers : c.items.result.now ≡ number_places job header = cc (form, c.chain.ensures, planned.form) in
+    let numbers : c.items.result.now ≡ number_places job header = cc (form, c.chain.ensures.is, planned.form) in
     let places : c.places.result.now ≡ kept job.names header = c.places.ensures ∙ planned.places in
     rw (numbers, places) (numbers_within job header)

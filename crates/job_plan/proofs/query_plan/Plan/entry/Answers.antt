@@ -17,7 +17,7 @@ put_key-requires-clause-covers c =
     let row = fields_in c.args.row in
     let query = c.index.result.now in
     let within : c.args.query < length plan.queries.items = omega (arith, length-map plan.queries.items (λ (q : Planned). q.kept)) in
-    with_shape plan.chain plan.queries.items c.args.query query row (Covers row query.kept) plan.planned within c.index.ensures c.requires.row (covers-prop row query.kept)
+    with_shape plan.chain plan.queries.items plan.passes.items c.args.query query row (Covers row query.kept) plan.planned within c.index.ensures c.requires.row (covers-prop row query.kept)
     (λ n e eight s. covers row n query.kept e s)
 
 pub put_value-requires : goal.put_value-requires
@@ -26,7 +26,7 @@ put_value-requires c =
     let row = fields_in c.args.row in
     let query = c.index.result.now in
     let within : c.args.query < length plan.queries.items = omega (arith, length-map plan.queries.items (λ (q : Planned). q.kept)) in
-    with_shape plan.chain plan.queries.items c.args.query query row (Covers row query.kept) plan.planned within c.index.ensures c.requires.row (covers-prop row query.kept)
+    with_shape plan.chain plan.queries.items plan.passes.items c.args.query query row (Covers row query.kept) plan.planned within c.index.ensures c.requires.row (covers-prop row query.kept)
     (λ n e eight s. covers row n query.kept e s)
 
 pub returns-clause-kind : goal.returns-clause-kind
@@ -48,7 +48,7 @@ returns-clause-short_key c =
     let within : c.args.query < length plan.queries.items = omega (arith, length-map plan.queries.items (λ (q : Planned). q.kept)) in
     let is : c.put_key.new.key.items ≡ key_of query.kept row = cc c.in_ok-put_key.ensures in
     on_ok_weaker c.put_value.result
-    (λ _ short. with_shape plan.chain plan.queries.items c.args.query query row _ plan.planned within c.index.ensures c.requires.row (hlevel props)
+    (λ _ short. with_shape plan.chain plan.queries.items plan.passes.items c.args.query query row _ plan.planned within c.index.ensures c.requires.row (hlevel props)
     (λ n e eight s. (let long : length (key_of query.kept row) ≤ 2 * field_bytes row + 72 = key-long row n query.kept e eight s in rw is (omega arith)))) c.put_value.ensures
 
 pub returns-clause-short_value : goal.returns-clause-short_value
@@ -58,5 +58,5 @@ returns-clause-short_value c =
     let query = c.index.result.now in
     let within : c.args.query < length plan.queries.items = omega (arith, length-map plan.queries.items (λ (q : Planned). q.kept)) in
     on_ok_weaker c.put_value.result
-    (λ h short. with_shape plan.chain plan.queries.items c.args.query query row _ plan.planned within c.index.ensures c.requires.row (hlevel props)
+    (λ h short. with_shape plan.chain plan.queries.items plan.passes.items c.args.query query row _ plan.planned within c.index.ensures c.requires.row (hlevel props)
     (λ n e eight s. (let is : c.put_value.new.value.items ≡ value_of query.kept row = cc h in rw is (value-long row n query.kept e s short)))) c.put_value.ensures
