@@ -6,7 +6,7 @@ use Rattle.job_text.specs.declared.job.Part.{Part}
 use Rattle.job_text.specs.declared.job.Shape.TheVariants.{Order}
 use Rattle.job_plan.specs.Columns.{Fields}
 use Rattle.job_answer.specs.Answer.{arranged, group_of, groups}
-use Rattle.job_answer.specs.Output.{answer_rows}
+use Rattle.job_answer.specs.Output.{shape_rows}
 use Rattle.job_answer.proofs.Classes.{entries-classes}
 use Rattle.job_answer.proofs.Groups.{tell}
 
@@ -38,7 +38,7 @@ cities_are_groups : groups cities head (0 ∷ []) parts_told visits
 cities_are_groups = entries-classes (group_of cities head (0 ∷ [])) (tell cities head (0 ∷ []) parts_told visits) visits ∙ refl
 
 -- the greatest city first, and of one city the least number, which isn't the least text
-cities_in_order : answer_rows cities head visits (Order (record { column = 0; number = false; down = true } ∷ record { column = 1; number = true; down = false } ∷ []) (1 ∷ []))
+cities_in_order : shape_rows cities head visits (Order (record { column = 0; number = false; down = true } ∷ record { column = 1; number = true; down = false } ∷ []) (1 ∷ []))
     ≡ (codes "-3" ∷ []) ∷ (codes "10" ∷ []) ∷ (codes "+7" ∷ []) ∷ []
 cities_in_order = refl
 

@@ -22,8 +22,9 @@ use Rattle.job_text.specs.declared.job.Part.{Part}
 use Rattle.job_text.specs.declared.job.Shape.TheVariants.{Group}
 use Rattle.job_plan.specs.Columns.{Fields, kept, kept_place, missing, over_kept, part_over}
 use Rattle.job_plan.specs.Entries.{entry_of, field, key_of, told_by, value_of}
-use Rattle.job_plan.specs.Rows.{landed_row, landed_rows}
+use Rattle.job_plan.specs.Rows.{landed_row}
 use Rattle.job_answer.specs.Answer.{field_of, fields_cmp, group_of, groups, members, number_of, told_of}
+use Rattle.job_answer.specs.Numbered.{Numbered, landed_each, rows_in as rows_of}
 use Rattle.job_answer.specs.OneShape.{GroupsTell, totals_over}
 use Rattle.job_answer.proofs.Aggregates.{fits-wider, joint-aggregated, number-small, told_of_column}
 use Rattle.job_answer.proofs.Classes.{Class, IsWhole, all-groups, all-whole, all-weaker, classes, entries-classes, rows_in}
@@ -87,15 +88,15 @@ module _ (job : Job) (header : Fields) where
   unfolding key_of value_of
   entry-same n row columns parts in-columns in-parts = rw (keys-same n row columns in-columns, values-same n row parts in-parts) refl
 
-  entries-same : (n : ℕ) (rows : List Fields) (columns : List ℕ) (parts : List Part) → AllByRecursion (IsKept job header) columns → AllByRecursion IsKeptPart parts
-      → map (entry_of (over_kept job header (Group columns parts))) (landed_rows (kept job.names header) n rows)
-      ≡ map (row_entry (group_of job header columns) (row_value parts) (aggs_of parts)) rows
-  entries-same n [] columns parts in-columns in-parts = refl
-  entries-same n (row ∷ rows) columns parts in-columns in-parts =
-      let first = entry-same n row columns parts in-columns in-parts in
-      let later = entries-same (n + 1) rows columns parts in-columns in-parts in
-      ap (λ (e : Entry). e ∷ map (entry_of (over_kept job header (Group columns parts))) (landed_rows (kept job.names header) (n + 1) rows)) first
-      ∙ ap (λ (es : List Entry). row_entry (group_of job header columns) (row_value parts) (aggs_of parts) row ∷ es) later
+  entries-same : (input : List Numbered) (columns : List ℕ) (parts : List Part) → AllByRecursion (IsKept job header) columns → AllByRecursion IsKeptPart parts
+      → map (entry_of (over_kept job header (Group columns parts))) (landed_each (kept job.names header) input)
+      ≡ map (row_entry (group_of job header columns) (row_value parts) (aggs_of parts)) (rows_of input)
+  entries-same [] columns parts in-columns in-parts = refl
+  entries-same (r ∷ rs) columns parts in-columns in-parts =
+      let first = entry-same r.0 r.1 columns parts in-columns in-parts in
+      let later = entries-same rs columns parts in-columns in-parts in
+      ap (λ (e : Entry). e ∷ map (entry_of (over_kept job header (Group columns parts))) (landed_each (kept job.names header) rs)) first
+      ∙ ap (λ (es : List Entry). row_entry (group_of job header columns) (row_value parts) (aggs_of parts) r.1 ∷ es) later
 
   aggs-same : (parts : List Part) → map (λ part. part.agg) (map (part_over job header) parts) ≡ aggs_of parts
   aggs-same [] = refl
@@ -172,14 +173,15 @@ module _ (job : Job) (header : Fields) where
 
   module _ (order : KeysInOrder) (long : PartialsAreSixteenBytes) (back : NumbersComeBack) where
     -- the totals are the entries of the groups
-    pub totals-are : (rows : List Fields) (columns : List ℕ) (parts : List Part) → missing job.names header ≡ None → IsShape (length job.names) (Group columns parts) → length rows ≤ 2 ^ 32
-        → totals_over job header rows (Group columns parts) ≡ map group_entry (groups job header columns parts rows)
-    totals-are rows columns parts found shape few =
+    pub totals-are : (input : List Numbered) (columns : List ℕ) (parts : List Part) → missing job.names header ≡ None → IsShape (length job.names) (Group columns parts) → length (rows_of input) ≤ 2 ^ 32
+        → totals_over job header input (Group columns parts) ≡ map group_entry (groups job header columns parts (rows_of input))
+    totals-are input columns parts found shape few =
+        let rows = rows_of input in
         let in-columns = kept-columns columns found (recursion_from_All (λ column. column < length job.names) columns shape.0.named) in
         let are-parts = recursion_from_All (IsPart (length job.names)) parts shape.2 in
         let g = group_of job header columns in
-        ap (λ (aggs : List Agg). total (kinds.Group aggs) (map (entry_of (over_kept job header (Group columns parts))) (landed_rows (kept job.names header) 1 rows))) (aggs-same parts)
-        ∙ ap (total (kinds.Group (aggs_of parts))) (entries-same 1 rows columns parts in-columns (kept-parts parts found are-parts))
+        ap (λ (aggs : List Agg). total (kinds.Group aggs) (map (entry_of (over_kept job header (Group columns parts))) (landed_each (kept job.names header) input))) (aggs-same parts)
+        ∙ ap (total (kinds.Group (aggs_of parts))) (entries-same input columns parts in-columns (kept-parts parts found are-parts))
         ∙ total-classes g (row_value parts) (aggs_of parts) order (length columns) (λ row. length-map columns (field_of job header row)) rows
         ∙ classes-told columns parts rows few long back (classes g rows) are-parts (all-whole g rows)
         ∙ ap (map group_entry) (sym (entries-classes g (tell columns parts rows) rows))
@@ -194,9 +196,12 @@ module _ (job : Job) (header : Fields) where
         (are-groups columns parts rows few (classes g rows) are-parts (all-whole g rows) several)
 
 pub groups-tell : KeysInOrder → SpellingsAreReadBack → PartialsAreSixteenBytes → NumbersComeBack → GroupsTell
-groups-tell order read long back job header rows columns parts found shape few =
-    let totals = totals-are job header order long back rows columns parts found shape few in
-    let all = groups-are job header order long back rows columns parts shape few in
+groups-tell order read long back job header input columns parts found shape few =
+    let rows = rows_of input in
+    let size : length rows ≡ length input = length-map input (λ r. r.1) in
+    let as-few : length rows ≤ 2 ^ 32 = omega arith in
+    let totals = totals-are job header order long back input columns parts found shape as-few in
+    let all = groups-are job header order long back rows columns parts shape as-few in
     let over-columns = map (kept_place job header) columns in
     let over-parts = map (part_over job header) parts in
     let size-columns : length over-columns ≡ length columns = length-map columns (kept_place job header) in

@@ -1,6 +1,6 @@
 -- Keys of an order compare as its items, and then as what stands behind.
-use Rattle.std.proofs.Common.{◌≡◌, ◌-◌, ◌<◌, ◌^◌, ◌∙◌, ◌++◌, ℕ, zero, suc, Bool, true, false, List, [], ◌∷◌, map, refl, sym, ap, arith, append_assoc, ℤ, pos, negsuc, unsigned_abs}
-use Rattle.std.specs.Prelude.{◌==◌, ◌+ℤ◌, if◌then◌else◌}
+use Rattle.std.proofs.Common.{◌≡◌, ◌-◌, ◌<◌, ◌^◌, ◌∙◌, ◌++◌, ℕ, zero, suc, Bool, true, false, List, [], ◌∷◌, map, refl, sym, ap, arith, append_assoc, ℤ, pos, unsigned_abs}
+use Rattle.std.specs.Prelude.{◌==◌, ◌+ℤ◌, ◌-ℤ◌, if◌then◌else◌}
 use Rattle.std.specs.Cmp.{int_cmp_is, nat_cmp_is, ranked}
 use Rattle.std.specs.Cmp.Lexicographic.{slice_cmp}
 use Rattle.std.specs.Int.{to_be_bytes, w64}
@@ -122,25 +122,25 @@ module _ (order : KeysInOrder) (numbers : NumbersInOrder) where
 -- ---- the numbers of rows
 
 -- a row's number, less 2 ^ 63
-abbrev lowered : ℕ → ℤ
-lowered n = negsuc (2 ^ 63 - 1 - n)
+abbrev pub lowered : ℕ → ℤ
+lowered n = pos n -ℤ pos (2 ^ 63)
 
-raised-back : (n : ℕ) → n < 2 ^ 63 → unsigned_abs (lowered n +ℤ pos (2 ^ 63)) ≡ n
-raised-back n small = omega (arith, ints)
+raised-back : (n : ℕ) → unsigned_abs (lowered n +ℤ pos (2 ^ 63)) ≡ n
+raised-back n = omega (arith, ints)
 
-lowered-fits : (n : ℕ) → FitsSigned w64 (lowered n)
-lowered-fits n = omega (arith, ints)
+lowered-fits : (n : ℕ) → n < 2 ^ 64 → FitsSigned w64 (lowered n)
+lowered-fits n small = omega (arith, ints)
 
-lowered-spelling : (n : ℕ) → n < 2 ^ 63 → number_spelling (lowered n) false ++ [] ≡ to_be_bytes w64 n
+lowered-spelling : (n : ℕ) → number_spelling (lowered n) false ++ [] ≡ to_be_bytes w64 n
 unfolding number_spelling
-lowered-spelling n small = append-nil (number_spelling (lowered n) false) ∙ ap (to_be_bytes w64) (raised-back n small)
+lowered-spelling n = append-nil (number_spelling (lowered n) false) ∙ ap (to_be_bytes w64) (raised-back n)
 
 -- an earlier row's number stands before a later one's
-pub number-order : NumbersInOrder → (m n : ℕ) → m < n → n < 2 ^ 63 → key_cmp (to_be_bytes w64 m) (to_be_bytes w64 n) ≡ Less
+pub number-order : NumbersInOrder → (m n : ℕ) → m < n → n < 2 ^ 64 → key_cmp (to_be_bytes w64 m) (to_be_bytes w64 n) ≡ Less
 number-order numbers m n later small =
     let less : int_cmp (lowered m) (lowered n) ≡ Less = sym (int_cmp_is (lowered m) (lowered n) Less (omega (arith, ints))) in
-    let both = numbers.upward (lowered m) (lowered n) [] [] (lowered-fits m) (lowered-fits n) in
-    ap (λ (t : List ℕ). key_cmp t (to_be_bytes w64 n)) (sym (lowered-spelling m (omega arith)))
-    ∙ ap (key_cmp (number_spelling (lowered m) false ++ [])) (sym (lowered-spelling n small))
+    let both = numbers.upward (lowered m) (lowered n) [] [] (lowered-fits m (omega arith)) (lowered-fits n small) in
+    ap (λ (t : List ℕ). key_cmp t (to_be_bytes w64 n)) (sym (lowered-spelling m))
+    ∙ ap (key_cmp (number_spelling (lowered m) false ++ [])) (sym (lowered-spelling n))
     ∙ both
     ∙ ap (λ (o : Ordering). ordering_then o (key_cmp [] [])) less

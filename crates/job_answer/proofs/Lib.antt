@@ -1,4 +1,11 @@
 pub mod KeptFields
+pub mod NumberedRows
+pub mod Derivations
+pub mod PlainQueries
+pub mod AgreedFilters
+pub mod ChainedRows
+pub mod MovedChains
+pub mod PlannedRows
 pub mod Classes
 pub mod Values
 pub mod Aggregates
@@ -10,5 +17,6 @@ pub mod RowOrder
 pub mod Orders
 pub mod Queries
 pub mod Examples
+pub mod DatasetExample
 pub mod WholeTotals
 pub mod AllTold

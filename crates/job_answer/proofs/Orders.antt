@@ -18,14 +18,16 @@ use Rattle.job_text.specs.declared.job.KeyItem.{KeyItem}
 use Rattle.job_text.specs.declared.job.Shape.TheVariants.{Order}
 use Rattle.job_plan.specs.Columns.{Fields, item_over, kept, kept_place, over_kept}
 use Rattle.job_plan.specs.Entries.{entry_of, field, item_bytes, key_of, value_of}
-use Rattle.job_plan.specs.Rows.{AreBytes, landed_row, landed_rows}
+use Rattle.job_plan.specs.Rows.{AreBytes, landed_row}
 use Rattle.job_plan.specs.Telling.{IsOrderEntry, IsTold, row_of}
 use Rattle.job_answer.specs.Answer.{field_of}
+use Rattle.job_answer.specs.Numbered.{Numbered, landed_each}
 use Rattle.job_answer.specs.OneShape.{IsShort, OrdersTell, totals_over}
 use Rattle.job_answer.proofs.Classes.{all-weaker}
 use Rattle.job_answer.proofs.KeptFields.{IsKept, column-kept, field-kept, field-landed}
 use Rattle.job_answer.proofs.KeyItems.{Bytes, HasBytes, item_key, key_item}
-use Rattle.job_answer.proofs.RowOrder.{Numbered, all-in_order, in_order, numbered, row_entry, rows-arranged, total-in_order}
+use Rattle.job_answer.proofs.NumberedRows.{rise_of}
+use Rattle.job_answer.proofs.RowOrder.{all-in_order, in_order, row_entry, rows-arranged, total-in_order}
 
 -- each list of fields whose encoding fits has an encoding
 abbrev pub HasEncodings : Type 0
@@ -55,7 +57,7 @@ module _ (job : Job) (header : Fields) where
       rw (here, fields-same n row columns all.1) refl
 
   entry-same : (n : ℕ) (row : Fields) (keys : List KeyItem) (columns : List ℕ) → AllByRecursion IsKeptItem keys → AllByRecursion (IsKept job header) columns
-      → entry_of (over_kept job header (Order keys columns)) (landed_row (kept job.names header) n row) ≡ row_entry job header keys columns (record { number = n; row = row })
+      → entry_of (over_kept job header (Order keys columns)) (landed_row (kept job.names header) n row) ≡ row_entry job header keys columns (n, row)
   unfolding key_of value_of
   entry-same n row keys columns in-keys in-columns =
       ap (λ (k : List ℕ). let e : Entry = record { key = k ++ to_be_bytes w64 n; value = row_bytes (map (field (landed_row (kept job.names header) n row)) (map (kept_place job header) columns)) } in e)
@@ -63,12 +65,12 @@ module _ (job : Job) (header : Fields) where
       ∙ ap (λ (fs : Fields). let e : Entry = record { key = flat_map (key_item job header row) keys ++ to_be_bytes w64 n; value = row_bytes fs } in e)
       (fields-same n row columns in-columns)
 
-  entries-same : (n : ℕ) (rows : List Fields) (keys : List KeyItem) (columns : List ℕ) → AllByRecursion IsKeptItem keys → AllByRecursion (IsKept job header) columns
-      → map (entry_of (over_kept job header (Order keys columns))) (landed_rows (kept job.names header) n rows) ≡ map (row_entry job header keys columns) (numbered n rows)
-  entries-same n [] keys columns in-keys in-columns = refl
-  entries-same n (row ∷ rows) keys columns in-keys in-columns =
-      ap (λ (e : Entry). e ∷ map (entry_of (over_kept job header (Order keys columns))) (landed_rows (kept job.names header) (n + 1) rows)) (entry-same n row keys columns in-keys in-columns)
-      ∙ ap (λ (es : List Entry). row_entry job header keys columns (record { number = n; row = row }) ∷ es) (entries-same (n + 1) rows keys columns in-keys in-columns)
+  entries-same : (input : List Numbered) (keys : List KeyItem) (columns : List ℕ) → AllByRecursion IsKeptItem keys → AllByRecursion (IsKept job header) columns
+      → map (entry_of (over_kept job header (Order keys columns))) (landed_each (kept job.names header) input) ≡ map (row_entry job header keys columns) input
+  entries-same [] keys columns in-keys in-columns = refl
+  entries-same (r ∷ rs) keys columns in-keys in-columns =
+      ap (λ (e : Entry). e ∷ map (entry_of (over_kept job header (Order keys columns))) (landed_each (kept job.names header) rs)) (entry-same r.0 r.1 keys columns in-keys in-columns)
+      ∙ ap (λ (es : List Entry). row_entry job header keys columns r ∷ es) (entries-same rs keys columns in-keys in-columns)
 
   -- ---- the fields of rows are bytes, and short
 
@@ -83,10 +85,10 @@ module _ (job : Job) (header : Fields) where
   row-bytes : (n : ℕ) (row : Fields) (keys : List KeyItem) → AllByRecursion IsKeptItem keys → AreBytes (landed_row (kept job.names header) n row) → HasBytes job header keys row
   row-bytes n row keys in-keys bytes = all-weaker IsKeptItem (λ item. Bytes (field_of job header row item.column)) (λ item is. field-bytes n row item.column is bytes) keys in-keys
 
-  rows-bytes : (n : ℕ) (rows : List Fields) (keys : List KeyItem) → AllByRecursion IsKeptItem keys → AllByRecursion AreBytes (landed_rows (kept job.names header) n rows)
-      → AllByRecursion (HasBytes job header keys) rows
-  rows-bytes n [] keys in-keys bytes = tt
-  rows-bytes n (row ∷ rows) keys in-keys bytes = (row-bytes n row keys in-keys bytes.0, rows-bytes (n + 1) rows keys in-keys bytes.1)
+  rows-bytes : (input : List Numbered) (keys : List KeyItem) → AllByRecursion IsKeptItem keys → AllByRecursion AreBytes (landed_each (kept job.names header) input)
+      → AllByRecursion (λ r. HasBytes job header keys r.1) input
+  rows-bytes [] keys in-keys bytes = tt
+  rows-bytes (r ∷ rs) keys in-keys bytes = (row-bytes r.0 r.1 keys in-keys bytes.0, rows-bytes rs keys in-keys bytes.1)
 
   -- a row's field in a column is short
   abbrev IsShortAt : Fields → ℕ → Type 0
@@ -105,10 +107,10 @@ module _ (job : Job) (header : Fields) where
   row-short : (n : ℕ) (row : Fields) (columns : List ℕ) → AllByRecursion (IsKept job header) columns → IsShort (landed_row (kept job.names header) n row) → AllByRecursion (IsShortAt row) columns
   row-short n row columns in-columns short = all-weaker (IsKept job header) (IsShortAt row) (λ column is. field-short n row column is short) columns in-columns
 
-  rows-short : (n : ℕ) (rows : List Fields) (columns : List ℕ) → AllByRecursion (IsKept job header) columns → AllByRecursion IsShort (landed_rows (kept job.names header) n rows)
-      → AllByRecursion (λ r. AllByRecursion (IsShortAt r.row) columns) (numbered n rows)
-  rows-short n [] columns in-columns short = tt
-  rows-short n (row ∷ rows) columns in-columns short = (row-short n row columns in-columns short.0, rows-short (n + 1) rows columns in-columns short.1)
+  rows-short : (input : List Numbered) (columns : List ℕ) → AllByRecursion (IsKept job header) columns → AllByRecursion IsShort (landed_each (kept job.names header) input)
+      → AllByRecursion (λ r. AllByRecursion (IsShortAt r.1) columns) input
+  rows-short [] columns in-columns short = tt
+  rows-short (r ∷ rs) columns in-columns short = (row-short r.0 r.1 columns in-columns short.0, rows-short rs columns in-columns short.1)
 
   -- ---- what is told of a row
 
@@ -126,24 +128,24 @@ module _ (job : Job) (header : Fields) where
       encodings fields (omega arith)
 
   rows-told : HasEncodings → (shape_keys : List KeyItem) (shape_columns : List ℕ) (keys : List KeyItem) (columns : List ℕ) (rs : List Numbered) → length columns ≤ 8
-      → AllByRecursion (λ r. AllByRecursion (IsShortAt r.row) columns) rs
-      → map (row_of (Order shape_keys shape_columns)) (map (row_entry job header keys columns) rs) ≡ map (λ row. map (field_of job header row) columns) (map (λ r. r.row) rs)
+      → AllByRecursion (λ r. AllByRecursion (IsShortAt r.1) columns) rs
+      → map (row_of (Order shape_keys shape_columns)) (map (row_entry job header keys columns) rs) ≡ map (λ row. map (field_of job header row) columns) (map (λ r. r.1) rs)
   rows-told encodings shape_keys shape_columns keys columns [] few short = refl
   rows-told encodings shape_keys shape_columns keys columns (r ∷ rs) few short =
-      let fields = map (field_of job header r.row) columns in
-      let here : fields_of (row_bytes fields) ≡ fields = fields_shown (row_bytes fields) fields (row-encoded encodings r.row columns few short.0).pieces in
+      let fields = map (field_of job header r.1) columns in
+      let here : fields_of (row_bytes fields) ≡ fields = fields_shown (row_bytes fields) fields (row-encoded encodings r.1 columns few short.0).pieces in
       let later = rows-told encodings shape_keys shape_columns keys columns rs few short.1 in
       ap (λ (f : Fields). f ∷ map (row_of (Order shape_keys shape_columns)) (map (row_entry job header keys columns) rs)) here ∙ ap (λ (fs : List Fields). fields ∷ fs) later
 
   told-each : HasEncodings → (shape_keys : List KeyItem) (shape_columns : List ℕ) (keys : List KeyItem) (columns : List ℕ) (rs : List Numbered) → length columns ≤ 8
-      → length columns ≡ length shape_columns → AllByRecursion (λ r. AllByRecursion (IsShortAt r.row) columns) rs
+      → length columns ≡ length shape_columns → AllByRecursion (λ r. AllByRecursion (IsShortAt r.1) columns) rs
       → AllByRecursion (IsTold (Order shape_keys shape_columns)) (map (row_entry job header keys columns) rs)
   told-each encodings shape_keys shape_columns keys columns [] few same short = tt
   told-each encodings shape_keys shape_columns keys columns (r ∷ rs) few same short =
       let entry : IsOrderEntry (length shape_columns) (row_entry job header keys columns r) = record {
-        fields = map (field_of job header r.row) columns;
-        several = length-map columns (field_of job header r.row) ∙ same;
-        value = row-encoded encodings r.row columns few short.0;
+        fields = map (field_of job header r.1) columns;
+        several = length-map columns (field_of job header r.1) ∙ same;
+        value = row-encoded encodings r.1 columns few short.0;
       } in
       (entry, told-each encodings shape_keys shape_columns keys columns rs few same short.1)
 
@@ -154,22 +156,23 @@ named-items names [] all = tt
 named-items names (item ∷ items) all = (all.0, named-items names items all.1)
 
 pub orders-tell : KeysInOrder → NumbersInOrder → HasEncodings → OrdersTell
-orders-tell order numbers encodings job header rows keys columns found shape few bytes short =
+orders-tell order numbers encodings job header input keys columns found shape are bytes short =
     let named = recursion_from_All (λ column. column < length job.names) columns shape.1.named in
     let named-keys = named-items (length job.names) keys (recursion_from_All (λ column. column < length job.names) (map (λ item. item.column) keys) shape.0.named) in
     let in-columns = all-weaker (λ column. column < length job.names) (IsKept job header) (λ column within. column-kept job header column found within) columns named in
     let in-keys = all-weaker (λ item. item.column < length job.names) (λ item. IsKept job header item.column) (λ item within. column-kept job header item.column found within) keys named-keys in
-    let rs = in_order job header keys (numbered 1 rows) in
-    let short-rows = all-in_order job header keys (λ r. AllByRecursion (IsShortAt job header r.row) columns) (numbered 1 rows) (rows-short job header 1 rows columns in-columns short) in
+    let rs = in_order job header keys input in
+    let short-rows = all-in_order job header keys (λ (r : Numbered). AllByRecursion (IsShortAt job header r.1) columns) input (rows-short job header input columns in-columns short) in
     let over-keys = map (item_over job header) keys in
     let over-columns = map (kept_place job header) columns in
     let several = shape.1.short.few in
-    let totals : totals_over job header rows (Order keys columns) ≡ map (row_entry job header keys columns) rs =
-    ap (total kinds.Order) (entries-same job header 1 rows keys columns in-keys in-columns)
-    ∙ total-in_order job header keys order numbers columns 1 rows (omega arith) (rows-bytes job header 1 rows keys in-keys bytes) in
+    let small = recursion_from_All (λ (r : Numbered). r.0 < 2 ^ 64) input are.small in
+    let totals : totals_over job header input (Order keys columns) ≡ map (row_entry job header keys columns) rs =
+    ap (total kinds.Order) (entries-same job header input keys columns in-keys in-columns)
+    ∙ total-in_order job header keys order numbers columns input (rise_of input are.ascend) small (rows-bytes job header input keys in-keys bytes) in
     record {
       table = rw totals (rows-told job header encodings over-keys over-columns keys columns rs several short-rows)
-          ∙ ap (map (λ row. map (field_of job header row) columns)) (rows-arranged job header keys 1 rows);
+          ∙ ap (map (λ row. map (field_of job header row) columns)) (rows-arranged job header keys input);
       wide = refl;
       told = λ none.
           rw totals

@@ -1,6 +1,12 @@
 pub mod Answer
+pub mod Numbered
+pub mod Derived
 pub mod Output
 pub mod Laws
 pub mod OneShape
 pub mod Parts
+pub mod PlainJobs
+pub mod Derivation
+pub mod Chained
+pub mod Planned
 pub mod Told

@@ -1,6 +1,6 @@
 //! What the totals of a query's entries tell.
 
-ghost use Rattle.job_answer.specs.Laws.{TotalsTellAnswers};
+ghost use Rattle.job_answer.specs.Laws.{TotalsTellAnswers, TotalsTellQueries, TotalsTellTables};
 ghost use Rattle.job_answer.specs.OneShape.{GroupsTell, OrdersTell};
 
 use aggregate::{
@@ -9,10 +9,25 @@ use aggregate::{
 };
 use row_page::fields_have_one_encoding;
 
-/// What the entries of a query come to tells the rows of its plain answer, and the first total that is
-/// too wide is that of the first such group. It does nothing when run.
+/// What the entries of a query of a job without datasets come to tells the rows of its plain answer, and the
+/// first total that is too wide is that of the first such group. It does nothing when run.
 pub fn totals_tell_answers()
     ensures { TotalsTellAnswers }
+{
+    totals_tell_queries();
+}
+
+/// So it is for a query over a dataset, of the entries of the dataset's rows, each with its number in the input.
+/// It does nothing when run.
+pub fn totals_tell_queries()
+    ensures { TotalsTellQueries }
+{
+    totals_tell_tables();
+}
+
+/// So it is for a query's shape over any rows whose numbers ascend. It does nothing when run.
+pub fn totals_tell_tables()
+    ensures { TotalsTellTables }
 {
     groups_are_told();
     orders_are_told();
