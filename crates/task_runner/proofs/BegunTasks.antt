@@ -12,7 +12,8 @@ use Rattle.pool_ledger.specs.Journal.{history_of}
 use Rattle.pool_laws.specs.Growing.{entry_by}
 use Rattle.turn_lock.specs.Passes.{PassState}
 use Rattle.memory_lock.specs.Workers.{own_entries, own_of}
-use Rattle.memory_lock.proofs.Staying.{all_append, all_imply}
+use Rattle.task_pool.proofs.GoingOn.{all_append}
+use Rattle.memory_lock.proofs.Staying.{all_imply}
 use Rattle.task_pool.specs.Asks.{IsOfTask}
 use Rattle.task_runner.specs.Workers.{AreTasks, DoesTasks, part_at}
 use Rattle.task_runner.specs.Works.{IsTaskOf, Works}

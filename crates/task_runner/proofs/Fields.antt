@@ -1,7 +1,7 @@
 -- Rows of a page as entries of a query.
 use Rattle.std.proofs.Common.{◌≡◌, ◌∙◌, ℕ, zero, suc, ◌+◌, ◌*◌, ◌<◌, true, ◌≤◌, List, [], ◌∷◌, ◌++◌, refl, sym, ap, take, get_or, length, map, arith}
 use Rattle.std.proofs.lemmas.List.{length-map, take_more}
-use Rattle.std.specs.Prelude.{sum_by}
+use Rattle.std.specs.Prelude.{slice_index, sum_by}
 use Rattle.std.specs.List.{AllByRecursion}
 use Rattle.std.proofs.lemmas.Bool.{false≢true}
 use Rattle.std.proofs.lemmas.List.Sums.{sum_by-cons}
@@ -10,13 +10,13 @@ use Rattle.run_file.specs.declared.form.Form.{Form}
 use Rattle.run_file.specs.declared.form.Form.TheVariants.{Entries, Landed}
 use Rattle.run_file.specs.Forms.{IsWellFormed}
 use Rattle.aggregate.specs.Totals.{Entry}
-use Rattle.job_plan.specs.Entries.{entry_of, field_bytes, key_of, value_of}
+use Rattle.job_plan.specs.Entries.{entry_of, field_bytes}
 use Rattle.job_plan.specs.Plans.{kept_at}
 use Rattle.job_plan.specs.declared.query_plan.Plan.{Plan}
 use Rattle.job_plan.specs.Planning.{columns_of}
-use Rattle.task_runner.specs.Parts.{entries_in}
+use Rattle.task_runner.specs.Queries.{made_in}
 use Rattle.task_runner.specs.Reading.{is_landed}
-use Rattle.task_runner.specs.Spilling.{AreShort}
+use Rattle.task_runner.specs.Spilling.{AreShort, entry_by}
 
 abbrev Row : Type 0
 Row = List (List ℕ)
@@ -25,19 +25,18 @@ map_more : {A C : Type 0} (f : A → C) (xs : List A) (x : A) → map f (xs ++ x
 map_more f [] x = refl
 map_more f (y ∷ xs) x = ap (λ (ys : List _). f y ∷ ys) (map_more f xs x)
 
--- with one row more there is one entry more
-pub entries_more : (plan : Plan) (rows : List Row) (i : ℕ) (row : Row) (key made value told : List ℕ) → i < length rows → row ≡ get_or rows i []
-    → key ≡ made → made ≡ key_of (kept_at plan 0) row → value ≡ told → told ≡ value_of (kept_at plan 0) row
-    → entries_in plan 0 (take (i + 1) rows) ≡ entries_in plan 0 (take i rows) ++ (record { key = key; value = value }) ∷ []
-entries_more plan rows i row key made value told below is same-key key-is same-value value-is =
-    ap (λ (list : List Row). entries_in plan 0 list) (take_more rows i [] below) ∙ map_more (entry_of (kept_at plan 0)) (take i rows) (get_or rows i [])
-    ∙ ap (λ (e : Entry). entries_in plan 0 (take i rows) ++ e ∷ []) (same (get_or rows i []) is)
+-- with one row more there is one entry more of each query
+pub entries_more : (plan : Plan) (queries : List ℕ) (rows : List Row) (i : ℕ) (row : Row) (query : ℕ) → i < length rows → row ≡ get_or rows i []
+    → made_in plan queries (take (i + 1) rows) query ≡ made_in plan queries (take i rows) query ++ entry_by plan queries row query ∷ []
+entries_more plan queries rows i row query below is =
+    ap (map entry) (take_more rows i [] below) ∙ map_more entry (take i rows) (get_or rows i [])
+    ∙ ap (λ (found : Row). map entry (take i rows) ++ entry found ∷ []) (sym is)
   where
-    same : (found : Row) → row ≡ found → entry_of (kept_at plan 0) found ≡ record { key = key; value = value }
-    same found e = rw (same-key, key-is, same-value, value-is, e) refl
+    entry : Row → Entry
+    entry = entry_of (kept_at plan (slice_index queries query))
 
-pub as_many : (plan : Plan) (rows : List Row) → length rows ≡ length (entries_in plan 0 rows)
-as_many plan rows = sym (length-map rows (entry_of (kept_at plan 0)))
+pub as_many : (plan : Plan) (queries : List ℕ) (rows : List Row) (i : ℕ) → length rows ≡ length (made_in plan queries rows i)
+as_many plan queries rows i = sym (length-map rows (entry_of (kept_at plan (slice_index queries i))))
 
 -- ---- rows that are short enough for an entry
 

@@ -12,8 +12,10 @@ use Rattle.spill_disk.specs.Files.{Files, bytes_of}
 use Rattle.run_file.specs.declared.form.Form.{Form}
 use Rattle.run_file.specs.declared.run.Run.{Run}
 use Rattle.run_file.specs.Runs.{Stands}
-use Rattle.run_file.specs.Several.{HasEntries}
+use Rattle.run_file.specs.Several.{HasEntries, KeepsFile}
 use Rattle.task_memory.specs.Disks.{KeepsFiles, SameAt}
+use Rattle.task_memory.specs.Draining.{taken_at}
+use Rattle.task_memory.specs.RunLists.{HaveEntries}
 use Rattle.task_memory.specs.Writing.{WasNotThere}
 use Rattle.task_memory.proofs.Holding.{not_there_before}
 use Rattle.task_memory.proofs.Sameness.{same_at_self, same_at_trans}
@@ -21,35 +23,60 @@ use Rattle.job_plan.specs.declared.query_plan.Plan.{Plan}
 use Rattle.task_runner.specs.Parts.{HoldsRows, IsMade, LeavesOnlyAnswer, entries_in}
 use Rattle.task_runner.specs.Workers.{AreMade, HasAnswer, LeavesOnlyAnswers, TellParts, answer_at, part_at}
 
-stands_kept : (before after : Option Files) (run : Run) (rows : List (List (List ℕ))) → KeepsFiles before after → Stands before run rows → Stands after run rows
-stands_kept None after run rows kept h = absurd h
-stands_kept (Some b) None run rows kept h = absurd kept
-stands_kept (Some b) (Some a) run rows kept h =
-    let same : map.get a run.file ≡ map.get b run.file = kept run.file h.0 in
+-- a run whose file is as it was
+pub stands_at : (before after : Option Files) (run : Run) (rows : List (List (List ℕ))) → KeepsFile before after run.file → Stands before run rows → Stands after run rows
+stands_at None after run rows kept h = absurd h
+stands_at (Some b) None run rows kept h = absurd kept
+stands_at (Some b) (Some a) run rows kept h =
+    let same : map.get a run.file ≡ map.get b run.file = kept h.0 in
     let bytes : bytes_of a run.file ≡ bytes_of b run.file = ap (λ (o : Option (List ℕ)). unwrap_or o []) same in
     (ap is_some same ∙ h.0, subst (λ (bytes : List ℕ). IsPage (take run.bytes bytes) rows) (sym bytes) h.1, h.2)
+
+kept_file : (before after : Option Files) (file : ℕ) → KeepsFiles before after → KeepsFile before after file
+kept_file None None file kept = tt
+kept_file None (Some a) file kept = absurd kept
+kept_file (Some b) None file kept = absurd kept
+kept_file (Some b) (Some a) file kept = kept file
+
+stands_kept : (before after : Option Files) (run : Run) (rows : List (List (List ℕ))) → KeepsFiles before after → Stands before run rows → Stands after run rows
+stands_kept before after run rows kept h = stands_at before after run rows (kept_file before after run.file kept) h
 
 pub rows_kept : (before after : Option Files) (form : Form) (run : Run) (rows : List (List (List ℕ))) → KeepsFiles before after → HoldsRows before form run rows → HoldsRows after form run rows
 rows_kept before after form run rows kept h = record { stands = stands_kept before after run rows kept h.stands; formed = h.formed }
 
-entries_kept : (before after : Option Files) (kind : Kind) (run : Run) (entries : List Entry) → KeepsFiles before after → HasEntries before kind run entries → HasEntries after kind run entries
-entries_kept before after kind run entries kept h = record {
+entries_at : (before after : Option Files) (kind : Kind) (run : Run) (entries : List Entry) → KeepsFile before after run.file → HasEntries before kind run entries → HasEntries after kind run entries
+entries_at before after kind run entries kept h = record {
   rows = h.rows;
-  stands = stands_kept before after run h.rows kept h.stands;
+  stands = stands_at before after run h.rows kept h.stands;
   formed = h.formed;
   are = h.are;
   ascends = h.ascends;
 }
 
+-- an answer whose run's file is as it was
+pub answer_stays : (before after : Option Files) (kind : Kind) (answer : Option Run) (entries : List Entry) → IfSome answer (λ run. KeepsFile before after run.file) → HasAnswer before kind answer entries → HasAnswer after kind answer entries
+answer_stays before after kind None entries kept h = h
+answer_stays before after kind (Some run) entries kept h = entries_at before after kind run (total kind entries) kept h
+
 answer_kept : (before after : Option Files) (kind : Kind) (answer : Option Run) (entries : List Entry) → KeepsFiles before after → HasAnswer before kind answer entries → HasAnswer after kind answer entries
 answer_kept before after kind None entries kept h = h
-answer_kept before after kind (Some run) entries kept h = entries_kept before after kind run (total kind entries) kept h
+answer_kept before after kind (Some run) entries kept h = entries_at before after kind run (total kind entries) (kept_file before after run.file kept) h
 
 -- a run that stands is in no file that isn't there
-not_fresh : (files : Option Files) (kind : Kind) (run : Run) (entries : List Entry) (file : ℕ) → HasEntries files kind run entries → WasNotThere files file → run.file ≢ file
+pub not_fresh : (files : Option Files) (kind : Kind) (run : Run) (entries : List Entry) (file : ℕ) → HasEntries files kind run entries → WasNotThere files file → run.file ≢ file
 not_fresh None kind run entries file h fresh same = absurd h.stands
 not_fresh (Some files) kind run entries file h fresh same =
     false≢true (sym (ap is_some (ap (map.get files) same ∙ fresh)) ∙ h.stands.0)
+
+stands_there : (files : Option Files) (run : Run) (rows : List (List (List ℕ))) → Stands files run rows → WasNotThere files run.file → ⊥
+stands_there None run rows stands gone = absurd stands
+stands_there (Some files) run rows stands gone = false≢true (sym (ap is_some gone) ∙ stands.0)
+
+-- the files of runs that stand are there
+pub have_there : (files : Option Files) (kind : Option Kind) (runs : List Run) (entries : List Entry) (k : ℕ) → HaveEntries files kind runs entries → k < length runs → WasNotThere files (taken_at runs k).file → ⊥
+have_there files kind [] entries k have below gone = omega (arith, below)
+have_there files kind (run ∷ runs) entries zero have below gone = stands_there files run have.2.rows have.2.stands gone
+have_there files kind (run ∷ runs) entries (suc k) have below gone = have_there files kind runs have.1 k have.3 (omega (arith, below)) gone
 
 -- ---- answers
 

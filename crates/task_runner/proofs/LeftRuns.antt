@@ -1,5 +1,5 @@
 -- What a merge of the runs that a consumer left comes to, and what it leaves of the disk.
-use Rattle.std.proofs.Common.{◌≡◌, ◌∙◌, ℕ, suc, ◌<◌, ◌≤◌, List, [], ◌∷◌, ◌++◌, Option, Some, None, Ok, Err, refl, sym, ap, subst, arith, inl, inr, length}
+use Rattle.std.proofs.Common.{◌≡◌, ◌≢◌, ◌∙◌, ℕ, suc, ◌<◌, ◌≤◌, List, [], ◌∷◌, ◌++◌, Option, Some, None, Ok, Err, refl, sym, ap, subst, arith, inl, inr, length}
 use Rattle.std.specs.Prelude.{◌↔◌, All, IfOk, IfSome, IsSome, Result, is_some}
 use Rattle.std.specs.List.{AllByRecursion}
 use Rattle.std.specs.FinMap as map
@@ -22,11 +22,12 @@ use Rattle.task_memory.specs.Draining.{taken_at}
 use Rattle.run_file.specs.Shelved.{IsGone}
 use Rattle.run_file.specs.Several.{IsFileAmong, KeepsFile, SameFile}
 use Rattle.run_merge.specs.Merged.{IsFresh, LeavesOnly, answered}
-use Rattle.run_file.proofs.Among.{among_none, among_one, among_or_not}
+use Rattle.run_file.proofs.Among.{among_or_not}
 use Rattle.run_file.specs.Several.{AreApart, HasEntries, HaveEntries, concatenated}
 use Rattle.task_runner.specs.Answers.{MergesTotal}
-use Rattle.task_runner.specs.Parts.{IsMade, LeavesOnlyAnswer, TellsTotal}
-use Rattle.task_runner.specs.Spilling.{LeavesRuns}
+use Rattle.task_runner.specs.Parts.{IsMade, TellsTotal}
+use Rattle.task_runner.specs.Spilling.{HaveTotal}
+use Rattle.task_runner.specs.Workers.{IfSound}
 use Rattle.task_runner.specs.declared.work_fault.WorkFault.{WorkFault}
 use Rattle.task_runner.specs.declared.work_fault.WorkFault.TheVariants.{NoRoom, DiskFault, Damaged, NoMemory}
 
@@ -89,27 +90,26 @@ tells_by files kind entries drained lists are comes (Err (DiskFault post)) tells
 tells_by files kind entries drained lists are comes (Err (Damaged damage)) tells = absurd tells
 tells_by files kind entries drained lists are comes (Err NoMemory) tells = tt
 
-telling_now : (before old : Option Files) → IsSome before → KeepsFiles before old → IsSome old
+pub telling_now : (before old : Option Files) → IsSome before → KeepsFiles before old → IsSome old
 telling_now None old telling kept = absurd (false≢true telling)
 telling_now (Some before) None telling kept = absurd kept
 telling_now (Some before) (Some old) telling kept = refl
 
 -- where a merge of the runs tells their total, its answer tells that of what the consumer was fed
-pub tells_left : (before old new : Option Files) (kind : Kind) (entries : List Entry) (runs : List Run) (result : Result (Option Run) WorkFault)
+pub tells_left : (old new : Option Files) (kind : Kind) (entries : List Entry) (runs : List Run) (result : Result (Option Run) WorkFault)
     → ((lists : List (List Entry)) → IsSome old → HaveEntries (λ _. old) kind runs lists → AreApart (λ _. 0) runs → MergesTotal (λ _. new) kind lists result)
-    → IsSome before → LeavesRuns before old kind entries runs → TellsTotal new kind entries result
-tells_left before old new kind entries runs result merges telling left =
-    let whole = left.total_is telling in
+    → IsSome old → HaveTotal old kind entries runs → TellsTotal new kind entries result
+tells_left old new kind entries runs result merges telling whole =
     let lists = lists_of_runs old kind runs whole.drained whole.have in
     tells_by new kind entries whole.drained lists.lists lists.are whole.comes result
-    (merges lists.lists (telling_now before old telling left.stay) lists.have (λ i j one other disk file. whole.apart i j one other file))
+    (merges lists.lists telling lists.have (λ i j one other disk file. whole.apart i j one other file))
 
 -- ---- the disk
 
-abbrev Among : List Run → ℕ → Type 0
+abbrev pub Among : List Run → ℕ → Type 0
 Among runs file = IsFileAmong (λ _. 0) runs 0 file
 
-abbrev AreNew : Option Files → List Run → Type 0
+abbrev pub AreNew : Option Files → List Run → Type 0
 AreNew before runs = (k : ℕ) → k < length runs → WasNotThere before (taken_at runs k).file
 
 lacks : (found : Option (List ℕ)) → found ≡ None → IsSome found → ⊥
@@ -163,18 +163,24 @@ answer_disk (each ∷ []) result run is bounded alone empty on =
     ap (λ (r : Run). r.disk) same ∙ (bounded 0 each (omega arith)).0
 answer_disk (one ∷ other ∷ runs) result run is bounded alone empty on = on (omega arith)
 
--- the answer of a merge is a run that the task made
-pub made_left : (before old : Option Files) (kind : Kind) (entries : List Entry) (runs : List Run) (result : Result (Option Run) WorkFault) → LeavesRuns before old kind entries runs
+-- the answer of a merge is on the disk, and its rows are of a cost that a merge can count on
+pub made_left : (runs : List Run) (result : Result (Option Run) WorkFault) → All IsBounded runs
     → ((each : Run) → runs ≡ each ∷ [] → result ≡ Ok (Some each)) → IfOk result (λ answer. (answer ≡ None) ↔ (runs ≡ []))
     → IfOk result (λ answer. IfSome answer (λ run. 2 ≤ length runs → run.disk ≡ 0)) → IfOk result (λ answer. IfSome answer (λ run. run.greatest ≤ 196752))
-    → IfOk result (λ answer. IsFresh (λ _. 0) (λ _. old) runs (answered answer)) → IfOk result (λ answer. IfSome answer (IsMade before))
-made_left before old kind entries runs (Ok None) left alone none on bounded fresh = tt
-made_left before old kind entries runs (Ok (Some run)) left alone none on bounded fresh = record {
-  disk = answer_disk runs (said (Some run)) run refl left.bounded alone none.1 on;
-  bounded = bounded;
-  fresh = new_file before old runs run.file left.fresh left.stay (λ apart. fresh 0 run.file (0, omega arith, refl, refl) apart);
+    → IfOk result (λ answer. IfSome answer IsBounded)
+made_left runs (Ok None) bounds alone none on bounded = tt
+made_left runs (Ok (Some run)) bounds alone none on bounded = (answer_disk runs (said (Some run)) run refl bounds alone none.1 on, bounded)
+made_left runs (Err fault) bounds alone none on bounded = tt
+
+-- it is in a file that wasn't there before the runs were
+pub made_before : (before old : Option Files) (runs : List Run) (answer : Option Run) → AreNew before runs → KeepsFiles before old → IfSome answer IsBounded
+    → IsFresh (λ _. 0) (λ _. old) runs (answered answer) → IfSome answer (IsMade before)
+made_before before old runs None new stay bounded fresh = tt
+made_before before old runs (Some run) new stay bounded fresh = record {
+  disk = bounded.0;
+  bounded = bounded.1;
+  fresh = new_file before old runs run.file new stay (λ apart. fresh 0 run.file (0, omega arith, refl, refl) apart);
 }
-made_left before old kind entries runs (Err fault) left alone none on bounded fresh = tt
 
 -- ---- the other files
 
@@ -191,18 +197,23 @@ same_then (Some before) (Some old) None file stay first then = tt
 same_then (Some before) (Some old) (Some new) file stay first then = then ∙ first
 
 -- the runs' files are gone, and weren't there before; all others are as they were
-same_left : (before old new : Option Files) (kind : Kind) (entries : List Entry) (runs answer : List Run) → LeavesRuns before old kind entries runs
-    → LeavesOnly (λ _. 0) (λ _. old) (λ _. new) runs answer → (file : ℕ) → (Among answer file → ⊥) → SameAt before new file
-same_left before old new kind entries runs answer left leaves file other = elim (among_or_not (λ _. 0) runs 0 file) [
-  | inl among ↦ same_gone before new file (subst (λ (f : ℕ). WasNotThere before f) among.3 (left.fresh among.0 among.1)) (leaves.gone 0 file among other)
-  | inr apart ↦ same_then before old new file left.stay (left.only file (λ k below is. apart (k, below, refl, is))) (leaves.others 0 file apart other)
+pub same_left : (before old new : Option Files) (runs answer : List Run) (file : ℕ) → AreNew before runs → KeepsFiles before old → ((Among runs file → ⊥) → SameAt before old file)
+    → LeavesOnly (λ _. 0) (λ _. old) (λ _. new) runs answer → (Among answer file → ⊥) → SameAt before new file
+same_left before old new runs answer file fresh stay first leaves other = elim (among_or_not (λ _. 0) runs 0 file) [
+  | inl among ↦ same_gone before new file (subst (λ (f : ℕ). WasNotThere before f) among.3 (fresh among.0 among.1)) (leaves.gone 0 file among other)
+  | inr apart ↦ same_then before old new file stay (first apart) (leaves.others 0 file apart other)
 ]
 
--- a merge of the runs leaves the answer's file alone
-pub only_left : (before old new : Option Files) (kind : Kind) (entries : List Entry) (runs : List Run) (result : Result (Option Run) WorkFault) → LeavesRuns before old kind entries runs
-    → IfOk result (λ answer. LeavesOnly (λ _. 0) (λ _. old) (λ _. new) runs (answered answer)) → IfOk result (λ answer. LeavesOnlyAnswer before new answer)
-only_left before old new kind entries runs (Ok None) left leaves = λ file.
-    same_left before old new kind entries runs [] left leaves file (among_none (λ _. 0) 0 file)
-only_left before old new kind entries runs (Ok (Some run)) left leaves = λ file other.
-    same_left before old new kind entries runs (run ∷ []) left leaves file (λ among. other (sym (among_one (λ _. 0) run 0 file among).1))
-only_left before old new kind entries runs (Err fault) left leaves = tt
+-- an answer is in another file than a run that is there and isn't among those that were merged
+pub answer_apart : (old : Option Files) (runs : List Run) (answer : Option Run) (run : Run) (file : ℕ) → answer ≡ Some run → IsFresh (λ _. 0) (λ _. old) runs (answered answer)
+    → (Among runs file → ⊥) → (WasNotThere old file → ⊥) → run.file ≢ file
+answer_apart old runs answer run file is fresh other there same =
+    let among : Among (answered answer) file = rw is (0, omega arith, refl, same) in
+    there (gone_there old file (fresh 0 file among other))
+
+-- where a merge finds no damage, none is told
+pub sound_left : {T : Type 0} (files : Option Files) (kind : Kind) (entries : List Entry) (says : T → Type 0) (fault : WorkFault) → TellsTotal files kind entries (Err fault) → IfSound says (Err fault)
+sound_left files kind entries says (NoRoom asked held floor) tells = tt
+sound_left files kind entries says (DiskFault post) tells = tt
+sound_left files kind entries says (Damaged damage) tells = tells
+sound_left files kind entries says NoMemory tells = tt

@@ -15,11 +15,17 @@ mod AtPosts
 mod Reaching
 mod OtherFaults
 mod WholePass
+mod Behind
 mod Feeds
+mod MoreRows
 mod Fields
 mod Drains
+mod DrainedAll
 mod Starts
 mod LeftRuns
+mod MergedRuns
+mod MergedAll
+mod OneQuery
 mod FromRuns
 mod Leaving
 mod Charged

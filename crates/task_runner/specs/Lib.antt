@@ -6,6 +6,7 @@ pub mod Parts
 pub mod Reading
 pub mod Spilling
 pub mod Workers
+pub mod Queries
 pub mod OneWorker
 pub mod Pass
 pub mod AllWorkers

@@ -22,7 +22,7 @@ pub record IsShort (old new : Held) (asked floor : ℕ) : Type 0 where
   pub refused : IsRefused new asked floor
 
 -- the same answer, but that a refusal for want of room tells that the task held so much
-abbrev pub told_with : Result (Option Run) WorkFault → ℕ → Result (Option Run) WorkFault
+abbrev pub told_with : {T : Type 0} → Result T WorkFault → ℕ → Result T WorkFault
 told_with (Ok answer) held = Ok answer
 told_with (Err (NoRoom asked was floor)) held = Err (NoRoom asked held floor)
 told_with (Err (DiskFault post)) held = Err (DiskFault post)

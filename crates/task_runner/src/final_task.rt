@@ -82,10 +82,7 @@ pub fn run_final<K: Disk, D: Disk, H: Shelf<D>, B: Basis, R: Wait>(
 }
 
 // The same answer, but that a refusal for want of room tells that the task held so much.
-pub(crate) fn told(
-    answer: Result<Option<Run>, WorkFault>,
-    held: u64,
-) -> Result<Option<Run>, WorkFault>
+pub(crate) fn told<T>(answer: Result<T, WorkFault>, held: u64) -> Result<T, WorkFault>
     ensures { result ≡ told_with answer held }
 {
     match answer {

@@ -56,8 +56,8 @@ fn next_task<K: Disk, D: Disk, C: Consumer, B: Basis, R: Wait>(
         (own_of worker.new) part asked held floor) }
     ensures cause { HasCauseAmong (λ _. D.faults post.old.disk) (λ _. D.faults post.new.disk) result }
 {
-    let answer = run_task(executor, worker, plan, landed, post, part)?;
-    match answers.push(answer) {
+    let found = run_task(executor, worker, plan, &[0], landed, post, part)?;
+    match answers.push(found[0]) {
         Ok(()) => Ok(()),
         Err(_) => Err(WorkFault::NoMemory),
     }
