@@ -1,0 +1,16 @@
+pub mod Rules
+pub mod Looks
+pub mod Strict
+pub mod Turns
+pub mod Settled
+pub mod Walks
+pub mod Grammars
+pub mod Getters
+pub mod Parses
+pub mod Literal
+pub mod Flags
+pub mod AddedRules
+pub mod Plain
+pub mod Digits
+pub mod MoreTexts
+pub mod Programs
