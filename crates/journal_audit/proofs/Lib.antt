@@ -1,0 +1,12 @@
+pub mod Wholes
+pub mod FieldsAgain
+pub mod EntriesAgain
+pub mod FieldsTake
+pub mod EntriesTake
+pub mod Inline
+pub mod LinesOf
+pub mod Journals
+pub mod Found
+pub mod Tests
+pub mod Absent
+pub mod Follows
