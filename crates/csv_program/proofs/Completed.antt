@@ -16,25 +16,17 @@ use Rattle.pool_ledger.specs.declared.entry.Entry.{Entry}
 use Rattle.pool_ledger.specs.declared.entry.Event.{Event}
 use Rattle.pool_ledger.specs.declared.entry.Event.TheVariants.{Attempt}
 use Rattle.task_account.specs.Attempts.{Answered, last_after, last_attempt}
-use Rattle.csv_program.specs.Calls.{Call, ForJob, Runs, call_by, call_of, call_with, job_of}
+use Rattle.csv_program.specs.Calls.{Call, ForRun, Runs}
+use Rattle.csv_program.specs.declared.call.RunCall.{RunCall}
 use Rattle.csv_program.specs.Complete.{FailsNothing, GrantsAll, IsWhole}
-use Rattle.csv_program.specs.Endings.{EndsAs, Ending, Prints, ending_of}
+use Rattle.csv_program.specs.Endings.{ComesBefore, EndsAs, Ending, MayEndAs, Prints, ending_of}
 use Rattle.csv_program.specs.Posts.{AllTell, post_files}
 use Rattle.csv_program.specs.Statuses.{IsDiskFault, IsNoRoom, IsOutside}
 use Rattle.csv_program.specs.Tasks.{ShowsShort}
-use Rattle.csv_program.specs.Words.{Asks, asked}
 use Rattle.csv_program.specs.declared.outcome.Status.{Status}
 use Rattle.csv_program.specs.declared.outcome.Status.TheVariants as status
+use Rattle.csv_program.proofs.Called.{for_run}
 use Rattle.csv_program.proofs.Journals.{all_reverse}
-
--- ---- the call
-
-pub call_is : (posts : ℕ) (words : List (List ℕ)) (pool : Sizes) (text : List ℕ) (job : Job) → asked words ≡ Asks pool text → pool.workers ≤ posts → job_of text ≡ Some job → call_of posts words ≡ Runs pool job
-call_is posts words pool text job asks enough is =
-    ap (call_by posts) asks ∙ (rw (le-ltb posts pool.workers enough) (ap (call_with pool) is))
-
-pub for_job : (call : Call) (pool : Sizes) (job : Job) (P : Sizes → Job → Type 0) → call ≡ Runs pool job → P pool job → ForJob call P
-for_job call pool job P is holds = subst (λ (c : Call). ForJob c P) (sym is) holds
 
 -- ---- whole grants
 
@@ -76,22 +68,23 @@ by_status _ pool journal reads writes disks no_reads no_writes no_disks all read
 
 pub completes : (ended : Status) (ending : Ending) (text : List ℕ) (pool : Sizes) (journal : List Entry) (input input' output output' : ℕ) (posts posts' : ℕ → ℕ) → ending ≡ Prints text
     → FailsNothing input input' output output' posts posts' → GrantsAll journal → (ended ≡ status.ReadFault → Rose input input') → (ended ≡ status.WriteFault → Rose output output')
-    → IsDiskFault ended (λ post. Rose (posts post) (posts' post)) → IsNoRoom ended (ShowsShort pool journal) → IsOutside ended ⊎ EndsAs ending ended → (ended ≡ status.Done) ⊎ (ended ≡ status.NoMemory)
+    → IsDiskFault ended (λ post. Rose (posts post) (posts' post)) → IsNoRoom ended (ShowsShort pool journal) → MayEndAs ending ended → (ended ≡ status.Done) ⊎ (ended ≡ status.NoMemory)
 completes ended ending text pool journal input input' output output' posts posts' prints nothing all read write disk no_room (inl outside) =
-    inr (by_status ended pool journal (Rose input input') (Rose output output') (λ post. Rose (posts post) (posts' post)) nothing.reads nothing.writes nothing.disks all read write disk no_room outside)
+    inr (by_status ended pool journal (Rose input input') (Rose output output') (λ post. Rose (posts post) (posts' post)) nothing.reads nothing.writes nothing.disks all read write disk no_room
+    (subst (λ (e : Ending). ComesBefore e ended) prints outside))
 completes ended ending text pool journal input input' output output' posts posts' prints nothing all read write disk no_room (inr ends) =
     inl (subst (λ (e : Ending). EndsAs e ended) prints ends)
 
 -- of a call of a job
-pub completes_call : {D C : Type 0} (files : D → Option Files) (posts : Vec (Post D C)) (left : Option (List ℕ)) (call : Call) (pool : Sizes) (job : Job) (ended : Status) (journal : List Entry) (input input' output output' : ℕ) (faults faults' : ℕ → ℕ)
-    → call ≡ Runs pool job → (ended ≡ status.ReadFault → Rose input input') → (ended ≡ status.WriteFault → Rose output output')
-    → IsDiskFault ended (λ post. Rose (faults post) (faults' post)) → IsNoRoom ended (ShowsShort pool journal)
-    → IfSome left (λ bytes. AllTell pool.workers (post_files files posts) → IsOutside ended ⊎ EndsAs (ending_of job bytes) ended)
-    → ForJob call (λ pool job. IfSome left (λ bytes. AllTell pool.workers (post_files files posts) → (text : List ℕ) → ending_of job bytes ≡ Prints text
+pub completes_call : {D C : Type 0} (files : D → Option Files) (posts : Vec (Post D C)) (left : Option (List ℕ)) (call : Call) (asked : RunCall) (ended : Status) (journal : List Entry) (input input' output output' : ℕ) (faults faults' : ℕ → ℕ)
+    → call ≡ Runs asked → (ended ≡ status.ReadFault → Rose input input') → (ended ≡ status.WriteFault → Rose output output')
+    → IsDiskFault ended (λ post. Rose (faults post) (faults' post)) → IsNoRoom ended (ShowsShort asked.pool journal)
+    → IfSome left (λ bytes. AllTell asked.pool.workers (post_files files posts) → MayEndAs (ending_of asked bytes) ended)
+    → ForRun call (λ asked. IfSome left (λ bytes. AllTell asked.pool.workers (post_files files posts) → (text : List ℕ) → ending_of asked bytes ≡ Prints text
     → FailsNothing input input' output output' faults faults' → GrantsAll journal → (ended ≡ status.Done) ⊎ (ended ≡ status.NoMemory)))
-completes_call files posts None call pool job ended journal input input' output output' faults faults' is read write disk no_room ends = for_job call pool job _ is _
-completes_call files posts (Some bytes) call pool job ended journal input input' output output' faults faults' is read write disk no_room ends =
-    for_job call pool job
-    (λ pool job. AllTell pool.workers (post_files files posts) → (text : List ℕ) → ending_of job bytes ≡ Prints text
+completes_call files posts None call asked ended journal input input' output output' faults faults' is read write disk no_room ends = for_run call asked _ is _
+completes_call files posts (Some bytes) call asked ended journal input input' output output' faults faults' is read write disk no_room ends =
+    for_run call asked
+    (λ asked. AllTell asked.pool.workers (post_files files posts) → (text : List ℕ) → ending_of asked bytes ≡ Prints text
     → FailsNothing input input' output output' faults faults' → GrantsAll journal → (ended ≡ status.Done) ⊎ (ended ≡ status.NoMemory))
-    is (λ tell text prints nothing all. completes ended (ending_of job bytes) text pool journal input input' output output' faults faults' prints nothing all read write disk no_room (ends tell))
+    is (λ tell text prints nothing all. completes ended (ending_of asked bytes) text asked.pool journal input input' output output' faults faults' prints nothing all read write disk no_room (ends tell))

@@ -12,7 +12,8 @@ use Rattle.pool_ledger.specs.declared.entry.Event.{Event}
 use Rattle.pool_ledger.specs.declared.entry.Event.TheVariants.{Begin, End}
 use Rattle.pool_laws.specs.Growing.{entry_by}
 use Rattle.pool_laws.specs.Owners.{IsByOwner}
-use Rattle.memory_lock.proofs.Staying.{all_append, all_imply}
+use Rattle.task_pool.proofs.GoingOn.{all_append}
+use Rattle.memory_lock.proofs.Staying.{all_imply}
 use Rattle.task_pool.specs.Asks.{IsOfTask}
 use Rattle.task_runner.specs.Workers.{AreTasks, part_at}
 use Rattle.task_runner.specs.Works.{IsTaskOf}

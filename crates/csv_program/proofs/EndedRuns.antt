@@ -1,5 +1,5 @@
 -- What is known of a run's status by its tasks' answer.
-use Rattle.std.proofs.Common.{◌≡◌, ◌<◌, ◌∙◌, [], ℕ, List, Option, Some, None, Result, Ok, Err, append-nil, refl, sym, subst, arith}
+use Rattle.std.proofs.Common.{◌≡◌, ◌<◌, ◌∙◌, [], ℕ, List, Option, Some, None, Result, Ok, Err, append-nil, refl, sym, subst, inl, arith}
 use Rattle.std.specs.Prelude.{AllPairs, OnOk}
 use Rattle.pool_ledger.specs.Workers.{entries_of}
 use Rattle.pool_ledger.specs.declared.entry.Entry.{Entry}
@@ -9,19 +9,33 @@ use Rattle.byte_io.specs.Sinks.{AppendsPrefix}
 use Rattle.task_runner.specs.Workers.{IfSound}
 use Rattle.task_runner.specs.declared.work_fault.WorkFault.{WorkFault}
 use Rattle.task_runner.specs.declared.work_fault.WorkFault.TheVariants.{NoRoom, DiskFault, Damaged, NoMemory}
-use Rattle.csv_program.specs.Statuses.{IsOutside}
+use Rattle.csv_program.specs.Endings.{MayEndAs, ending_with}
+use Rattle.csv_program.specs.Statuses.{IsOutside, IsUnprinted}
 use Rattle.csv_program.specs.Telling.{status_of_work}
 use Rattle.csv_program.specs.declared.outcome.Status.{Status}
 use Rattle.csv_program.specs.declared.outcome.Status.TheVariants as status
 
-outside_by : {T : Type 0} (says : T → Type 0) (fault : WorkFault) → IfSound says (Err fault) → IsOutside (status_of_work fault)
-outside_by says (NoRoom asked held floor) sound = _
-outside_by says (DiskFault post) sound = _
-outside_by says (Damaged damage) sound = absurd sound
-outside_by says NoMemory sound = _
+-- what may come before anything is printed may come before the tables are whole
+unprinted_outside : (ended : Status) → IsUnprinted ended → IsOutside ended
+unprinted_outside (status.NoRoom asked held floor) unprinted = _
+unprinted_outside status.ReadFault unprinted = _
+unprinted_outside (status.DiskFault post) unprinted = _
+unprinted_outside status.NoMemory unprinted = _
+unprinted_outside _ unprinted = absurd unprinted
 
-pub outside_work : {T : Type 0} (says : T → Type 0) (result : Result T WorkFault) (fault : WorkFault) (ended : Status) → result ≡ Err fault → IfSound says result → ended ≡ status_of_work fault → IsOutside ended
-outside_work says result fault ended is sound tells = subst IsOutside (sym tells) (outside_by says fault (subst (IfSound says) is sound))
+-- so it comes before each ending of an input that was landed
+pub may_end : (text : List ℕ) (wide : Option (ℕ × List ℕ)) (ended : Status) → IsUnprinted ended → MayEndAs (ending_with text wide) ended
+may_end text None ended unprinted = inl (unprinted_outside ended unprinted)
+may_end text (Some wide) ended unprinted = inl unprinted
+
+unprinted_by : {T : Type 0} (says : T → Type 0) (fault : WorkFault) → IfSound says (Err fault) → IsUnprinted (status_of_work fault)
+unprinted_by says (NoRoom asked held floor) sound = _
+unprinted_by says (DiskFault post) sound = _
+unprinted_by says (Damaged damage) sound = absurd sound
+unprinted_by says NoMemory sound = _
+
+pub unprinted_work : {T : Type 0} (says : T → Type 0) (result : Result T WorkFault) (fault : WorkFault) (ended : Status) → result ≡ Err fault → IfSound says result → ended ≡ status_of_work fault → IsUnprinted ended
+unprinted_work says result fault ended is sound tells = subst IsUnprinted (sym tells) (unprinted_by says fault (subst (IfSound says) is sound))
 
 not_done : (fault : WorkFault) → status_of_work fault ≡ status.Done → ⊥
 not_done (NoRoom asked held floor) e = cc e

@@ -20,7 +20,6 @@ use Rattle.landing.specs.Landed.{AreLanded, partition_count, partition_of}
 use Rattle.task_runner.specs.Consumers.{FeedsOne, place_for}
 use Rattle.task_runner.specs.Pass.{FeedsParts}
 use Rattle.task_runner.specs.Workers.{IsCount, part_at, rows_to}
-use Rattle.csv_program.specs.Endings.{part_rows}
 use Rattle.csv_program.specs.Posts.{AllTell, FeedsRows, place_in, place_of_first, place_of_shape, rows_in}
 
 -- ---- the consumer
@@ -44,24 +43,24 @@ same_length : (n m : ℕ) (xs ys : List Fields) → length xs ≡ length ys → 
 same_length n m xs ys same =
     length-take n (drop m xs) ∙ ap (min n) (length-drop m xs ∙ ap (λ (k : ℕ). k - m) same ∙ sym (length-drop m ys)) ∙ sym (length-take n (drop m ys))
 
-rows_same : (files : ℕ → Option Files) (workers worker : ℕ) (parts : List Run) (landed rows : List Fields) → 1 ≤ workers → AllTell workers files → AreLanded files part_rows workers parts landed → length landed ≡ length rows
-    → (count : ℕ) → ((k : ℕ) → k < count → part_at workers worker k < length parts) → rows_to parts workers worker count ≡ rows_in rows workers worker count
+rows_same : (files : ℕ → Option Files) (part_rows workers worker : ℕ) (parts : List Run) (landed rows : List Fields) → 1 ≤ workers → AllTell workers files → AreLanded files part_rows workers parts landed → length landed ≡ length rows
+    → (count : ℕ) → ((k : ℕ) → k < count → part_at workers worker k < length parts) → rows_to parts workers worker count ≡ rows_in part_rows rows workers worker count
 unfolding rows_to rows_in
-rows_same files workers worker parts landed rows some tell are same zero within = refl
-rows_same files workers worker parts landed rows some tell are same (suc k) within =
+rows_same files part_rows workers worker parts landed rows some tell are same zero within = refl
+rows_same files part_rows workers worker parts landed rows some tell are same (suc k) within =
     let part = part_at workers worker k in
-    let before = rows_same files workers worker parts landed rows some tell are same k (λ j below. within j (omega arith)) in
+    let before = rows_same files part_rows workers worker parts landed rows some tell are same k (λ j below. within j (omega arith)) in
     let here = stands_count (files (part % workers)) (run_at parts part) (partition_of part_rows part landed) (are.stand part (within k (omega arith)) (tell (part % workers) (mod-lt part some))) in
     let length_is = same_length part_rows (part * part_rows) landed rows same in
     omega (arith, before, here, length_is)
 
-pub feeds_rows : (states states' : List State) (place place' : ℕ) (files : ℕ → Option Files) (workers worker : ℕ) (parts : List Run) (landed rows : List Fields) → 1 ≤ workers → AllTell workers files → AreLanded files part_rows workers parts landed
-    → length landed ≡ length rows → place ≡ place' → FeedsParts states states' place parts workers worker → FeedsRows states states' place' rows workers worker
-feeds_rows states states' place place' files workers worker parts landed rows some tell are same there feeds =
+pub feeds_rows : (states states' : List State) (place place' : ℕ) (files : ℕ → Option Files) (part_rows workers worker : ℕ) (parts : List Run) (landed rows : List Fields) → 1 ≤ workers → AllTell workers files → AreLanded files part_rows workers parts landed
+    → length landed ≡ length rows → place ≡ place' → FeedsParts states states' place parts workers worker → FeedsRows states states' place' part_rows rows workers worker
+feeds_rows states states' place place' files part_rows workers worker parts landed rows some tell are same there feeds =
     let partitions : length parts ≡ partition_count (length rows) part_rows = are.count ∙ ap (λ (n : ℕ). partition_count n part_rows) same in
     record {
       count = feeds.count;
       all = subst (λ (n : ℕ). IsCount workers worker n feeds.count) partitions feeds.all;
-      feeds = subst (λ (n : ℕ). FeedsOne states states' place' n) (rows_same files workers worker parts landed rows some tell are same feeds.count feeds.all.within)
+      feeds = subst (λ (n : ℕ). FeedsOne states states' place' n) (rows_same files part_rows workers worker parts landed rows some tell are same feeds.count feeds.all.within)
           (subst (λ (p : ℕ). FeedsOne states states' p (rows_to parts workers worker feeds.count)) there feeds.feeds);
     }

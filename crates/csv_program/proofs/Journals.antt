@@ -13,7 +13,7 @@ use Rattle.pool_ledger.specs.Workers.{entries_of}
 use Rattle.pool_ledger.specs.declared.entry.Entry.{Entry}
 use Rattle.pool_ledger.specs.declared.entry.Event.{Event}
 use Rattle.pool_laws.specs.Owners.{AreOwned, IsByOwner}
-use Rattle.memory_lock.proofs.Staying.{all_append}
+use Rattle.task_pool.proofs.GoingOn.{all_append}
 
 -- ---- sums over entries
 

@@ -1,9 +1,9 @@
-pub mod Heaps
 pub mod PostDisks
 pub mod LandedOn
 pub mod Wholes
 pub mod ToldTotals
 pub mod EndedRuns
+pub mod Called
 pub mod Completed
 pub mod Judged
 pub mod FedRows

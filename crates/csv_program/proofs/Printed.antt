@@ -9,8 +9,11 @@ use Rattle.run_file.specs.Several.{HasEntries}
 use Rattle.result_table.specs.Results.{FindsNoDamage, HasResult}
 use Rattle.result_table.specs.declared.print_fault.PrintFault.{PrintFault}
 use Rattle.result_table.specs.declared.print_fault.PrintFault.TheVariants.{WriteFault, DiskFault, Damaged, NoMemory}
-use Rattle.csv_program.specs.Statuses.{IsOutside}
-use Rattle.csv_program.specs.Telling.{status_of_print}
+use Rattle.csv_program.specs.Statuses.{IsOutside, IsUnprinted}
+use Rattle.run_file.specs.Causes.{NotDamaged}
+use Rattle.run_file.specs.declared.run.RunFault.{RunFault}
+use Rattle.run_file.specs.declared.run.RunFault.TheVariants as run_fault
+use Rattle.csv_program.specs.Telling.{status_of_print, status_of_run}
 use Rattle.csv_program.specs.declared.outcome.Status.{Status}
 
 outside_print : (fault : PrintFault) → FindsNoDamage (Err fault) → IsOutside (status_of_print fault)
@@ -22,6 +25,15 @@ outside_print NoMemory none = _
 -- a table that could not be printed, though its entries can be told, tells a fault of the outside
 pub fault_outside : (result : Result (Unit {0}) PrintFault) (fault : PrintFault) (status : Status) → result ≡ Err fault → FindsNoDamage result → status ≡ status_of_print fault → IsOutside status
 fault_outside result fault status is none tells = subst IsOutside (sym tells) (outside_print fault (subst FindsNoDamage is none))
+
+unprinted_fault : (T : Type 0) (fault : RunFault) → NotDamaged {T = T} (Err fault) → IsUnprinted (status_of_run fault)
+unprinted_fault T (run_fault.DiskFault disk) none = _
+unprinted_fault T (run_fault.Damaged damage) none = absurd none
+unprinted_fault T run_fault.NoMemory none = _
+
+-- a search for a wide sum that failed, though the result stands, tells what may come before anything is printed
+pub unprinted_run : {T : Type 0} (result : Result T RunFault) (fault : RunFault) (ended : Status) → result ≡ Err fault → NotDamaged result → ended ≡ status_of_run fault → IsUnprinted ended
+unprinted_run {T = T} result fault ended is none tells = subst IsUnprinted (sym tells) (unprinted_fault T fault (subst (λ (r : Result T RunFault). NotDamaged r) is none))
 
 -- a result stays where the files do
 pub result_kept : (before after : ℕ → Option Files) (kind : Kind) (answer : Option Run) (entries : List Entry) → ((disk : ℕ) → after disk ≡ before disk) → HasResult before kind answer entries → HasResult after kind answer entries

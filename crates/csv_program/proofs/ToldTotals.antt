@@ -23,7 +23,7 @@ use Rattle.job_plan.specs.declared.planned.Planned.{Planned}
 use Rattle.job_plan.specs.declared.query_plan.Plan.{Plan}
 use Rattle.landing.specs.Landed.{AreChecked, AreLanded, partition_of}
 use Rattle.task_runner.specs.Parts.{HoldsRows}
-use Rattle.csv_program.specs.Endings.{part_rows, totals_of}
+use Rattle.csv_program.specs.Endings.{totals_of}
 use Rattle.csv_program.specs.Posts.{AllTell}
 
 -- how many columns an order tells
@@ -68,9 +68,9 @@ all_take P zero xs all = tt
 all_take P (suc n) [] all = tt
 all_take P (suc n) (x ∷ xs) all = (all.0, all_take P n xs all.1)
 
-pub holds_parts : (files : ℕ → Option Files) (plan : Plan) (workers : ℕ) (parts : List Run) (rows : List Fields) → 1 ≤ workers → AllTell workers files → AreLanded files part_rows workers parts rows → AreChecked (form_in plan) rows
+pub holds_parts : (files : ℕ → Option Files) (plan : Plan) (part_rows workers : ℕ) (parts : List Run) (rows : List Fields) → 1 ≤ workers → AllTell workers files → AreLanded files part_rows workers parts rows → AreChecked (form_in plan) rows
     → (part : ℕ) → part < length parts → HoldsRows (files (part % workers)) (form_in plan) (run_at parts part) (partition_of part_rows part rows)
-holds_parts files plan workers parts rows some tell landed checked part below = record {
+holds_parts files plan part_rows workers parts rows some tell landed checked part below = record {
   stands = landed.stand part below (tell (part % workers) (mod-lt part some));
   formed = all_take (HasForm (form_in plan)) part_rows (drop (part * part_rows) rows) (all_drop (HasForm (form_in plan)) (part * part_rows) rows checked.formed);
 }

@@ -12,7 +12,7 @@ use Rattle.job_plan.specs.Plans.{kept_at, kind_at}
 use Rattle.job_plan.specs.declared.query_plan.Plan.{Plan}
 use Rattle.landing.specs.Landed.{partition_count, partition_of}
 use Rattle.task_runner.specs.Parts.{entries_in}
-use Rattle.csv_program.specs.Endings.{part_rows, totals_of}
+use Rattle.csv_program.specs.Endings.{totals_of}
 
 drop_none : {A : Type 0} (n : ℕ) → drop {A = A} n [] ≡ []
 drop_none zero = refl
@@ -48,13 +48,10 @@ map_concatenated f list_of [] = refl
 map_concatenated f list_of (p ∷ places) = ap (λ (rest : List _). map f (list_of p) ++ rest) (map_concatenated f list_of places) ∙ sym (map-append f (list_of p) (concatenated (map list_of places)))
 
 -- what the entries of the partitions come to is what those of all rows come to
-pub whole_totals : (plan : Plan) (rows : List Fields) (partitions : ℕ) → partitions ≡ partition_count (length rows) part_rows
+pub whole_totals : (plan : Plan) (rows : List Fields) (part_rows partitions : ℕ) → 1 ≤ part_rows → partitions ≡ partition_count (length rows) part_rows
     → total (kind_at plan 0) (concatenated (map (λ part. entries_in plan 0 (partition_of part_rows part rows)) (range_with_len 0 partitions))) ≡ totals_of plan rows
-whole_totals plan rows partitions count =
+whole_totals plan rows part_rows partitions some count =
     ap (λ (entries : List Entry). total (kind_at plan 0) entries)
     (map_concatenated (entry_of (kept_at plan 0)) (λ part. partition_of part_rows part rows) (range_with_len 0 partitions)
     ∙ ap (λ (n : ℕ). map (entry_of (kept_at plan 0)) (concatenated (map (λ part. partition_of part_rows part rows) (range_with_len 0 n)))) count
-    ∙ ap (map (entry_of (kept_at plan 0))) (parts_whole part_rows rows some_rows))
-  where
-    some_rows : 1 ≤ part_rows
-    some_rows = omega arith
+    ∙ ap (map (entry_of (kept_at plan 0))) (parts_whole part_rows rows some))

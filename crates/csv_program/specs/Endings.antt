@@ -1,6 +1,6 @@
 -- How a run ends where nothing outside fails, and there is room and memory.
 -- This project's own.
-use Rattle.std.specs.Prelude.{◌≡◌, ℕ, List, [], Option, Some, None, length, map}
+use Rattle.std.specs.Prelude.{◌≡◌, ◌⊎◌, ℕ, List, [], Option, Some, None, length, map}
 use Rattle.aggregate.specs.Totals.{Entry, total}
 use Rattle.byte_io.specs.Rows.{rows_of}
 use Rattle.job_answer.specs.Laws.{wide_total}
@@ -15,15 +15,10 @@ use Rattle.landing.specs.Landed.{partition_count}
 use Rattle.landing.specs.declared.fault.LandFault.{LandFault}
 use Rattle.landing.specs.declared.fault.LandFault.TheVariants as fault
 use Rattle.result_table.specs.Results.{table_of}
+use Rattle.csv_program.specs.Statuses.{IsOutside, IsUnlanded, IsUnprinted}
+use Rattle.csv_program.specs.declared.call.RunCall.{RunCall}
 use Rattle.csv_program.specs.declared.outcome.Status.{Status}
 use Rattle.csv_program.specs.declared.outcome.Status.TheVariants as status
-
--- the most rows below the header, and how many of them make a partition
-abbrev pub max_rows : ℕ
-max_rows = 10000000
-
-abbrev pub part_rows : ℕ
-part_rows = 10000
 
 -- the input is refused; a sum of a query is too wide, for this key; or tables are printed
 pub data Ending : Type 0 where
@@ -39,9 +34,9 @@ abbrev pub ending_of_checked : Job → Checked → Ending
 ending_of_checked job (Refused why) = Refuses why
 ending_of_checked job (Rows header rows) = ending_with (output job header rows) (too_wide job header rows)
 
--- how a job over an input ends
-abbrev pub ending_of : Job → List ℕ → Ending
-ending_of job bytes = ending_of_checked job (checked job max_rows (rows_of bytes))
+-- how a run over an input ends
+abbrev pub ending_of : RunCall → List ℕ → Ending
+ending_of asked bytes = ending_of_checked asked.job (checked asked.job asked.max_rows (rows_of bytes))
 
 -- what is printed in an ending
 abbrev pub printed_in : Ending → List ℕ
@@ -49,21 +44,23 @@ printed_in (Refuses why) = []
 printed_in (HasTooWide query key) = []
 printed_in (Prints text) = text
 
--- how many partitions an input has for a job: none where it is refused
-abbrev pub partitions_of_checked : Checked → ℕ
-partitions_of_checked (Refused why) = 0
-partitions_of_checked (Rows header rows) = partition_count (length rows) part_rows
+-- how many partitions of so many rows an input has: none where it is refused
+abbrev pub partitions_of_checked : ℕ → Checked → ℕ
+partitions_of_checked part_rows (Refused why) = 0
+partitions_of_checked part_rows (Rows header rows) = partition_count (length rows) part_rows
 
-abbrev pub partitions_of : Job → List ℕ → ℕ
-partitions_of job bytes = partitions_of_checked (checked job max_rows (rows_of bytes))
+-- how many it has for a run
+abbrev pub partitions_of : RunCall → List ℕ → ℕ
+partitions_of asked bytes = partitions_of_checked asked.part_rows (checked asked.job asked.max_rows (rows_of bytes))
 
--- how many rows it has, and 0 where it is refused
+-- which rows it has: none where it is refused
 abbrev pub rows_of_checked : Checked → List Fields
 rows_of_checked (Refused why) = []
 rows_of_checked (Rows header rows) = rows
 
-abbrev pub rows_read : Job → List ℕ → List Fields
-rows_read job bytes = rows_of_checked (checked job max_rows (rows_of bytes))
+-- the rows that a run reads
+abbrev pub rows_read : RunCall → List ℕ → List Fields
+rows_read asked bytes = rows_of_checked (checked asked.job asked.max_rows (rows_of bytes))
 
 -- ---- the same by what the entries of the one query come to
 
@@ -97,3 +94,14 @@ abbrev pub EndsAs : Ending → Status → Type 0
 EndsAs (Refuses why) s = s ≡ status_of why
 EndsAs (HasTooWide query key) s = s ≡ status.SumTooWide query key
 EndsAs (Prints text) s = s ≡ status.Done
+
+-- the status tells what comes before the check that calls for this ending: a fault of reading, of a disk or of memory before an
+-- input is refused; also want of room before a sum is looked at; and also a fault of the output before the tables are whole
+abbrev pub ComesBefore : Ending → Status → Type 0
+ComesBefore (Refuses why) s = IsUnlanded s
+ComesBefore (HasTooWide query key) s = IsUnprinted s
+ComesBefore (Prints text) s = IsOutside s
+
+-- the status tells this ending, or what comes before it
+abbrev pub MayEndAs : Ending → Status → Type 0
+MayEndAs ending s = ComesBefore ending s ⊎ EndsAs ending s

@@ -1,5 +1,4 @@
 pub mod Words
-pub mod AskedViews
 pub mod Calls
 pub mod Statuses
 pub mod Telling

@@ -18,7 +18,6 @@ use Rattle.task_runner.specs.Workers.{IsCount, part_at}
 use Rattle.task_runner.specs.declared.post.Post.{Post}
 use Rattle.task_runner.specs.declared.work_fault.WorkFault.{WorkFault}
 use Rattle.task_runner.specs.declared.work_fault.WorkFault.TheVariants.{NoRoom, DiskFault, Damaged, NoMemory}
-use Rattle.csv_program.specs.Endings.{part_rows}
 
 -- the files of a post's disk, where it tells
 abbrev pub post_files : {D C : Type 0} → (D → Option Files) → Vec (Post D C) → ℕ → Option Files
@@ -58,13 +57,14 @@ place_of_first (query ∷ queries) = place_of_shape query.shape
 abbrev pub place_in : Job → ℕ
 place_in job = place_of_first job.queries
 
--- how many of these rows the first of a worker's partitions have
-unfoldable pub rows_in : List Fields → ℕ → ℕ → ℕ → ℕ
-rows_in rows workers worker zero = 0
-rows_in rows workers worker (suc k) = rows_in rows workers worker k + length (partition_of part_rows (part_at workers worker k) rows)
+-- how many of these rows the first of a worker's partitions have, with so many rows a partition
+unfoldable pub rows_in : ℕ → List Fields → ℕ → ℕ → ℕ → ℕ
+rows_in part_rows rows workers worker zero = 0
+rows_in part_rows rows workers worker (suc k) =
+    rows_in part_rows rows workers worker k + length (partition_of part_rows (part_at workers worker k) rows)
 
 -- the consumer at this place of a worker's post was fed the rows of the worker's partitions, and no other was fed
-pub record FeedsRows (states states' : List State) (place : ℕ) (rows : List Fields) (workers worker : ℕ) : Type 0 where
+pub record FeedsRows (states states' : List State) (place part_rows : ℕ) (rows : List Fields) (workers worker : ℕ) : Type 0 where
   pub count : ℕ
   pub all : IsCount workers worker (partition_count (length rows) part_rows) count
-  pub feeds : FeedsOne states states' place (rows_in rows workers worker count)
+  pub feeds : FeedsOne states states' place (rows_in part_rows rows workers worker count)

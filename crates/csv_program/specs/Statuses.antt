@@ -11,6 +11,7 @@ abbrev pub number_of : Status → ℕ
 number_of status.Done = 0
 number_of status.BadWords = 2
 number_of (status.BadJob place) = 3
+number_of status.HeapTooSmall = 4
 number_of status.NoHeader = 5
 number_of (status.NoColumn column) = 6
 number_of (status.Ragged row) = 7
@@ -34,10 +35,37 @@ IsOutside (status.DiskFault post) = ⊤
 IsOutside status.NoMemory = ⊤
 IsOutside _ = ⊥
 
--- the status is none of those that only words or a job's text call for
+-- a fault of the input or of a post's disk, or want of memory: what may come before an input is landed
+abbrev pub IsUnlanded : Status → Type 0
+IsUnlanded status.ReadFault = ⊤
+IsUnlanded (status.DiskFault post) = ⊤
+IsUnlanded status.NoMemory = ⊤
+IsUnlanded _ = ⊥
+
+-- one of these, or want of room in the pool: what may come before anything is printed
+abbrev pub IsUnprinted : Status → Type 0
+IsUnprinted (status.NoRoom asked held floor) = ⊤
+IsUnprinted status.ReadFault = ⊤
+IsUnprinted (status.DiskFault post) = ⊤
+IsUnprinted status.NoMemory = ⊤
+IsUnprinted _ = ⊥
+
+-- the status may be that of tasks and tables, over an input that was landed
+abbrev pub IsOfTasks : Status → Type 0
+IsOfTasks status.Done = ⊤
+IsOfTasks (status.SumTooWide query key) = ⊤
+IsOfTasks (status.NoRoom asked held floor) = ⊤
+IsOfTasks status.WriteFault = ⊤
+IsOfTasks (status.DiskFault post) = ⊤
+IsOfTasks (status.Damaged post file kept found) = ⊤
+IsOfTasks status.NoMemory = ⊤
+IsOfTasks _ = ⊥
+
+-- the status is none of those that only words, a job's text or a heap call for
 abbrev pub IsJudged : Status → Type 0
 IsJudged status.BadWords = ⊥
 IsJudged (status.BadJob place) = ⊥
+IsJudged status.HeapTooSmall = ⊥
 IsJudged _ = ⊤
 
 -- after these nothing was written
@@ -84,12 +112,6 @@ MakesPool (status.NoRoom asked held floor) = ⊤
 MakesPool status.WriteFault = ⊤
 MakesPool (status.Damaged post file kept found) = ⊤
 MakesPool _ = ⊥
-
--- after these the input wasn't read, nothing was written, and no post was used
-abbrev pub IsUnread : Status → Type 0
-IsUnread status.BadWords = ⊤
-IsUnread (status.BadJob place) = ⊤
-IsUnread _ = ⊥
 
 -- the number that a process ends with where it can't use the folder `spill/`
 abbrev pub number_of_spill : SpillFault → ℕ

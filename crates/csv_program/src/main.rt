@@ -1,9 +1,10 @@
 //! Grouping and ordering queries over one CSV input, in tasks of Spark's unified memory manager.
 #![tactic(auto)]
 
+mod asked;
+mod call;
 mod consumers;
 mod input;
-mod job;
 mod outcome;
 mod pool;
 mod query;
@@ -12,7 +13,6 @@ mod table;
 #[cfg(test)]
 mod tests;
 mod top;
-mod words;
 
 use byte_io::{StdSink, StdSource};
 use outcome::Status;

@@ -28,6 +28,9 @@ pub enum Status {
     BadJob {
         place: u32,
     },
+    /// The heap has less than one and a half times what is reserved.
+    #[error("heap too small for the reserve")]
+    HeapTooSmall,
     /// The input has no record.
     #[error("input has no header")]
     NoHeader,
@@ -113,6 +116,7 @@ impl Status {
             Status::Done => 0,
             Status::BadWords => 2,
             Status::BadJob { .. } => 3,
+            Status::HeapTooSmall => 4,
             Status::NoHeader => 5,
             Status::NoColumn { .. } => 6,
             Status::Ragged { .. } => 7,

@@ -1,6 +1,6 @@
 //! A job of one query over a landed input.
 
-ghost use Rattle.std.specs.Prelude.{◌≡◌, ◌≢◌, ◌⊎◌, ◌≤◌, ◌<◌, ◌+◌, ◌*◌, ◌-◌, ◌^◌, ℕ, All, List, [], None, Some, IfNone, IfSome, length, map};
+ghost use Rattle.std.specs.Prelude.{◌≡◌, ◌≤◌, ◌<◌, ◌+◌, ◌*◌, ◌-◌, ◌^◌, ℕ, All, List, [], None, Some, IfNone, IfSome, length, map};
 ghost use Rattle.std.specs.Io.KnownBytes.{Appends, Keeps};
 ghost use Rattle.byte_io.specs.Sinks.{AppendsPrefix};
 ghost use Rattle.fault_count.specs.Faults.{Rose};
@@ -11,9 +11,9 @@ ghost use Rattle.job_plan.specs.Plans.{form_in, kept_in, kind_at};
 ghost use Rattle.landing.specs.Landed.{AreChecked, AreLanded};
 ghost use Rattle.task_runner.specs.Consumers.{HasConsumers, KeepsConsumers, place_for};
 ghost use Rattle.task_runner.specs.Pass.{FeedsParts, KeepsAll, states_at};
-ghost use Rattle.csv_program.specs.Endings.{EndsAs, ending_of_totals, part_rows, printed_in, totals_of};
+ghost use Rattle.csv_program.specs.Endings.{MayEndAs, ending_of_totals, printed_in, totals_of};
 ghost use Rattle.csv_program.specs.Posts.{AllTell, post_faults, post_files};
-ghost use Rattle.csv_program.specs.Statuses.{IsCut, IsDamaged, IsDamagedOn, IsDiskFault, IsJudged, IsNoRoom, IsOutside, MakesPool, WritesNothing};
+ghost use Rattle.csv_program.specs.Statuses.{IsCut, IsDamaged, IsDamagedOn, IsDiskFault, IsNoRoom, IsOfTasks, MakesPool, WritesNothing};
 ghost use Rattle.csv_program.specs.Tasks.{BeginsAll, FollowsPlan, ShowsShort, owner_of};
 ghost use Rattle.csv_program.specs.Telling.{status_of_work};
 
@@ -53,29 +53,31 @@ pub fn run_query<K: Disk, D: Disk, C: Consumer, W: Sink, B: Basis, R: Wait>(
     requires short { All (λ run. run.greatest ≤ 36 + 4 * columns_of (form_in plan.now) + 65536) parts.now }
     requires one { length (kept_in plan.now) ≡ 1 }
     requires consumers { All (λ post. HasConsumers (map C.state post.consumers.items)) posts.old.items }
-    ensures ending { (rows : List (List (List ℕ))) → AllTell pool.workers (post_files D.files posts.old) →
+    ensures ending { (part_rows : ℕ) (rows : List (List (List ℕ))) → 1 ≤ part_rows →
+        AllTell pool.workers (post_files D.files posts.old) →
         AreLanded (post_files D.files posts.old) part_rows pool.workers parts.now rows → AreChecked (form_in plan.now) rows →
-        IsOutside result.status ⊎ EndsAs (ending_of_totals plan.now (totals_of plan.now rows)) result.status }
+        MayEndAs (ending_of_totals plan.now (totals_of plan.now rows)) result.status }
 
     // What is written.
-    ensures done { (rows : List (List (List ℕ))) → AllTell pool.workers (post_files D.files posts.old) →
+    ensures done { (part_rows : ℕ) (rows : List (List (List ℕ))) → 1 ≤ part_rows →
+        AllTell pool.workers (post_files D.files posts.old) →
         AreLanded (post_files D.files posts.old) part_rows pool.workers parts.now rows → AreChecked (form_in plan.now) rows →
         result.status ≡ Status.Done →
         Appends (W.written output.old) (W.written output.new) (printed_in (ending_of_totals plan.now (totals_of plan.now rows))) }
-    ensures prefix { (rows : List (List (List ℕ))) → AllTell pool.workers (post_files D.files posts.old) →
+    ensures prefix { (part_rows : ℕ) (rows : List (List (List ℕ))) → 1 ≤ part_rows →
+        AllTell pool.workers (post_files D.files posts.old) →
         AreLanded (post_files D.files posts.old) part_rows pool.workers parts.now rows → AreChecked (form_in plan.now) rows →
         IsCut result.status →
         AppendsPrefix (W.written output.old) (W.written output.new) (printed_in (ending_of_totals plan.now (totals_of plan.now rows))) }
     ensures nothing { WritesNothing result.status → Keeps (W.written output.old) (W.written output.new) }
 
     // The causes of statuses.
-    ensures read { result.status ≢ Status.ReadFault }
     ensures write { result.status ≡ Status.WriteFault → Rose (W.faults output.old) (W.faults output.new) }
     ensures disk { IsDiskFault result.status (λ post. Rose (post_faults D.faults posts.old post) (post_faults D.faults posts.new post)) }
     ensures damaged { IsDamaged result.status (λ kept found. found < kept) }
     ensures named { IsDamagedOn result.status (λ post. post < pool.workers) }
     ensures no_room { IsNoRoom result.status (ShowsShort pool result.journal) }
-    ensures judged { IsJudged result.status }
+    ensures of_tasks { IsOfTasks result.status }
 
     // The pool and its journal.
     ensures made { MakesPool result.status → result.setup ≡ Some pool }

@@ -1,6 +1,6 @@
 //! The table of a run's one query.
 
-ghost use Rattle.std.specs.Prelude.{◌≡◌, ◌≢◌, ◌⊎◌, ◌≤◌, ◌<◌, ◌-◌, ◌^◌, ℕ, All, List, None, IfOk, IfSome, is_some, length, map, option_map};
+ghost use Rattle.std.specs.Prelude.{◌≡◌, ◌≤◌, ◌<◌, ◌-◌, ◌^◌, ℕ, All, List, None, IfOk, IfSome, is_some, length, map, option_map};
 ghost use Rattle.std.specs.Io.KnownBytes.{Appends, Keeps};
 ghost use Rattle.aggregate.specs.Totals.{Entry};
 ghost use Rattle.byte_io.specs.Sinks.{AppendsPrefix};
@@ -12,10 +12,10 @@ ghost use Rattle.result_table.specs.Results.{HasResult, IsDamageOfResult};
 ghost use Rattle.run_file.specs.Causes.{NotDamaged};
 ghost use Rattle.run_file.specs.Shelved.{LeavesFiles, faults_on, files_on};
 ghost use Rattle.run_merge.specs.Causes.{HasCauseAmong};
-ghost use Rattle.csv_program.specs.Endings.{EndsAs, ending_of_totals, printed_in};
+ghost use Rattle.csv_program.specs.Endings.{MayEndAs, ending_of_totals, printed_in};
 ghost use Rattle.csv_program.specs.Posts.{IsDiskOf, post_faults, post_files};
 ghost use Rattle.csv_program.specs.Telling.{status_of_print, status_of_run};
-ghost use Rattle.csv_program.specs.Statuses.{IsCut, IsDamaged, IsDamagedOn, IsDiskFault, IsJudged, IsNoRoom, IsOutside, WritesNothing};
+ghost use Rattle.csv_program.specs.Statuses.{IsCut, IsDamaged, IsDamagedOn, IsDiskFault, IsNoRoom, IsOfTasks, WritesNothing};
 
 use crate::outcome::Status;
 use aggregate::{Key, Kind};
@@ -66,7 +66,7 @@ fn check_and_print<D: Disk, H: Shelf<D>, W: Sink>(
     ensures ending { (entries : List Entry) →
         HasResult (files_on H.disk_of D.files shelf.old) (kind_at plan.now 0) (option_map (λ run. run.now) answer.entry) entries →
         (wide_total (kept_at plan.now 0) entries ≡ None → All (IsTold (kept_at plan.now 0)) entries) →
-        IsOutside result ⊎ EndsAs (ending_of_totals plan.now entries) result }
+        MayEndAs (ending_of_totals plan.now entries) result }
     ensures done { (entries : List Entry) →
         HasResult (files_on H.disk_of D.files shelf.old) (kind_at plan.now 0) (option_map (λ run. run.now) answer.entry) entries →
         result ≡ Status.Done → Appends (W.written output.old) (W.written output.new) (printed_in (ending_of_totals plan.now entries)) }
@@ -74,13 +74,12 @@ fn check_and_print<D: Disk, H: Shelf<D>, W: Sink>(
         HasResult (files_on H.disk_of D.files shelf.old) (kind_at plan.now 0) (option_map (λ run. run.now) answer.entry) entries →
         IsCut result → AppendsPrefix (W.written output.old) (W.written output.new) (printed_in (ending_of_totals plan.now entries)) }
     ensures nothing { WritesNothing result → Keeps (W.written output.old) (W.written output.new) }
-    ensures read { result ≢ Status.ReadFault }
     ensures write { result ≡ Status.WriteFault → Rose (W.faults output.old) (W.faults output.new) }
     ensures disk { IsDiskFault result (λ post. Rose (faults_on H.disk_of D.faults shelf.old post) (faults_on H.disk_of D.faults shelf.new post)) }
     ensures damaged { IsDamaged result (λ kept found. found < kept) }
     ensures named { IsDamagedOn result (IsDiskOf (option_map (λ run. run.now) answer.entry)) }
     ensures no_room { IsNoRoom result (λ asked held floor. ⊥) }
-    ensures judged { IsJudged result }
+    ensures of_tasks { IsOfTasks result }
     ensures shelf { LeavesFiles H.count_of H.named H.disk_of D.files D.faults shelf.old shelf.new }
 {
     match find_wide(alloc, shelf, plan, answer) {
@@ -108,7 +107,7 @@ pub fn print_answer<D: Disk, C: Consumer, W: Sink>(
     ensures ending { (entries : List Entry) →
         HasResult (post_files D.files posts.old) (kind_at plan.now 0) (option_map (λ run. run.now) answer.entry) entries →
         (wide_total (kept_at plan.now 0) entries ≡ None → All (IsTold (kept_at plan.now 0)) entries) →
-        IsOutside result ⊎ EndsAs (ending_of_totals plan.now entries) result }
+        MayEndAs (ending_of_totals plan.now entries) result }
     ensures done { (entries : List Entry) →
         HasResult (post_files D.files posts.old) (kind_at plan.now 0) (option_map (λ run. run.now) answer.entry) entries →
         result ≡ Status.Done → Appends (W.written output.old) (W.written output.new) (printed_in (ending_of_totals plan.now entries)) }
@@ -116,13 +115,12 @@ pub fn print_answer<D: Disk, C: Consumer, W: Sink>(
         HasResult (post_files D.files posts.old) (kind_at plan.now 0) (option_map (λ run. run.now) answer.entry) entries →
         IsCut result → AppendsPrefix (W.written output.old) (W.written output.new) (printed_in (ending_of_totals plan.now entries)) }
     ensures nothing { WritesNothing result → Keeps (W.written output.old) (W.written output.new) }
-    ensures read { result ≢ Status.ReadFault }
     ensures write { result ≡ Status.WriteFault → Rose (W.faults output.old) (W.faults output.new) }
     ensures disk { IsDiskFault result (λ post. Rose (post_faults D.faults posts.old post) (post_faults D.faults posts.new post)) }
     ensures damaged { IsDamaged result (λ kept found. found < kept) }
     ensures named { IsDamagedOn result (IsDiskOf (option_map (λ run. run.now) answer.entry)) }
     ensures no_room { IsNoRoom result (λ asked held floor. ⊥) }
-    ensures judged { IsJudged result }
+    ensures of_tasks { IsOfTasks result }
     ensures consumers { map (λ post. post.consumers) posts.new.items ≡ map (λ post. post.consumers) posts.old.items }
     ensures files { (place : ℕ) → post_files D.files posts.new place ≡ post_files D.files posts.old place }
     ensures later { (place : ℕ) → post_faults D.faults posts.old place ≤ post_faults D.faults posts.new place }

@@ -116,24 +116,17 @@ fn is_refused<X: Threads + Wait + Sync>(
 #[test]
 fn words_of_another_form_are_refused(rt: HostRuntime) -> Result<(), Fail> {
     let alloc = rt.alloc();
-    let lists: [&[&str]; 6] = [
+    let lists: [&[&str]; 10] = [
         &[],
         &["run"],
         &["plan", BOTH],
         &["run", BOTH, BOTH],
+        &["run", "--help"],
         &["run", "--workers", "0", BOTH],
-        &[
-            "run",
-            "--reserved",
-            "0",
-            "--workers",
-            "1",
-            "--fraction",
-            "1000",
-            "--heap",
-            "5",
-            BOTH,
-        ],
+        &["run", "--workers=17", BOTH],
+        &["run", "--work", "4", BOTH],
+        &["run", "--heap", "5", "--heap=5", BOTH],
+        &["run", "--journal", BOTH],
     ];
     for words in lists {
         assert!(rt; is_refused(&rt, alloc, 4, words)?);
@@ -149,32 +142,92 @@ fn words_of_another_form_are_refused(rt: HostRuntime) -> Result<(), Fail> {
     Ok(())
 }
 
+// The table of the cities, or the status that tells why there is none.
+fn answer_to<X: Threads + Wait + Sync>(
+    rt: &X,
+    alloc: Global,
+    words: &[&str],
+) -> Result<String, Fail> {
+    let ran = run_with(rt, alloc, 16, call_of(words, CITIES))?;
+    if ran.outcome.status.number() != 0 {
+        return Ok(told(alloc, &ran.outcome.status)?);
+    }
+    match String::from_utf8(ran.written) {
+        Ok(text) => Ok(text),
+        Err(_) => Err(Fail::from("the table is no text")),
+    }
+}
+
 #[test]
-fn jobs_that_are_not_in_their_printed_form_are_refused(rt: HostRuntime) -> Result<(), Fail> {
+fn options_stand_anywhere_and_say_what_they_are_named_for(rt: HostRuntime) -> Result<(), Fail> {
+    let alloc = rt.alloc();
+    let table = "city,count,sum_price\nBergen,1,4\nOslo,2,8\n";
+    let many = "10 too many rows";
+    let small = "4 heap too small for the reserve";
+    let lists: [(&[&str], &str); 10] = [
+        (
+            &["run", BOTH, "--heap", "64000000", "--reserved", "0"],
+            table,
+        ),
+        (&["run", "--fraction=1000", "--storage=0", BOTH], table),
+        (&["run", "--part-rows", "1", "--workers", "16", BOTH], table),
+        (&["run", "--part-rows=2", "--workers=1", "--", BOTH], table),
+        (&["run", "--max-rows", "3", BOTH], table),
+        (&["run", "--max-rows", "2", BOTH], many),
+        (&["run", "--reserved", "4", "--heap", "5", BOTH], small),
+        (&["run", "--reserved", "715827883", BOTH], small),
+        (
+            &["run", "--reserved", "4", "--heap", "5", "group"],
+            "3 job: error at byte 5",
+        ),
+        (
+            &["run", "--reserved", "4", "--heap", "6", "group city: count"],
+            "12 no room: asked 1024, held 0, floor 0",
+        ),
+    ];
+    for (words, wanted) in lists {
+        let answer = answer_to(&rt, alloc, words)?;
+        assert_eq!(rt; answer.as_str(), wanted);
+    }
+    Ok(())
+}
+
+#[test]
+fn a_job_may_be_spelled_in_any_way(rt: HostRuntime) -> Result<(), Fail> {
     let alloc = rt.alloc();
     let jobs = [
-        "",
-        "--help",
-        "group city: count ",
         "group city:count",
-        "group city: sum",
-        "group 1st: count",
+        " group\tcity : count ",
         "group \"city\": count",
         "group city: count from input",
-        "group city: count; group city: count",
-        "group order: count",
-        "group city: count, sum number",
-        "group city, city: count",
-        "order city: price down",
-        "Group city: count",
     ];
     for job in jobs {
+        let answer = answer_to(&rt, alloc, &["run", job])?;
+        assert_eq!(rt; answer.as_str(), "city,count\nBergen,1\nOslo,2\n", "{job}");
+    }
+    Ok(())
+}
+
+#[test]
+fn a_text_that_is_no_job_is_refused_at_its_place(rt: HostRuntime) -> Result<(), Fail> {
+    let alloc = rt.alloc();
+    let jobs = [
+        ("", 0),
+        ("Group city: count", 0),
+        ("group city: sum", 15),
+        ("group 1st: count", 6),
+        ("group order: count", 6),
+        ("group city: count, sum number", 23),
+        ("group city, city: count", 12),
+        ("order city: price down", 18),
+        // Jobs of the language that aren't run so far.
+        ("group city: count; group city: count", 0),
+        ("let a = input; group city: count from a", 0),
+    ];
+    for (job, place) in jobs {
         let ran = run_on(&rt, alloc, call_of(&["run", job], CITIES))?;
-        assert_eq!(rt;
-            told(alloc, &ran.outcome.status)?.as_str(),
-            "3 job: error at byte 0",
-            "{job}"
-        );
+        let wanted = format!(in alloc; "3 job: error at byte {place}")?;
+        assert_eq!(rt; told(alloc, &ran.outcome.status)?, wanted, "{job}");
         assert!(rt; ran.written.is_empty(), "{job}");
         assert_eq!(rt; ran.files, 0, "{job}");
     }

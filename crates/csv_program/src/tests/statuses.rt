@@ -17,6 +17,7 @@ fn each_status_has_its_number_and_text(rt: HostRuntime) -> Result<(), Fail> {
         "2 usage: run [options] JOB, plan JOB, audit, trial [options] N",
     ))?;
     cases.push((Status::BadJob { place: 7 }, "3 job: error at byte 7"))?;
+    cases.push((Status::HeapTooSmall, "4 heap too small for the reserve"))?;
     cases.push((Status::NoHeader, "5 input has no header"))?;
     cases.push((Status::NoColumn { column }, "6 no column net price"))?;
     cases.push((Status::Ragged { row: 3 }, "7 row 3: wrong number of fields"))?;

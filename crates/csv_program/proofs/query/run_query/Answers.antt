@@ -1,12 +1,13 @@
-use Rattle.std.proofs.Common.{◌≡◌, ◌∙◌, ℕ, List, Option, Ok, length, ap, subst, inl, sym}
+use Rattle.std.proofs.Common.{◌≤◌, ◌≡◌, ◌∙◌, ℕ, List, Option, Ok, length, ap, subst, inl, sym}
 use Rattle.std.specs.Prelude.{◌⊎◌, IfSome, OnOk}
 use Rattle.std.specs.Io.KnownBytes.{Appends}
 use Rattle.byte_io.specs.Sinks.{AppendsPrefix}
 use Rattle.pool_ledger.specs.declared.entry.Entry.{Entry as JournalEntry}
 use Rattle.aggregate.specs.Totals.{Entry}
 use Rattle.job_plan.specs.Columns.{Fields}
-use Rattle.job_plan.specs.Plans.{form_in, kind_at}
+use Rattle.job_plan.specs.Plans.{form_in, kept_at, kind_at}
 use Rattle.landing.specs.Landed.{AreChecked, AreLanded, partition_of}
+use Rattle.job_answer.specs.Laws.{wide_total}
 use Rattle.result_table.specs.Results.{HasResult}
 use Rattle.run_file.specs.declared.run.Run.{Run}
 use Rattle.task_runner.specs.Workers.{IfSound}
@@ -16,14 +17,14 @@ use Rattle.task_runner.specs.Consumers.{KeepsConsumers, place_for}
 use Rattle.task_runner.specs.Pass.{FeedsParts, states_at}
 use Rattle.task_runner.specs.declared.post.Post.{Post}
 use Rattle.csv_program.proofs.PostDisks.{states_same}
-use Rattle.csv_program.specs.Endings.{EndsAs, ending_of_totals, part_rows, printed_in, totals_of}
+use Rattle.csv_program.specs.Endings.{MayEndAs, ending_of_totals, key_of_total, printed_in, totals_of}
 use Rattle.csv_program.specs.Posts.{AllTell, post_files}
 use Rattle.csv_program.specs.Statuses.{IsCut, IsOutside}
 use Rattle.csv_program.specs.Tasks.{BeginsAll}
 use Rattle.csv_program.specs.declared.outcome.Status.{Status}
 use Rattle.csv_program.proofs.ToldTotals.{holds_parts, told_plan}
 use Rattle.csv_program.proofs.Wholes.{whole_totals}
-use Rattle.csv_program.proofs.EndedRuns.{fault_not_done, follows_none, ok_holds, outside_work, prefix_of_nothing, sound_ok}
+use Rattle.csv_program.proofs.EndedRuns.{fault_not_done, follows_none, may_end, ok_holds, unprinted_work, prefix_of_nothing, sound_ok}
 use Rattle.csv_program.proofs.StillThere.{keeps_alike, keeps_then}
 use Rattle.csv_program.proofs.query.run_query.Goals.{in-Ok, in-Err}
 use Rattle.csv_program.proofs.query.run_query.Given as given
@@ -33,15 +34,15 @@ pub returns-in_default-clause-tasks : goal.returns-in_default-clause-tasks
 returns-in_default-clause-tasks g c = follows_none c.args.pool.workers (length c.args.parts.now) c.unpooled.result.journal c.unpooled.ensures.journal
 
 -- the answer of the tasks is a run of what all entries come to
-sound : (g : given.Over) (c : goal.Joined-answer g) (rows : List Fields) → AllTell c.args.pool.workers (post_files g.D.Disk.files c.args.posts.now)
+sound : (g : given.Over) (c : goal.Joined-answer g) (part_rows : ℕ) (rows : List Fields) → 1 ≤ part_rows → AllTell c.args.pool.workers (post_files g.D.Disk.files c.args.posts.now)
     → AreLanded (post_files g.D.Disk.files c.args.posts.now) part_rows c.args.pool.workers c.args.parts.now rows → AreChecked (form_in c.args.plan.now) rows
     → IfSound (λ answer. HasResult (post_files g.D.Disk.files c.run_tasks-answer.new.posts) (kind_at c.args.plan.now 0) answer (totals_of c.args.plan.now rows)) c.run_tasks-answer.result.0
-sound g c rows tell landed checked =
+sound g c part_rows rows some tell landed checked =
     let plan = c.args.plan.now in
     let files = post_files g.D.Disk.files c.args.posts.now in
     subst (λ (entries : List Entry). IfSound (λ answer. HasResult (post_files g.D.Disk.files c.run_tasks-answer.new.posts) (kind_at plan 0) answer entries) c.run_tasks-answer.result.0)
-    (whole_totals plan rows _ landed.count)
-    (c.run_tasks-answer.ensures.answer (λ part. partition_of part_rows part rows) (holds_parts files plan c.args.pool.workers c.args.parts.now rows c.requires.some tell landed checked))
+    (whole_totals plan rows part_rows _ some landed.count)
+    (c.run_tasks-answer.ensures.answer (λ part. partition_of part_rows part rows) (holds_parts files plan part_rows c.args.pool.workers c.args.parts.now rows c.requires.some tell landed checked))
 
 -- the result that is printed
 printed : (g : given.Over) (c : goal.Joined-answer g) (rows : List Fields) (answer seen : Option Run) → c.run_tasks-answer.result.0 ≡ Ok answer → seen ≡ answer
@@ -52,21 +53,22 @@ printed g c rows answer seen is same known =
     subst says (sym same) (sound_ok says c.run_tasks-answer.result.0 answer is known)
 
 pub returns-clause-ending : goal.returns-clause-ending
-returns-clause-ending g c rows tell landed checked =
+returns-clause-ending g c part_rows rows some tell landed checked =
     let plan = c.args.plan.now in
     let says = λ (answer : Option Run). HasResult (post_files g.D.Disk.files c.run_tasks-answer.new.posts) (kind_at plan 0) answer (totals_of plan rows) in
-    let known = sound g c rows tell landed checked in
+    let known = sound g c part_rows rows some tell landed checked in
     elim c.match-answer.branch [
       | in-Ok w ↦
-          subst (λ (ended : Status). IsOutside ended ⊎ EndsAs (ending_of_totals plan (totals_of plan rows)) ended) (sym w.status-is)
+          subst (λ (ended : Status). MayEndAs (ending_of_totals plan (totals_of plan rows)) ended) (sym w.status-is)
           (w.print_answer-status.ensures.ending (totals_of plan rows) (printed g c rows w.in-Ok.answer _ w.in-Ok.is w.as_ref.ensures.value known) (told_plan plan rows c.short_shapes_are_told.ensures c.requires.one checked))
-      | in-Err w ↦ inl (outside_work says c.run_tasks-answer.result.0 w.in-Err.fault c.match-answer.status w.in-Err.is known (w.status-is ∙ w.from-status.ensures))
+      | in-Err w ↦ may_end _ (key_of_total (wide_total (kept_at plan 0) (totals_of plan rows))) c.match-answer.status
+          (unprinted_work says c.run_tasks-answer.result.0 w.in-Err.fault c.match-answer.status w.in-Err.is known (w.status-is ∙ w.from-status.ensures))
     ]
 
 pub returns-clause-done : goal.returns-clause-done
-returns-clause-done g c rows tell landed checked done =
+returns-clause-done g c part_rows rows some tell landed checked done =
     let plan = c.args.plan.now in
-    let known = sound g c rows tell landed checked in
+    let known = sound g c part_rows rows some tell landed checked in
     elim c.match-answer.branch [
       | in-Ok w ↦
           subst (λ (output : g.row.W.Denot). Appends (g.W.Sink.written c.args.output.now) (g.W.Sink.written output) (printed_in (ending_of_totals plan (totals_of plan rows)))) (sym w.output-is)
@@ -75,9 +77,9 @@ returns-clause-done g c rows tell landed checked done =
     ]
 
 pub returns-clause-prefix : goal.returns-clause-prefix
-returns-clause-prefix g c rows tell landed checked cut =
+returns-clause-prefix g c part_rows rows some tell landed checked cut =
     let plan = c.args.plan.now in
-    let known = sound g c rows tell landed checked in
+    let known = sound g c part_rows rows some tell landed checked in
     elim c.match-answer.branch [
       | in-Ok w ↦
           subst (λ (output : g.row.W.Denot). AppendsPrefix (g.W.Sink.written c.args.output.now) (g.W.Sink.written output) (printed_in (ending_of_totals plan (totals_of plan rows)))) (sym w.output-is)
