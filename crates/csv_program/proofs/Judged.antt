@@ -202,10 +202,6 @@ tasks_judged status.HeapTooSmall is = absurd is
 tasks_judged _ is = _
 
 -- what is known of the bytes where they are
-pub if_known : (left : Option (List ℕ)) (P Q : List ℕ → Type 0) → ((bytes : List ℕ) → left ≡ Some bytes → P bytes → Q bytes) → IfSome left P → IfSome left Q
-if_known None P Q each is = _
-if_known (Some bytes) P Q each is = each bytes refl is
-
 pub if_each : (left : Option (List ℕ)) (Q : List ℕ → Type 0) → ((bytes : List ℕ) → left ≡ Some bytes → Q bytes) → IfSome left Q
 if_each None Q each = _
 if_each (Some bytes) Q each = each bytes refl
