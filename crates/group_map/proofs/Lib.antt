@@ -1,5 +1,6 @@
 pub mod Distinct
 pub mod Taking
+pub mod KeyParts
 pub mod ByPlace
 pub mod Widths
 pub mod Places
