@@ -1,7 +1,6 @@
 -- A page that a spill wrote: what went, what is left, and what the entries that a map lets go come to.
 use Rattle.std.proofs.Common.{◌≡◌, ◌≢◌, ℕ, ◌+◌, ◌*◌, ◌≤◌, List, [], ◌∷◌, ◌++◌, length, take, drop, Option, Some, None, refl, sym, ap, subst, ◌∙◌, arith, length-append, length-drop, take-append-drop}
 use Rattle.std.specs.Prelude.{IsSome}
-use Rattle.std.specs.Global.{Vec}
 use Rattle.std.specs.List.{All}
 use Rattle.std.specs.List.Sorted.{IsPermutation}
 use Rattle.std.proofs.lemmas.List.{length-map, length-take-le}
@@ -109,12 +108,12 @@ pages aggs groups chunk left rows begun some fills widths apart up =
 -- ---- the last entries come off as a chunk
 
 -- each value has the width
-pub widths_by : (w : ℕ) (ks : List (Vec ℕ)) (vs : List ℕ) → length vs ≡ w * length ks → All (HasLength w) (entries_by w ks vs)
+pub widths_by : (w : ℕ) (ks : List (List ℕ)) (vs : List ℕ) → length vs ≡ w * length ks → All (HasLength w) (entries_by w ks vs)
 widths_by w [] vs long = All-nil (HasLength w)
 widths_by w (k ∷ ks) vs long =
     let first : w ≤ length vs = omega (arith, long, width_more w (length ks)) in
     let rest_long : length (drop w vs) ≡ w * length ks = omega (arith, long, width_more w (length ks), length-drop w vs) in
-    All-cons (HasLength w) (record { key = k.items; value = take w vs }) (entries_by w ks (drop w vs)) (length-take-le w vs first) (widths_by w ks (drop w vs) rest_long)
+    All-cons (HasLength w) (record { key = k; value = take w vs }) (entries_by w ks (drop w vs)) (length-take-le w vs first) (widths_by w ks (drop w vs) rest_long)
 
 -- what they come to with those that stay
 pub record ComesOff (aggs : Option (List Agg)) (entries kept chunk : List Entry) : Type 0 where

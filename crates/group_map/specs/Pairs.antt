@@ -1,7 +1,6 @@
 -- Keys, and the value of each at its place in one list of bytes, as entries.
 -- This project's own.
 use Rattle.std.specs.Prelude.{◌≡◌, ℕ, ◌+◌, List, [], ◌∷◌, ◌++◌, Bool, Option, Some, None, length, take, drop}
-use Rattle.std.specs.Global.{Vec}
 use Rattle.std.specs.List.{IsDistinct}
 use Rattle.std.specs.Ordering.{is_eq}
 use Rattle.aggregate.specs.declared.agg_list.Agg.{Agg}
@@ -11,9 +10,9 @@ use Rattle.aggregate.specs.Values.{width}
 use Rattle.group_map.specs.declared.groups.Groups.{Groups}
 
 -- the entries: the value of the key at place i has `width` bytes from width * i on
-abbrev pub entries_by : ℕ → List (Vec ℕ) → List ℕ → List Entry
+abbrev pub entries_by : ℕ → List (List ℕ) → List ℕ → List Entry
 entries_by width [] values = []
-entries_by width (key ∷ keys) values = record { key = key.items; value = take width values } ∷ entries_by width keys (drop width values)
+entries_by width (key ∷ keys) values = record { key = key; value = take width values } ∷ entries_by width keys (drop width values)
 
 -- the entries of groups, in the order in which their keys came
 abbrev pub entries_of_groups : Groups → List Entry

@@ -2,7 +2,8 @@
 
 ghost use Rattle.std.specs.Prelude.{◌≡◌, ◌++◌, [], drop, length, nat_eq, IfOk, OnOk, OnErr};
 ghost use Rattle.std.specs.Cmp.{partial_equiv_from_equiv};
-ghost use Rattle.std.specs.Cmp.Lexicographic.{nat_list_eq_equiv, pointwise};
+ghost use Rattle.std.specs.Cmp.Lexicographic.{bytes_decides, nat_list_eq_equiv, pointwise};
+ghost use Rattle.std.proofs.Common.{ap};
 ghost use Rattle.std.specs.Hash as fed;
 ghost use Rattle.aggregate.specs.Fronts.{front_of};
 ghost use Rattle.group_map.specs.Keys.{rest_input};
@@ -106,7 +107,8 @@ impl Eq for GroupKey {
 impl Hash for GroupKey {
     ghost hash_input = { λ key. fed.u64 (front_of key) ++ rest_input (drop 8 key) };
 
-    ghost respects_eq = { λ x y same. ap (λ (key : List ℕ). fed.u64 (front_of key) ++ rest_input (drop 8 key)) ((bytes_decides x y).0 same) };
+    ghost respects_eq = { λ x y same.
+        ap (λ key. fed.u64 (front_of key) ++ rest_input (drop 8 key)) ((bytes_decides x y).0 same) };
 
     fn hash<H: Hasher>(&self, state: &mut H) {
         state.write_u64(self.front);

@@ -2,6 +2,7 @@
 
 ghost use Rattle.std.specs.Prelude.{◌≡◌, ◌≤◌, ◌*◌, length, All};
 
+use crate::group_key::GroupKey;
 use aggregate::{AggList, combine, combine_is_associative};
 use entry_list::EntryList;
 use indexmap::IndexSet;
@@ -12,11 +13,13 @@ use std::alloc::{AllocError, Global};
 #[derive(Drop)]
 pub struct Groups {
     pub width: usize,
-    keys: IndexSet<Vec<u8>>,
+    keys: IndexSet<GroupKey>,
     values: Vec<u8>,
+    // the key that was looked up last, whose memory serves the next
+    asked: GroupKey,
     ghost whole: { length values.items ≡ width * length keys.keys },
     ghost narrow: { width ≤ 128 },
-    ghost short: { All (λ key. length key.items ≤ 131152) keys.keys },
+    ghost short: { All (λ key. length key ≤ 131152) keys.keys },
 }
 
 impl Groups {
@@ -36,6 +39,7 @@ impl Groups {
             width,
             keys: IndexSet::new(alloc),
             values: Vec::new(alloc),
+            asked: GroupKey::new(alloc),
         }
     }
 
@@ -53,26 +57,36 @@ impl Groups {
         self.keys.is_empty()
     }
 
-    /// Combines the value into that of its key, and says whether the key was there. It takes no memory.
-    pub fn combine_known(&mut self, aggs: &AggList, key: &[u8], value: &[u8]) -> bool
+    /// Combines the value into that of its key, and says whether the key was there. After an `Err`, which is want of
+    /// memory for a key of more than 8 bytes, nothing changed.
+    pub fn combine_known(
+        &mut self,
+        aggs: &AggList,
+        key: &[u8],
+        value: &[u8],
+    ) -> Result<bool, AllocError>
         requires value { length value.now ≡ 16 * length aggs.now }
         requires width { self.old.width ≡ 16 * length aggs.now }
         requires apart { AreApart (entries_of_groups self.old) }
-        ensures known { result ≡ has_key key.now (entries_of_groups self.old) }
-        ensures takes { result ≡ true → TakesIn aggs.now (entries_of_groups self.old)
-            (entries_of_groups self.new) (record { key = key.now; value = value.now }) 0 }
-        ensures enough { result ≡ true → cost (record { key = key.now; value = value.now })
-            ≤ costs (entries_of_groups self.old) }
-        ensures same { result ≡ false → entries_of_groups self.new ≡ entries_of_groups self.old }
+        ensures known { IfOk result (λ known. known ≡ has_key key.now (entries_of_groups self.old)) }
+        ensures takes { IfOk result (λ known. known ≡ true → TakesIn aggs.now
+            (entries_of_groups self.old) (entries_of_groups self.new)
+            (record { key = key.now; value = value.now }) 0) }
+        ensures enough { IfOk result (λ known. known ≡ true
+            → cost (record { key = key.now; value = value.now }) ≤ costs (entries_of_groups self.old)) }
+        ensures same { IfOk result (λ known. known ≡ false
+            → entries_of_groups self.new ≡ entries_of_groups self.old) }
+        ensures err { OnErr result (entries_of_groups self.new ≡ entries_of_groups self.old) }
         ensures width { self.new.width ≡ self.old.width }
     {
         combine_is_associative();
-        let Some(place) = self.keys.get_index_of(key) else {
-            return false;
+        self.asked.set(key)?;
+        let Some(place) = self.keys.get_index_of(&self.asked) else {
+            return Ok(false);
         };
         let at = self.width * place;
         combine(aggs, &mut self.values[at..at + self.width], value);
-        true
+        Ok(true)
     }
 
     /// Puts a copy of an entry behind the others. After an `Err` nothing changed.
@@ -85,7 +99,7 @@ impl Groups {
         ensures err { OnErr result (entries_of_groups self.new ≡ entries_of_groups self.old) }
         ensures width { self.new.width ≡ self.old.width }
     {
-        let copy = key.to_vec(alloc)?;
+        let copy = GroupKey::of(alloc, key)?;
         let count = self.values.len();
         self.values.extend_from_slice(value)?;
         let Ok(_) = self.keys.insert(copy) else {
@@ -100,9 +114,12 @@ impl Groups {
         ensures { IfOk result (λ list. entries_of_list list ≡ drop first (entries_of_groups self.now)) }
     {
         let mut list = EntryList::new(alloc);
+        let mut key = Vec::new(alloc);
         for place in first..self.keys.len() {
             let at = self.width * place;
-            list.push(&self.keys[place], &self.values[at..at + self.width])?;
+            key.clear();
+            self.keys[place].put(&mut key)?;
+            list.push(&key, &self.values[at..at + self.width])?;
         }
         Ok(list)
     }

@@ -1,5 +1,4 @@
 use Rattle.std.proofs.Common.{ℕ, ◌∙◌, List, ap, arith, length, take}
-use Rattle.std.specs.Global.{Vec}
 use Rattle.group_map.specs.Pairs.{entries_by}
 use Rattle.group_map.proofs.ByPlace.{length-entries_by, take-entries_by}
 use Rattle.group_map.proofs.Widths.{upto_width}
@@ -15,6 +14,6 @@ overflow_mul-self c =
 pub returns-clause-kept : goal.returns-clause-kept
 returns-clause-kept c =
     let groups = c.args.self.now in
-    ap (λ (keys : List (Vec ℕ)). entries_by groups.width keys c.truncate-2.new.self.items) c.truncate.ensures.keys
+    ap (λ (keys : List (List ℕ)). entries_by groups.width keys c.truncate-2.new.self.items) c.truncate.ensures.keys
     ∙ ap (λ (bytes : List ℕ). entries_by groups.width (take c.args.len groups.keys.keys) bytes) c.truncate-2.ensures.items
     ∙ take-entries_by groups.width groups.keys.keys groups.values.items c.args.len
