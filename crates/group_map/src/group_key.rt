@@ -1,6 +1,6 @@
 //! A key as the map looks it up.
 
-ghost use Rattle.std.specs.Prelude.{◌≡◌, ◌++◌, [], drop, length, nat_eq, IfOk, OnOk, OnErr};
+ghost use Rattle.std.specs.Prelude.{◌≡◌, ◌≤◌, ◌++◌, [], drop, length, nat_eq, IfOk, OnOk, OnErr};
 ghost use Rattle.std.specs.Cmp.{partial_equiv_from_equiv};
 ghost use Rattle.std.specs.Cmp.Lexicographic.{bytes_decides, nat_list_eq_equiv, pointwise};
 ghost use Rattle.std.proofs.Common.{ap};
@@ -41,6 +41,18 @@ impl GroupKey {
         GroupKey {
             front: 0,
             len: 0,
+            rest: Vec::new(alloc),
+        }
+    }
+
+    /// The key with these bytes, at most 8. It takes no memory.
+    pub fn short(alloc: Global, bytes: &[u8]) -> GroupKey
+        requires { length bytes.now ≤ 8 }
+        ensures { result ≡ bytes.now }
+    {
+        GroupKey {
+            front: front(bytes),
+            len: bytes.len(),
             rest: Vec::new(alloc),
         }
     }
@@ -96,7 +108,9 @@ impl PartialEq for GroupKey {
     ghost laws = { partial_equiv_from_equiv nat_list_eq_equiv };
 
     fn eq(&self, other: &GroupKey) -> bool {
-        self.front == other.front && self.len == other.len && self.rest == other.rest
+        self.front == other.front
+            && self.len == other.len
+            && (self.len <= 8 || self.rest == other.rest)
     }
 }
 

@@ -1,6 +1,8 @@
 //! One value a key.
 
-ghost use Rattle.std.specs.Prelude.{◌≡◌, ◌≤◌, ◌*◌, length, All};
+ghost use Rattle.std.specs.Prelude.{◌≡◌, ◌≤◌, ◌<◌, ◌*◌, length, All, IfOk, IfSome, is_some, nat_eq, position};
+ghost use Rattle.std.specs.List.{list_any};
+ghost use Rattle.std.specs.Cmp.Lexicographic.{pointwise};
 
 use crate::group_key::GroupKey;
 use aggregate::{AggList, combine, combine_is_associative};
@@ -23,7 +25,7 @@ pub struct Groups {
 }
 
 impl Groups {
-    ghost use Rattle.std.specs.Prelude.{◌∷◌, ◌++◌, ◌↔◌, [], true, false, take, drop, IsTrue, IfOk, OnOk, OnErr};
+    ghost use Rattle.std.specs.Prelude.{◌∷◌, ◌++◌, ◌↔◌, [], true, false, take, drop, IsTrue, OnOk, OnErr};
     ghost use Rattle.aggregate.specs.Totals.{cost, costs};
     ghost use Rattle.consumer_trait.specs.Calls.{has_key};
     ghost use Rattle.entry_list.specs.Lists.{entries_of_list};
@@ -61,6 +63,7 @@ impl Groups {
     /// memory for a key of more than 8 bytes, nothing changed.
     pub fn combine_known(
         &mut self,
+        alloc: Global,
         aggs: &AggList,
         key: &[u8],
         value: &[u8],
@@ -80,8 +83,7 @@ impl Groups {
         ensures width { self.new.width ≡ self.old.width }
     {
         combine_is_associative();
-        self.asked.set(key)?;
-        let Some(place) = self.keys.get_index_of(&self.asked) else {
+        let Some(place) = place_of(alloc, &self.keys, &mut self.asked, key)? else {
             return Ok(false);
         };
         let at = self.width * place;
@@ -133,4 +135,22 @@ impl Groups {
         self.keys.truncate(len);
         self.values.truncate(self.width * len);
     }
+}
+
+// The place of a key, if it is there. A short key is made on the way; a long one takes the memory of the one before.
+fn place_of(
+    alloc: Global,
+    keys: &IndexSet<GroupKey>,
+    asked: &mut GroupKey,
+    key: &[u8],
+) -> Result<Option<usize>, AllocError>
+    ensures place { IfOk result (λ place. place ≡ position (pointwise nat_eq key.now) keys.now.keys) }
+    ensures known { IfOk result (λ place. is_some place ≡ list_any (pointwise nat_eq key.now) keys.now.keys) }
+    ensures within { IfOk result (λ place. IfSome place (λ i. i < length keys.now.keys)) }
+{
+    if key.len() <= 8 {
+        return Ok(keys.get_index_of(&GroupKey::short(alloc, key)));
+    }
+    asked.set(key)?;
+    Ok(keys.get_index_of(&*asked))
 }
