@@ -1,9 +1,9 @@
 -- Values, joined number by number from the first place to the last.
-use Rattle.std.proofs.Common.{◌≡◌, ◌<◌, ◌+◌, ◌*◌, ◌∷◌, ◌++◌, ◌∙◌, [], ℕ, suc, List, length, take, drop, refl, sym, ap, arith, append_assoc, get_or}
+use Rattle.std.proofs.Common.{◌≡◌, ◌<◌, ◌+◌, ◌*◌, ◌∷◌, ◌++◌, ◌∙◌, [], ℕ, suc, List, length, take, drop, refl, sym, ap, arith, append_assoc, get_or, Bool, true}
 use Rattle.std.proofs.lemmas.List.{append-nil, drop-drop, length-append, take_at, drop_at, length-take, take_more, take_all, drop_all}
 use Rattle.aggregate.specs.declared.agg_list.Agg.{Agg}
-use Rattle.aggregate.specs.declared.agg_list.Agg.TheVariants.{Count}
-use Rattle.aggregate.specs.Partial.{combined, joined, joined_bytes, number}
+use Rattle.aggregate.specs.declared.agg_list.Agg.TheVariants.{Count, Sum, Min, Max}
+use Rattle.aggregate.specs.Partial.{adds, AreTwoSums, combined, joined, joined_bytes, number}
 use Rattle.aggregate.proofs.Numbers.{length-partial_of}
 use borrow.Rule.Slice.PartMut.{put_mid}
 
@@ -77,3 +77,23 @@ two_joined aggs old from first second two long is_first is_second =
     let none : drop 32 old ≡ [] = drop_all 32 old (omega arith) in
     let all : take 2 aggs ≡ aggs = take_all 2 aggs (omega arith) in
     last ∙ rw (none, all) (append-nil (combined aggs old from))
+
+-- what adds, adds alike
+same_sum : (agg : Agg) (a b : List ℕ) → adds agg ≡ true → joined_bytes Count a b ≡ joined_bytes agg a b
+same_sum Count a b sums = refl
+same_sum Sum a b sums = refl
+same_sum Min a b sums = absurd (cc)
+same_sum Max a b sums = absurd (cc)
+
+-- a value of two numbers that are added is joined in two steps
+pub two_summed : (aggs : List Agg) (old from first second : List ℕ) → AreTwoSums aggs → length old ≡ 16 * length aggs
+    → first ≡ joined_bytes Count (take 16 old) (take 16 from)
+    → second ≡ joined_bytes Count (take 16 (drop 16 (first ++ drop 16 old))) (take 16 (drop 16 from))
+    → put_mid 16 16 (first ++ drop 16 old) second ≡ combined aggs old from
+two_summed [] old from first second two long is_first is_second = absurd (let many = ap length two in omega arith)
+two_summed (x ∷ []) old from first second two long is_first is_second = absurd (let many = ap length two in omega arith)
+two_summed (x ∷ (y ∷ [])) old from first second two long is_first is_second =
+    two_joined (x ∷ (y ∷ [])) old from first second refl long
+    (is_first ∙ same_sum x (take 16 old) (take 16 from) (ap (λ (bs : List Bool). get_or bs 0 true) two))
+    (is_second ∙ same_sum y (take 16 (drop 16 (first ++ drop 16 old))) (take 16 (drop 16 from)) (ap (λ (bs : List Bool). get_or bs 1 true) two))
+two_summed (x ∷ (y ∷ (z ∷ aggs))) old from first second two long is_first is_second = absurd (let many = ap length two in omega arith)

@@ -1,6 +1,6 @@
 -- Partial values of a group: for each aggregate a whole number of 128 bits in two's complement, 16 bytes, the greatest first.
 -- This project's own.
-use Rattle.std.specs.Prelude.{ℕ, ◌*◌, ◌^◌, List, [], ◌∷◌, ◌++◌, Option, Some, None, take, drop, if◌then◌else◌, ℤ, pos, negsuc, ◌+ℤ◌, Bool, nat_lt}
+use Rattle.std.specs.Prelude.{◌≡◌, ℕ, ◌*◌, ◌^◌, List, [], ◌∷◌, ◌++◌, Option, Some, None, take, drop, if◌then◌else◌, ℤ, pos, negsuc, ◌+ℤ◌, Bool, true, false, map, nat_lt}
 use Rattle.std.specs.Int.{cast_unsigned, int_max, int_min, int_wrap, w128}
 use Rattle.byteorder.specs.Endian.{big_bytes, big_number}
 use Rattle.aggregate.specs.declared.agg_list.Agg.{Agg}
@@ -13,6 +13,17 @@ number bytes = int_wrap w128 (pos (big_number 16 bytes))
 -- the 16 bytes of a number
 unfoldable pub partial_of : ℤ → List ℕ
 partial_of n = big_bytes 16 (cast_unsigned w128 n)
+
+-- whether an aggregate adds
+abbrev pub adds : Agg → Bool
+adds Count = true
+adds Sum = true
+adds Min = false
+adds Max = false
+
+-- two aggregates that add
+abbrev pub AreTwoSums : List Agg → Type 0
+AreTwoSums aggs = map adds aggs ≡ true ∷ (true ∷ [])
 
 -- two partial numbers as one: what is added is taken modulo 2^128; of two the lesser or the greater
 abbrev pub joined : Agg → ℤ → ℤ → ℤ

@@ -1,18 +1,12 @@
 -- What partial values come to, however they are combined.
 -- This project's own.
-use Rattle.std.specs.Prelude.{◌≡◌, ℕ, ◌*◌, ◌<◌, Bool, true, false, List, ◌++◌, length, slice_index_or, ℤ, ◌+ℤ◌}
+use Rattle.std.specs.Prelude.{◌≡◌, ℕ, ◌*◌, ◌<◌, true, List, ◌++◌, length, slice_index_or, ℤ, ◌+ℤ◌}
 use Rattle.std.specs.Int.{w128}
 use Rattle.std.specs.Int.RustNames.{FitsSigned}
 use Rattle.aggregate.specs.declared.agg_list.Agg.{Agg}
-use Rattle.aggregate.specs.declared.agg_list.Agg.TheVariants.{Count, Sum, Min, Max}
+use Rattle.aggregate.specs.declared.agg_list.Agg.TheVariants.{Count}
+pub use Rattle.aggregate.specs.Partial.{adds}
 use Rattle.aggregate.specs.Partial.{combined, joined, number_at, partial_of}
-
--- whether an aggregate adds
-abbrev pub adds : Agg → Bool
-adds Count = true
-adds Sum = true
-adds Min = false
-adds Max = false
 
 -- values may be combined in any grouping
 abbrev pub IsAssociative : Type 0

@@ -1,8 +1,10 @@
 // What a query makes of a group's rows.
-ghost use Rattle.std.specs.Prelude.{◌≡◌, ◌<◌, ◌≤◌, length, IfOk};
+ghost use Rattle.std.specs.Prelude.{◌≡◌, ◌<◌, ◌≤◌, true, length, IfOk};
+ghost use Rattle.aggregate.specs.Partial.{AreTwoSums};
 ghost use Rattle.aggregate.specs.Values.{width};
 
 use std::alloc::{AllocError, Global};
+use std::fmt::{Debug, Formatter, Result as FmtResult, Write};
 use std::marker::Model;
 
 /// What a query makes of the rows of a group.
@@ -19,20 +21,32 @@ pub enum Agg {
 }
 
 /// One to eight aggregates, in the order of the query.
-#[derive(Debug, Drop)]
+#[derive(Drop)]
 pub struct AggList {
     items: Vec<Agg>,
+    // whether they are two that add, as a count and a sum, so that who combines doesn't look each time
+    two_sums: bool,
 }
 
 impl Model for AggList {
-    ghost use Rattle.std.specs.Prelude.{List, length, ◌<◌, ◌≤◌};
+    ghost use Rattle.std.specs.Prelude.{◌≡◌, List, length, ◌<◌, ◌≤◌, true};
     ghost use Rattle.aggregate.specs.declared.agg_list.Agg.{Agg};
+    ghost use Rattle.aggregate.specs.Partial.{AreTwoSums};
 
     ghost Value = { List Agg };
 
     ghost view = { λ aggs. aggs.items.items };
 
-    ghost invariant = { λ aggs. (0 < length aggs.items.items) × (length aggs.items.items ≤ 8) };
+    ghost invariant = { λ aggs. (0 < length aggs.items.items) × (length aggs.items.items ≤ 8)
+        × (aggs.two_sums ≡ true → AreTwoSums aggs.items.items) };
+}
+
+impl Debug for AggList {
+    fn fmt<W: Write>(&self, f: &mut Formatter<W>) -> FmtResult {
+        f.debug_struct("AggList")
+            .field("items", &self.items)
+            .finish()
+    }
 }
 
 impl AggList {
@@ -44,6 +58,7 @@ impl AggList {
     {
         Ok(AggList {
             items: list.to_vec(alloc)?,
+            two_sums: are_two_sums(list),
         })
     }
 
@@ -70,4 +85,18 @@ impl AggList {
     {
         AggList::of(*self.items.allocator(), &self.items)
     }
+
+    /// Whether they are known as two that add.
+    pub(crate) fn has_two_sums(&self) -> bool
+        ensures { result ≡ true → AreTwoSums self.now }
+    {
+        self.two_sums
+    }
+}
+
+// Whether these are two aggregates that add.
+fn are_two_sums(list: &[Agg]) -> bool
+    ensures { result ≡ true → AreTwoSums list.now }
+{
+    matches!(list, [Agg::Count | Agg::Sum, Agg::Count | Agg::Sum])
 }

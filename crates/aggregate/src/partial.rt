@@ -21,23 +21,26 @@ pub fn put_partial(into: &mut Vec<u8>, number: i128) -> Result<(), AllocError>
 
 /// Combines a value into another. Both have 16 bytes for each aggregate; what is added wraps in 128
 /// bits, so nothing is refused.
+#[inline(always)]
 pub fn combine(aggs: &AggList, into: &mut [u8], from: &[u8])
     requires into { length into.old ≡ 16 * length aggs.now }
     requires from { length from.now ≡ 16 * length aggs.now }
     ensures { into.new ≡ combined aggs.now into.old from.now }
 {
+    // A count and a sum, and a count alone, are what most queries ask for.
+    if aggs.has_two_sums() {
+        join_bytes(Agg::Count, &mut into[..16], &from[..16]);
+        join_bytes(Agg::Count, &mut into[16..32], &from[16..32]);
+        return;
+    }
     match aggs.items() {
-        // A count, and a count and a sum, are what most queries ask for.
         [only] => join_bytes(*only, into, from),
-        [first, second] => {
-            join_bytes(*first, &mut into[..16], &from[..16]);
-            join_bytes(*second, &mut into[16..32], &from[16..32]);
-        }
         list => combine_each(list, into, from),
     }
 }
 
 // Combines a value into another, aggregate by aggregate.
+#[inline(never)]
 fn combine_each(aggs: &[Agg], into: &mut [u8], from: &[u8])
     requires into { length into.old ≡ 16 * length aggs.now }
     requires from { length from.now ≡ 16 * length aggs.now }
