@@ -3,61 +3,74 @@
 beside plain Rust.
 
 Run it at the top of the repository, after `rt run` in crates/spill_rate has built the program. Each entry has a key of
-8 bytes and a value of 32. Where rustc is at hand, a Rust program puts as many entries through a hash map whose keys are
-sorted at the end, a stable sort, and a heap over eight sorted lists in the same run. What a spill writes is let go; the
-runs of a merge are in memory.
+8 bytes and a value of 32, two numbers of 128 bits. Where cargo is at hand, a Rust program puts as many entries through a
+map of the crate `indexmap`, with the hash of ours, that is sorted at the end and written to pages; through a stable sort;
+and through a heap over eight sorted lists, in the same run. Its keys are drawn as ours are, and its map adds both numbers
+of each value. What a spill writes is let go; the runs of a merge are in memory. All times are processor time, without
+that of a run with no entry.
+
+The sources of `indexmap` are Debian's: `apt-get install librust-indexmap-dev`. Without them the map is std's, counts
+alone, and the lines of maps say so.
 """
 import os
+import shutil
+import subprocess
 import sys
 import tempfile
 
-from rates import best, plain_program
+from rates import plain_program
 
 PROGRAM = os.path.abspath("crates/spill_rate/out/spill_rate")
 ENTRIES = int(sys.argv[1]) if len(sys.argv) > 1 else 1_000_000
-REPS = 3
-PLAIN = r"""
-use std::cmp::Reverse;
-use std::collections::{BinaryHeap, HashMap};
-use std::hash::{BuildHasherDefault, Hasher};
+REPS = 7
+SOURCES = "/usr/share/cargo/registry"
+MANIFEST = """
+[package]
+name = "plain"
+version = "0.1.0"
+edition = "2021"
 
-// Folds 8 bytes at a time, by a multiplication.
-#[derive(Default)]
-struct Fold(u64);
+[dependencies]
+indexmap = "*"
 
-fn fold(a: u64, b: u64) -> u64 {
-    let product = u128::from(a) * u128::from(b);
-    product as u64 ^ (product >> 64) as u64
-}
+[workspace]
+"""
+CONFIG = f"""
+[source.crates-io]
+replace-with = "packaged"
 
-impl Hasher for Fold {
-    fn write(&mut self, bytes: &[u8]) {
-        for part in bytes.chunks(8) {
-            let mut word = [0; 8];
-            word[..part.len()].copy_from_slice(part);
-            self.0 = fold(self.0 ^ u64::from_le_bytes(word), 0x9e37_79b9_7f4a_7c15);
-        }
-    }
-    fn write_usize(&mut self, n: usize) { self.0 = fold(self.0 ^ n as u64, 0xa24b_aed4_963e_e407); }
-    fn finish(&self) -> u64 { self.0 }
-}
-
-struct Drawn(u64);
-
-impl Drawn {
-    fn key(&mut self, keys: u64) -> [u8; 8] {
-        self.0 = self.0.wrapping_mul(6364136223846793005).wrapping_add(1442695040888963407);
-        ((self.0 >> 20) % keys).wrapping_mul(0x9e37_79b9_7f4a_7c15).to_be_bytes()
-    }
-}
-
-fn main() {
-    let words: Vec<String> = std::env::args().collect();
-    let keys: u64 = words[2].parse().unwrap();
-    let entries: u64 = words[3].parse().unwrap();
-    let mut drawn = Drawn(1);
-    let rows = match words[1].as_str() {
-        "map" => {
+[source.packaged]
+directory = "{SOURCES}"
+"""
+# The map of plain Rust: first what it is brought in by, then its loop.
+INDEXED = (
+    "use indexmap::IndexMap;",
+    r"""
+            // Read from memory, as a row's value is.
+            let value = std::hint::black_box([0u8; 32]);
+            let mut groups: IndexMap<Vec<u8>, [i128; 2], BuildHasherDefault<Fold>> = IndexMap::default();
+            for _ in 0..entries {
+                let key = drawn.key(keys);
+                let (first, second) = value.split_at(16);
+                let numbers = [first, second].map(|bytes| i128::from_be_bytes(bytes.try_into().unwrap()));
+                match groups.get_mut(&key[..]) {
+                    Some(sums) => for (sum, number) in sums.iter_mut().zip(numbers) { *sum = sum.wrapping_add(number); },
+                    None => { groups.insert(key.to_vec(), numbers); }
+                }
+            }
+            groups.sort_by(|a, _, b, _| a.cmp(b));
+            let mut page: Vec<u8> = Vec::new();
+            for (key, sums) in &groups {
+                if page.len() > 262_144 { page.clear(); }
+                page.extend_from_slice(key);
+                for sum in sums { page.extend_from_slice(&sum.to_be_bytes()); }
+            }
+            groups.len() + page.len() / (1 << 40)
+""",
+)
+HASHED = (
+    "use std::collections::HashMap;",
+    r"""
             let mut places: HashMap<Vec<u8>, usize, BuildHasherDefault<Fold>> = HashMap::default();
             let mut sums: Vec<[i128; 2]> = Vec::new();
             for _ in 0..entries {
@@ -76,7 +89,75 @@ fn main() {
                 for sum in &sums[*place] { page.extend_from_slice(&sum.to_be_bytes()); }
             }
             rows.len() + page.len() / (1 << 40)
+""",
+)
+PLAIN = r"""
+use std::cmp::Reverse;
+use std::collections::BinaryHeap;
+use std::hash::{BuildHasherDefault, Hasher};
+@USES@
+
+// The hash of our maps: 16 bytes at a time are multiplied to 128 bits, whose halves are joined.
+struct Fold(u64);
+
+const MULTIPLIER: u64 = 0x9e37_79b9_7f4a_7c15;
+
+impl Default for Fold {
+    fn default() -> Fold { Fold(0x243f_6a88_85a3_08d3) }
+}
+
+fn fold(a: u64, b: u64) -> u64 {
+    let product = u128::from(a) * u128::from(b);
+    product as u64 ^ (product >> 64) as u64
+}
+
+fn word(bytes: &[u8], at: usize) -> u64 { u64::from_le_bytes(bytes[at..at + 8].try_into().unwrap()) }
+
+fn half(bytes: &[u8], at: usize) -> u64 { u64::from(u32::from_le_bytes(bytes[at..at + 4].try_into().unwrap())) }
+
+fn short(bytes: &[u8]) -> u64 {
+    let len = bytes.len();
+    if len >= 4 { return half(bytes, 0) | half(bytes, len - 4) << 32; }
+    if len == 0 { return 0; }
+    u64::from(bytes[0]) | u64::from(bytes[len / 2]) << 8 | u64::from(bytes[len - 1]) << 16
+}
+
+impl Hasher for Fold {
+    #[inline]
+    fn write(&mut self, bytes: &[u8]) {
+        let len = bytes.len();
+        if len <= 8 {
+            self.0 = fold(self.0 ^ short(bytes), MULTIPLIER ^ (2 * len as u64));
+            return;
         }
+        let mut state = self.0.wrapping_add(len as u64);
+        let mut at = 0;
+        while len - at > 16 {
+            state = fold(word(bytes, at) ^ state, word(bytes, at + 8) ^ MULTIPLIER);
+            at += 16;
+        }
+        self.0 = fold(word(bytes, len.saturating_sub(16)) ^ state, word(bytes, len - 8) ^ MULTIPLIER);
+    }
+    #[inline]
+    fn finish(&self) -> u64 { self.0 }
+}
+
+struct Drawn(u64);
+
+impl Drawn {
+    fn key(&mut self, keys: u64) -> [u8; 8] {
+        self.0 = self.0.wrapping_mul(6364136223846793005).wrapping_add(1442695040888963407);
+        ((self.0 >> 20) % keys).to_be_bytes()
+    }
+}
+
+fn main() {
+    let words: Vec<String> = std::env::args().collect();
+    let keys: u64 = words[2].parse().unwrap();
+    let entries: u64 = words[3].parse().unwrap();
+    let mut drawn = Drawn(1);
+    let rows = match words[1].as_str() {
+        "map" => {@MAP@        }
         "sort" => {
             let mut rows: Vec<([u8; 8], [u8; 32])> = Vec::new();
             for _ in 0..entries { rows.push((drawn.key(keys), [0; 32])); }
@@ -110,10 +191,55 @@ fn main() {
 """
 
 
+def spent(words):
+    """The least processor seconds of some runs of a command, and what it printed."""
+    times = []
+    for _ in range(REPS):
+        run = subprocess.Popen([str(word) for word in words], stdout=subprocess.PIPE)
+        told = run.stdout.read().decode().strip()
+        _, status, use = os.wait4(run.pid, 0)
+        run.returncode = os.waitstatus_to_exitcode(status)
+        run.stdout.close()
+        if run.returncode:
+            sys.exit(f"{words[0]} ended with {run.returncode}")
+        times.append(use.ru_utime + use.ru_stime)
+    return min(times), told
+
+
+def indexed_program(folder):
+    """The path of the Rust program over the crate `indexmap`, or None where cargo doesn't build it."""
+    if not shutil.which("cargo") or not os.path.isdir(SOURCES):
+        return None
+    for name, text in (
+        ("Cargo.toml", MANIFEST),
+        (".cargo/config.toml", CONFIG),
+        ("src/main.rs", plain_text(INDEXED)),
+    ):
+        path = os.path.join(folder, "indexed", name)
+        os.makedirs(os.path.dirname(path), exist_ok=True)
+        with open(path, "w") as out:
+            out.write(text)
+    target = os.path.join(folder, "indexed", "target")
+    words = ["cargo", "build", "--release", "--offline", "--quiet", "--target-dir", target]
+    if subprocess.run(words, cwd=os.path.join(folder, "indexed"), stderr=subprocess.DEVNULL).returncode:
+        return None
+    return os.path.join(target, "release", "plain")
+
+
+def plain_text(shape):
+    """The text of plain Rust with one of the two maps."""
+    uses, loop = shape
+    return PLAIN.replace("@USES@", uses).replace("@MAP@", loop)
+
+
 def main():
-    start, _ = best([PROGRAM, "map", 1, 0, 1 << 20], REPS)
+    start, _ = spent([PROGRAM, "map", 1, 0, 1 << 20])
     with tempfile.TemporaryDirectory() as folder:
-        plain = plain_program(folder, PLAIN)
+        plain = indexed_program(folder)
+        note = ""
+        if not plain:
+            plain, note = plain_program(folder, plain_text(HASHED)), " (std's map, which counts alone)"
+        plain_start = spent([plain, "map", 1, 0])[0] if plain else 0
         for name, kind, keys, most in (
             ("map, 1,000 keys", "map", 1000, 1 << 30),
             ("map, half as many keys as entries", "map", ENTRIES // 2, 1 << 34),
@@ -123,17 +249,19 @@ def main():
             ("sorter, 16 MiB", "sort", 1 << 40, 16 << 20),
             ("sorter, 1 MiB", "sort", 1 << 40, 1 << 20),
         ):
-            took, told = best([PROGRAM, kind, keys, ENTRIES, most], REPS)
+            took, told = spent([PROGRAM, kind, keys, ENTRIES, most])
             line = f"{name:36} {ENTRIES / (took - start) / 1e6:7.3f} million entries/s  {told}"
             if plain:
-                took, _ = best([plain, kind, keys, ENTRIES], REPS)
-                line += f"  plain {ENTRIES / took / 1e6:7.3f}"
+                theirs, _ = spent([plain, kind, keys, ENTRIES])
+                times = (took - start) / (theirs - plain_start)
+                line += f"  plain {ENTRIES / (theirs - plain_start) / 1e6:7.3f}, {times:.2f} of its time"
+                line += note if kind == "map" else ""
             print(line)
-        took = best([PROGRAM, "merge", 1 << 40, ENTRIES, 1 << 34], REPS)[0] - best([PROGRAM, "runs", 1 << 40, ENTRIES, 1 << 34], REPS)[0]
+        took = spent([PROGRAM, "merge", 1 << 40, ENTRIES, 1 << 34])[0] - spent([PROGRAM, "runs", 1 << 40, ENTRIES, 1 << 34])[0]
         line = f"{'merge of 8 runs':36} {ENTRIES / took / 1e6:7.3f} million entries/s"
         if plain:
-            took = best([plain, "merge", 1 << 40, ENTRIES], REPS)[0] - best([plain, "runs", 1 << 40, ENTRIES], REPS)[0]
-            line += f"  plain {ENTRIES / took / 1e6:7.3f}"
+            theirs = spent([plain, "merge", 1 << 40, ENTRIES])[0] - spent([plain, "runs", 1 << 40, ENTRIES])[0]
+            line += f"  plain {ENTRIES / theirs / 1e6:7.3f}, {took / theirs:.2f} of its time"
         print(line)
 
 

@@ -23,6 +23,6 @@ impl Drawn {
             .wrapping_mul(6_364_136_223_846_793_005)
             .wrapping_add(1_442_695_040_888_963_407);
         let drawn = (self.state >> 20) % keys.max(1);
-        drawn.wrapping_mul(0x9e37_79b9_7f4a_7c15).to_be_bytes()
+        drawn.to_be_bytes()
     }
 }
