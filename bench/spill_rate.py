@@ -5,8 +5,8 @@ beside plain Rust.
 Run it at the top of the repository, after `rt run` in crates/spill_rate has built the program. Each entry has a key of
 8 bytes and a value of 32, two numbers of 128 bits. Where cargo is at hand, a Rust program puts as many entries through a
 map of the crate `indexmap`, with the hash of ours, that is sorted at the end and written to pages; through a stable sort;
-and through a heap over eight sorted lists, in the same run. Its keys are drawn as ours are, and its map adds both numbers
-of each value. What a spill writes is let go; the runs of a merge are in memory. All times are processor time, without
+and through a heap over eight sorted lists, in the same run. Its keys are drawn as ours are, its values are the same, and its
+map adds both numbers of each. What a spill writes is let go; the runs of a merge are in memory. All times are processor time, without
 that of a run with no entry.
 
 The sources of `indexmap` are Debian's: `apt-get install librust-indexmap-dev`. Without them the map is std's, counts
@@ -46,8 +46,8 @@ directory = "{SOURCES}"
 INDEXED = (
     "use indexmap::IndexMap;",
     r"""
-            // Read from memory, as a row's value is.
-            let value = std::hint::black_box([0u8; 32]);
+            let mut value = [0u8; 32];
+            value[31] = (keys % 256) as u8;
             let mut groups: IndexMap<Vec<u8>, [i128; 2], BuildHasherDefault<Fold>> = IndexMap::default();
             for _ in 0..entries {
                 let key = drawn.key(keys);

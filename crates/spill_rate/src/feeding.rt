@@ -92,7 +92,9 @@ pub fn feed_all<C: Consumer>(
     let mut drawn = Drawn::new();
     let mut spills = 1u64;
     let mut rows = 0u64;
-    let value = [0; 32];
+    let mut value = [0; 32];
+    // Known when it runs alone, as a row's value is: nothing is added at no cost.
+    value[31] = (keys % 256) as u8;
     for _entry in 0..entries {
         let key = drawn.key(keys);
         let (more, written) = feed_one(consumer, &mut page, &key, &value, most)?;
