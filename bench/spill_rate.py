@@ -5,9 +5,9 @@ beside plain Rust.
 Run it at the top of the repository, after `rt run` in crates/spill_rate has built the program. Each entry has a key of
 8 bytes and a value of 32, two numbers of 128 bits. Where cargo is at hand, a Rust program puts as many entries through a
 map of the crate `indexmap`, with the hash of ours, that is sorted at the end and written to pages; through a stable sort;
-and through a heap over eight sorted lists, in the same run. Its keys are drawn as ours are, its values are the same, and its
-map adds both numbers of each. What a spill writes is let go; the runs of a merge are in memory. All times are processor time, without
-that of a run with no entry.
+and through a heap over eight sorted lists, in the same run. Its keys are drawn as ours are, its values are the same, and
+its map adds both numbers of each. What a spill writes is let go; the runs of a merge are in memory. All times are
+processor time, without that of a run with no entry.
 
 The sources of `indexmap` are Debian's: `apt-get install librust-indexmap-dev`. Without them the map is std's, counts
 alone, and the lines of maps say so.

@@ -93,7 +93,7 @@ pub fn feed_all<C: Consumer>(
     let mut spills = 1u64;
     let mut rows = 0u64;
     let mut value = [0; 32];
-    // Known when it runs alone, as a row's value is: nothing is added at no cost.
+    // It is known only when the program runs, as a row's value is.
     value[31] = (keys % 256) as u8;
     for _entry in 0..entries {
         let key = drawn.key(keys);
