@@ -9,7 +9,9 @@ ghost use Rattle.row_page.specs.Spelling.{with_length, page_bytes, page_length, 
 ghost use Rattle.row_page.specs.Views.{fields_in};
 
 use crate::RowView;
-use crate::piece::{LENGTH_BYTES, append_pair, append_piece, are_pieces, first_piece, split_piece};
+use crate::piece::{
+    LENGTH_BYTES, append_pair, append_piece, are_pieces, first_piece, put_piece, split_piece,
+};
 use std::alloc::{AllocError, Global};
 use std::marker::Model;
 use thiserror::Error;
@@ -85,6 +87,27 @@ impl Page {
             starts,
             room,
         }))
+    }
+
+    /// The page that these bytes are known to be, with this room: what `read` gives, without a look at each
+    /// row's fields. Memory for the places of `count` rows is taken at once. An `Err` is want of memory.
+    pub fn read_known(
+        alloc: Global,
+        bytes: Vec<u8>,
+        count: usize,
+        room: u64,
+    ) -> Result<Page, AllocError>
+        requires known { HasRows bytes.items }
+        requires fits { length bytes.items ≤ room }
+        requires room { room ≤ 2 ^ 40 }
+        ensures { IfOk result (λ page. IsPage bytes.items page.rows × (page.room ≡ room)) }
+    {
+        let starts = known_places(alloc, &bytes, count)?;
+        Ok(Page {
+            bytes,
+            starts,
+            room,
+        })
     }
 
     /// How many rows the page has.
@@ -175,6 +198,13 @@ fn add_piece(starts: &mut Vec<usize>, bytes: &mut Vec<u8>, piece: &[u8]) -> Resu
     ensures bytes_err { OnErr result (bytes.new.items ≡ bytes.old.items) }
     ensures starts_err { OnErr result (starts.new.items ≡ starts.old.items) }
 {
+    if starts.len() < starts.capacity()
+        && LENGTH_BYTES + piece.len() <= bytes.capacity() - bytes.len()
+    {
+        starts.push_reserved(bytes.len());
+        put_piece(bytes, piece);
+        return Ok(());
+    }
     let count = starts.len();
     starts.push(bytes.len())?;
     if let Err(refused) = append_piece(bytes, piece) {
@@ -230,4 +260,22 @@ fn places_of(alloc: Global, bytes: &[u8]) -> Result<Option<Vec<usize>>, AllocErr
         at += LENGTH_BYTES + row.len();
     }
     Ok(Some(starts))
+}
+
+/// Where each row of a page begins, with its length, of bytes that are a page's.
+fn known_places(alloc: Global, bytes: &[u8], count: usize) -> Result<Vec<usize>, AllocError>
+    requires { HasRows bytes.now }
+    ensures count { IfOk result (λ starts. length starts.items ≡ length (rows_of bytes.now)) }
+    ensures places { IfOk result (λ starts. HasPlaces starts.items bytes.now (rows_of bytes.now)) }
+{
+    let mut starts = Vec::with_capacity(alloc, count)?;
+    let mut at = 0;
+    while at < bytes.len() {
+        let Some((encoding, _)) = split_piece(&bytes[at..]) else {
+            unreachable!()
+        };
+        starts.push(at)?;
+        at += LENGTH_BYTES + encoding.len();
+    }
+    Ok(starts)
 }

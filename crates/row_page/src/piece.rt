@@ -58,13 +58,19 @@ pub(crate) fn append_piece(out: &mut Vec<u8>, piece: &[u8]) -> Result<(), AllocE
     ensures ok { OnOk result (out.new.items ≡ out.old.items ++ with_length piece.now) }
     ensures err { OnErr result (out.new.items ≡ out.old.items) }
 {
-    let before = out.len();
-    out.extend_from_slice(&spelled_length(piece.len()))?;
-    if let Err(refused) = out.extend_from_slice(piece) {
-        out.truncate(before);
-        return Err(refused);
-    }
+    out.reserve(LENGTH_BYTES + piece.len())?;
+    put_piece(out, piece);
     Ok(())
+}
+
+/// Puts a piece with its length at the end, where room was made for both.
+pub(crate) fn put_piece(out: &mut Vec<u8>, piece: &[u8])
+    requires short { length piece.now < 2 ^ 32 }
+    requires room { length out.old.items + (4 + length piece.now) ≤ vec_capacity out.old }
+    ensures { out.new.items ≡ out.old.items ++ with_length piece.now }
+{
+    put_length(out, piece.len());
+    put(out, piece);
 }
 
 /// Puts the row of two fields with its length at the end. After an `Err` nothing changed.
@@ -76,12 +82,27 @@ pub(crate) fn append_pair(out: &mut Vec<u8>, first: &[u8], second: &[u8]) -> Res
 {
     let row = LENGTH_BYTES + first.len() + LENGTH_BYTES + second.len();
     out.reserve(LENGTH_BYTES + row)?;
-    put(out, &spelled_length(row));
-    put(out, &spelled_length(first.len()));
+    put_length(out, row);
+    put_length(out, first.len());
     put(out, first);
-    put(out, &spelled_length(second.len()));
+    put_length(out, second.len());
     put(out, second);
     Ok(())
+}
+
+/// Puts a length as its bytes at the end, where room was made for them.
+fn put_length(out: &mut Vec<u8>, size: usize)
+    requires short { size < 2 ^ 32 }
+    requires room { length out.old.items + 4 ≤ vec_capacity out.old }
+    ensures items { out.new.items ≡ out.old.items ++ length_bytes size }
+    ensures more { length out.new.items ≡ length out.old.items + 4 }
+    ensures capacity { vec_capacity out.new ≡ vec_capacity out.old }
+{
+    let bytes = spelled_length(size);
+    out.push_reserved(bytes[0]);
+    out.push_reserved(bytes[1]);
+    out.push_reserved(bytes[2]);
+    out.push_reserved(bytes[3]);
 }
 
 /// A length as its bytes.
