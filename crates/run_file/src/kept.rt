@@ -2,12 +2,10 @@
 
 ghost use Rattle.std.specs.Prelude.{◌≡◌, ◌+◌, ◌-◌, ◌<◌, ◌≤◌, ◌^◌, ◌++◌, [], ℕ, min, IfOk, IfSome, OnErr, OnOk, length, take, drop};
 ghost use Rattle.fault_count.specs.Faults.{HasCauseAt};
-ghost use Rattle.run_file.specs.Causes.{HasCauseOn, NotDamaged};
 ghost use Rattle.run_file.specs.Filling.{ReadsMore, ShowsFront};
 ghost use Rattle.run_file.specs.Readers.{IsBounded, ahead_of, most_kept};
 
-use crate::run::fault_of;
-use crate::{Run, RunFault};
+use crate::Run;
 use row_page::split_piece;
 use spill_disk::{Disk, DiskError};
 use std::alloc::{AllocError, Global};
@@ -91,16 +89,14 @@ impl KeptBytes {
     }
 
     /// Reads on, unless a whole piece stands in front.
-    pub(crate) fn reach<D: Disk>(&mut self, disk: &mut D, run: &Run) -> Result<(), RunFault>
+    pub(crate) fn reach<D: Disk>(&mut self, disk: &mut D, run: &Run) -> Result<(), DiskError>
         requires bounded { IsBounded run.now self.old }
         ensures bounded { IsBounded run.now self.new }
         ensures ahead { ahead_of (D.files disk.old) run.now self.new ≡ ahead_of (D.files disk.old) run.now self.old }
         ensures shows { OnOk result (IfSome (ahead_of (D.files disk.old) run.now self.new)
             (ShowsFront run.now self.new.rest)) }
         ensures same { D.files disk.new ≡ D.files disk.old }
-        ensures later { D.faults disk.old ≤ D.faults disk.new }
-        ensures cause { HasCauseOn run.now.disk (D.faults disk.old) (D.faults disk.new) result }
-        ensures sound { NotDamaged result }
+        ensures cause { HasCauseAt DiskError.Failed (D.faults disk.old) (D.faults disk.new) result }
     {
         match split_piece(self.rest()) {
             Some(_) => Ok(()),
@@ -109,22 +105,20 @@ impl KeptBytes {
     }
 
     /// Forgets the row at hand, and reads as many bytes behind the rest as may be kept.
-    fn fill<D: Disk>(&mut self, disk: &mut D, run: &Run) -> Result<(), RunFault>
+    fn fill<D: Disk>(&mut self, disk: &mut D, run: &Run) -> Result<(), DiskError>
         requires bounded { IsBounded run.now self.old }
         ensures bounded { IsBounded run.now self.new }
         ensures ahead { ahead_of (D.files disk.old) run.now self.new ≡ ahead_of (D.files disk.old) run.now self.old }
         ensures shows { OnOk result (IfSome (ahead_of (D.files disk.old) run.now self.new)
             (ShowsFront run.now self.new.rest)) }
         ensures same { D.files disk.new ≡ D.files disk.old }
-        ensures later { D.faults disk.old ≤ D.faults disk.new }
-        ensures cause { HasCauseOn run.now.disk (D.faults disk.old) (D.faults disk.new) result }
-        ensures sound { NotDamaged result }
+        ensures cause { HasCauseAt DiskError.Failed (D.faults disk.old) (D.faults disk.new) result }
     {
         self.keep_rest();
         let wanted = wanted_of(run, self.at, self.end);
         match self.read_more(disk, run.file, wanted) {
             Ok(()) => Ok(()),
-            Err(error) => Err(fault_of(run.disk, error)),
+            Err(error) => Err(error),
         }
     }
 

@@ -92,7 +92,15 @@ impl RowWriter {
             (faults_on H.disk_of D.faults shelf.new self.old.run.disk) result }
         ensures sound { NotDamaged result }
     {
-        put_row(self.alloc, shelf, &mut self.writer, &mut self.page, row)
+        match self.page.push(row.again()) {
+            Ok(()) => Ok(()),
+            Err(PageFault::Full) => {
+                write_on(shelf, &mut self.writer, &self.page)?;
+                self.page.clear();
+                put_first(self.alloc, shelf, &mut self.writer, &mut self.page, row)
+            }
+            Err(PageFault::NoMemory) => Err(RunFault::NoMemory),
+        }
     }
 
     /// Writes the rows that are still on the page, and answers the run and the page without rows.
@@ -145,44 +153,6 @@ pub fn remove_run<D: Disk, H: Shelf<D>>(shelf: &mut H, run: &Run) -> Result<(), 
     match disk.remove(run.file) {
         Ok(()) => Ok(()),
         Err(error) => Err(fault_of(run.disk, error)),
-    }
-}
-
-/// Puts a row behind those of a run so far: on the page, which is written first where it is full.
-fn put_row<D: Disk, H: Shelf<D>>(
-    alloc: Global,
-    shelf: &mut H,
-    writer: &mut RunWriter,
-    page: &mut Page,
-    row: RowView<'_>,
-) -> Result<(), RunFault>
-    requires to { writer.old.disk < H.count_of shelf.old }
-    requires there { IsThere (files_on H.disk_of D.files shelf.old writer.old.disk) writer.old.file }
-    ensures put { OnOk result ((rows : List (List (List ℕ))) →
-        IsSoFar (files_on H.disk_of D.files shelf.old writer.old.disk)
-        (record { run = writer.old; page = page.old }) rows →
-        IsSoFar (files_on H.disk_of D.files shelf.new writer.old.disk)
-        (record { run = writer.new; page = page.new }) (rows ++ fields_in row.entry ∷ [])) }
-    ensures there { IsThere (files_on H.disk_of D.files shelf.new writer.old.disk) writer.old.file }
-    ensures disk { writer.new.disk ≡ writer.old.disk }
-    ensures file { writer.new.file ≡ writer.old.file }
-    ensures same { SameBut (H.named shelf.old)
-        (files_on H.disk_of D.files shelf.old) (files_on H.disk_of D.files shelf.new)
-        writer.old.disk writer.old.file }
-    ensures shelf { KeepsShelf H.count_of H.named H.disk_of D.files D.faults shelf.old shelf.new }
-    ensures cause { HasCauseOn writer.old.disk
-        (faults_on H.disk_of D.faults shelf.old writer.old.disk)
-        (faults_on H.disk_of D.faults shelf.new writer.old.disk) result }
-    ensures sound { NotDamaged result }
-{
-    match page.push(row.again()) {
-        Ok(()) => Ok(()),
-        Err(PageFault::Full) => {
-            write_on(shelf, writer, page)?;
-            page.clear();
-            put_first(alloc, shelf, writer, page, row)
-        }
-        Err(PageFault::NoMemory) => Err(RunFault::NoMemory),
     }
 }
 

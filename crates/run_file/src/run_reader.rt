@@ -1,6 +1,6 @@
 //! A run that is being read.
 
-ghost use Rattle.std.specs.Prelude.{◌≡◌, ◌<◌, ◌≤◌, ◌+◌, ◌^◌, ◌↔◌, List, ℕ, true, false, length, take, drop, Option, None, Ok, IfErr, IfOk, IfSome, OnOk, OnErr, is_some};
+ghost use Rattle.std.specs.Prelude.{◌≡◌, ◌<◌, ◌≤◌, ◌+◌, ◌^◌, ◌↔◌, List, ℕ, true, false, length, take, drop, Option, None, Ok, IfErr, IfNone, IfOk, IfSome, OnOk, OnErr, is_some};
 ghost use Rattle.std.specs.Borrow.{sem};
 ghost use Rattle.std.specs.Io.BufRead.{Rests};
 ghost use Rattle.aggregate.specs.declared.kind.Kind.{Kind};
@@ -17,6 +17,7 @@ ghost use Rattle.run_file.specs.Lending.{StandsAfter};
 ghost use Rattle.run_file.specs.contracts.run_reader.RunReader.{the_row};
 
 use crate::kept::KeptBytes;
+use crate::run::fault_of;
 use crate::{Damage, Form, Run, RunFault};
 use row_page::{RowView, split_piece};
 use spill_disk::{Disk, Shelf};
@@ -172,7 +173,10 @@ impl RunReader {
         ensures shelf { LeavesFiles H.count_of H.named H.disk_of D.files D.faults shelf.old shelf.new }
     {
         let disk = shelf.disk(self.run.disk);
-        self.kept.reach(disk, &self.run)
+        match self.kept.reach(disk, &self.run) {
+            Ok(()) => Ok(()),
+            Err(error) => Err(fault_of(self.run.disk, error)),
+        }
     }
 
     /// Goes on to the row at the front of what is kept.
@@ -186,7 +190,9 @@ impl RunReader {
         ensures moved { Moves self.old self.new result }
         ensures fits { self.new.found < 2 ^ 64 }
     {
-        let size = front_of(&self.form, &self.run, self.found, self.kept.rest())?;
+        let Some(size) = front_of(&self.form, self.run.greatest, self.kept.rest()) else {
+            return Err(damage_of(&self.run, self.found));
+        };
         self.kept.take(size);
         self.found += 1;
         Ok(true)
@@ -195,23 +201,22 @@ impl RunReader {
 
 /// How many bytes the well-formed row has that stands at the front, behind its length. Where none does,
 /// the run is damaged.
-pub(crate) fn front_of(form: &Form, run: &Run, found: u64, bytes: &[u8]) -> Result<usize, RunFault>
-    ensures ok { IfOk result (BeginsRow form.now run.now.greatest bytes.now) }
-    ensures inside { IfOk result (λ size. 4 + size ≤ length bytes.now) }
-    ensures damaged { OnErr result (BeginsDamaged form.now run.now.greatest bytes.now) }
-    ensures only { IfErr result (λ fault. fault ≡ damage_by run.now found) }
+pub(crate) fn front_of(form: &Form, greatest: u64, bytes: &[u8]) -> Option<usize>
+    ensures some { IfSome result (BeginsRow form.now greatest bytes.now) }
+    ensures inside { IfSome result (λ size. 4 + size ≤ length bytes.now) }
+    ensures none { IfNone result (BeginsDamaged form.now greatest bytes.now) }
 {
     let Some((piece, _)) = split_piece(bytes) else {
-        return Err(damage_of(run, found));
+        return None;
     };
-    if !form.takes(piece, run.greatest) {
-        return Err(damage_of(run, found));
+    if !form.takes(piece, greatest) {
+        return None;
     }
-    Ok(piece.len())
+    Some(piece.len())
 }
 
 /// The damage of a run of which so many rows were found.
-fn damage_of(run: &Run, found: u64) -> RunFault
+pub(crate) fn damage_of(run: &Run, found: u64) -> RunFault
     ensures { result ≡ damage_by run.now found }
 {
     RunFault::Damaged(Damage {

@@ -8,7 +8,7 @@ ghost use Rattle.run_file.specs.Runs.{Stands};
 ghost use Rattle.run_file.specs.Whole.{AreRowsOf, BeginsRows, GivesPage, ReadsRun, TellsDamageOf, UsesAll};
 
 use crate::run::fault_of;
-use crate::run_reader::front_of;
+use crate::run_reader::{damage_of, front_of};
 use crate::{Form, Run, RunFault};
 use row_page::Page;
 use spill_disk::Disk;
@@ -75,9 +75,8 @@ fn page_of(alloc: Global, run: &Run, form: &Form, bytes: Vec<u8>) -> Result<Page
     }
     let mut bytes = bytes;
     bytes.truncate(used);
-    match Page::read(alloc, bytes, used as u64) {
-        Ok(Some(page)) => Ok(page),
-        Ok(None) => unreachable!(),
+    match Page::read_known(alloc, bytes, run.count as usize, used as u64) {
+        Ok(page) => Ok(page),
         Err(_) => Err(RunFault::NoMemory),
     }
 }
@@ -92,7 +91,10 @@ fn check_rows(form: &Form, run: &Run, bytes: &[u8]) -> Result<usize, RunFault>
 {
     let mut at = 0;
     for found in 0..run.count {
-        at += 4 + front_of(form, run, found, &bytes[at..])?;
+        let Some(size) = front_of(form, run.greatest, &bytes[at..]) else {
+            return Err(damage_of(run, found));
+        };
+        at += 4 + size;
     }
     Ok(at)
 }

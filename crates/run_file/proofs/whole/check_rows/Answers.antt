@@ -5,11 +5,11 @@ use Rattle.run_file.specs.Reading.{BeginsDamaged}
 use Rattle.run_file.proofs.Wholes.{one_checked, none_damaged, all_used}
 use Rattle.run_file.proofs.whole.check_rows.Goals as goal
 
-pub returns-in_err-at-clause-all : goal.returns-in_err-at-clause-all
-returns-in_err-at-clause-all c rows are =
+pub returns-in_default-clause-all : goal.returns-in_default-clause-all
+returns-in_default-clause-all c rows are =
     let so_far = c.loop-found.invariant in
     let rest : take (length c.args.bytes.now - c.loop-found.at) (drop c.loop-found.at c.args.bytes.now) ≡ drop c.loop-found.at c.args.bytes.now = take_rest c.args.bytes.now c.loop-found.at in
-    let damaged : BeginsDamaged c.args.form.now c.args.run.now.greatest (drop c.loop-found.at c.args.bytes.now) = rw rest at c.in_err-at.ensures.damaged in
+    let damaged : BeginsDamaged c.args.form.now c.args.run.now.greatest (drop c.loop-found.at c.args.bytes.now) = rw rest at c.in_default.ensures.none in
     let more : c.loop-found.found < c.args.run.now.count = search rules in
     absurd (none_damaged c.args.form.now c.args.run.now c.args.bytes.now c.loop-found.at c.loop-found.found so_far more damaged rows are)
 
@@ -17,10 +17,10 @@ pub loop-found-preserved : goal.loop-found-preserved
 loop-found-preserved c =
     let so_far = c.loop-found.invariant in
     let rest : take (length c.args.bytes.now - c.loop-found.at) (drop c.loop-found.at c.args.bytes.now) ≡ drop c.loop-found.at c.args.bytes.now = take_rest c.args.bytes.now c.loop-found.at in
-    let next : BeginsRow c.args.form.now c.args.run.now.greatest (drop c.loop-found.at c.args.bytes.now) c.in_ok-at.field-0 = rw rest at c.in_ok-at.ensures.ok in
-    let fits : 4 + c.in_ok-at.field-0 ≤ length (drop c.loop-found.at c.args.bytes.now) = rw rest at c.in_ok-at.ensures.inside in
+    let next : BeginsRow c.args.form.now c.args.run.now.greatest (drop c.loop-found.at c.args.bytes.now) c.in-Some.size = rw rest at c.in-Some.ensures.some in
+    let fits : 4 + c.in-Some.size ≤ length (drop c.loop-found.at c.args.bytes.now) = rw rest at c.in-Some.ensures.inside in
     let more : c.loop-found.found < c.args.run.now.count = search rules in
-    one_checked c.args.form.now c.args.run.now c.args.bytes.now c.loop-found.at c.loop-found.found c.in_ok-at.field-0 so_far more next fits
+    one_checked c.args.form.now c.args.run.now c.args.bytes.now c.loop-found.at c.loop-found.found c.in-Some.size so_far more next fits
 
 pub returns-clause-all : goal.returns-clause-all
 returns-clause-all c rows are =
