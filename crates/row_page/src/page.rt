@@ -136,6 +136,7 @@ impl Page {
     }
 
     /// The row at this place, from 0, as a slice of the page's bytes.
+    #[inline(always)]
     pub fn row(&self, i: usize) -> RowView<'_>
         requires { i < length self.now.rows }
         ensures { fields_in result ≡ slice_index_or self.now.rows i [] }
@@ -146,6 +147,7 @@ impl Page {
 
     /// Puts a row behind the others. `Full` comes exactly where the page's bytes with this row pass the
     /// room. After an `Err` nothing changed.
+    #[inline(always)]
     pub fn push(&mut self, row: RowView<'_>) -> Result<(), PageFault>
         ensures ok { OnOk result
             (self.new ≡ record self.old { rows = self.old.rows ++ fields_in row.entry ∷ [] }) }
@@ -190,6 +192,7 @@ impl Page {
 }
 
 /// Puts a piece behind the bytes, and its place behind the places.
+#[inline(always)]
 fn add_piece(starts: &mut Vec<usize>, bytes: &mut Vec<u8>, piece: &[u8]) -> Result<(), AllocError>
     requires { length piece.now < 2 ^ 32 }
     ensures bytes { OnOk result (bytes.new.items ≡ bytes.old.items ++ with_length piece.now) }
@@ -205,6 +208,24 @@ fn add_piece(starts: &mut Vec<usize>, bytes: &mut Vec<u8>, piece: &[u8]) -> Resu
         put_piece(bytes, piece);
         return Ok(());
     }
+    add_with_room(starts, bytes, piece)
+}
+
+/// The same, where there may be no room in memory yet.
+#[cold]
+#[inline(never)]
+fn add_with_room(
+    starts: &mut Vec<usize>,
+    bytes: &mut Vec<u8>,
+    piece: &[u8],
+) -> Result<(), AllocError>
+    requires { length piece.now < 2 ^ 32 }
+    ensures bytes { OnOk result (bytes.new.items ≡ bytes.old.items ++ with_length piece.now) }
+    ensures starts { OnOk result
+        (starts.new.items ≡ starts.old.items ++ length bytes.old.items ∷ []) }
+    ensures bytes_err { OnErr result (bytes.new.items ≡ bytes.old.items) }
+    ensures starts_err { OnErr result (starts.new.items ≡ starts.old.items) }
+{
     let count = starts.len();
     starts.push(bytes.len())?;
     if let Err(refused) = append_piece(bytes, piece) {

@@ -11,6 +11,7 @@ pub(crate) const LENGTH_BYTES: usize = 4;
 
 /// The piece at the front, without its length, and what stands behind it. The readers of rows, pages and
 /// run files go from piece to piece by this call.
+#[inline(always)]
 pub fn split_piece(bytes: &[u8]) -> Option<(&[u8], &[u8])>
     ensures found { IfSome result (λ parts. IsPieceThen bytes.now parts.0.now parts.1.now) }
     ensures none { IfNone result ((piece behind : List ℕ) → IsPieceThen bytes.now piece behind → ⊥) }
@@ -27,6 +28,7 @@ pub fn split_piece(bytes: &[u8]) -> Option<(&[u8], &[u8])>
 }
 
 /// The piece at the front and what stands behind it, of bytes that have pieces.
+#[inline(always)]
 pub(crate) fn first_piece(bytes: &[u8]) -> (&[u8], &[u8])
     requires pieces { HasPieces bytes.now }
     requires some { 0 < length bytes.now }
@@ -53,6 +55,7 @@ pub(crate) fn are_pieces(bytes: &[u8]) -> bool
 }
 
 /// Puts a piece with its length at the end. After an `Err` nothing changed.
+#[inline(always)]
 pub(crate) fn append_piece(out: &mut Vec<u8>, piece: &[u8]) -> Result<(), AllocError>
     requires { length piece.now < 2 ^ 32 }
     ensures ok { OnOk result (out.new.items ≡ out.old.items ++ with_length piece.now) }
@@ -64,6 +67,7 @@ pub(crate) fn append_piece(out: &mut Vec<u8>, piece: &[u8]) -> Result<(), AllocE
 }
 
 /// Puts a piece with its length at the end, where room was made for both.
+#[inline(always)]
 pub(crate) fn put_piece(out: &mut Vec<u8>, piece: &[u8])
     requires short { length piece.now < 2 ^ 32 }
     requires room { length out.old.items + (4 + length piece.now) ≤ vec_capacity out.old }
@@ -91,6 +95,7 @@ pub(crate) fn append_pair(out: &mut Vec<u8>, first: &[u8], second: &[u8]) -> Res
 }
 
 /// Puts a length as its bytes at the end, where room was made for them.
+#[inline(always)]
 fn put_length(out: &mut Vec<u8>, size: usize)
     requires short { size < 2 ^ 32 }
     requires room { length out.old.items + 4 ≤ vec_capacity out.old }
@@ -115,6 +120,7 @@ fn spelled_length(length: usize) -> [u8; LENGTH_BYTES]
 }
 
 /// Puts bytes at the end, where room was made for them.
+#[inline(always)]
 fn put(out: &mut Vec<u8>, bytes: &[u8])
     requires room { length out.old.items + length bytes.now ≤ vec_capacity out.old }
     ensures items { out.new.items ≡ out.old.items ++ bytes.now }

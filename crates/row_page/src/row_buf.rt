@@ -39,6 +39,7 @@ impl RowBuf {
     }
 
     /// Puts a field behind the others. After an `Err` nothing changed.
+    #[inline(always)]
     pub fn add(&mut self, field: &[u8]) -> Result<(), AllocError>
         requires { row_length self.old + (4 + length field.now) < 2 ^ 31 }
         ensures ok { OnOk result (self.new ≡ self.old ++ field.now ∷ []) }
@@ -55,6 +56,7 @@ impl RowBuf {
     }
 
     /// The row.
+    #[inline(always)]
     pub fn view(&self) -> RowView<'_>
         ensures { fields_in result ≡ self.now }
     {

@@ -31,6 +31,7 @@ impl<'a> RowView<'a> {
 
     /// The row whose encoding these bytes are known to be: what `of` gives, without a look at them. Who
     /// keeps the bytes of a row that was checked lends it by this call.
+    #[inline(always)]
     pub fn of_known(bytes: &'a [u8]) -> RowView<'a>
         requires { (fields : List (List ℕ)) × IsRow bytes.now fields }
         ensures row { IsRow bytes.now (fields_in result) }
@@ -54,6 +55,7 @@ impl<'a> RowView<'a> {
     }
 
     /// The field at this place, from 0. It goes over the fields before it.
+    #[inline(always)]
     pub fn field(&self, j: usize) -> &'a [u8]
         requires { j < length (fields_in self.now) }
         ensures { result.now ≡ slice_index_or (fields_in self.now) j [] }
@@ -66,6 +68,7 @@ impl<'a> RowView<'a> {
     }
 
     /// Both fields of a row of two, as an entry is. It goes over the row once.
+    #[inline(always)]
     pub fn pair(&self) -> Option<(&'a [u8], &'a [u8])>
         ensures found { IfSome result
             (λ fields. fields_in self.now ≡ fields.0.now ∷ fields.1.now ∷ []) }
@@ -86,6 +89,7 @@ impl<'a> RowView<'a> {
     }
 
     /// The row's encoding.
+    #[inline(always)]
     pub fn bytes(&self) -> &'a [u8]
         ensures grammar { IsRow result.now (fields_in self.now) }
         ensures spelling { result.now ≡ row_bytes (fields_in self.now) }
@@ -95,6 +99,7 @@ impl<'a> RowView<'a> {
     }
 
     /// The same row, lent once more.
+    #[inline(always)]
     pub fn again(&self) -> RowView<'a>
         ensures { result ≡ self.now }
     {

@@ -44,6 +44,7 @@ impl Form {
     }
 
     /// Whether the bytes are those of a row that `accepts` takes. It goes over them once.
+    #[inline(always)]
     pub(crate) fn takes(&self, bytes: &[u8], greatest: u64) -> bool
         ensures { IsTrue result ↔ IsFormed self.now greatest bytes.now }
     {
@@ -58,6 +59,7 @@ impl Form {
 }
 
 /// Whether the bytes are a key and a value of this kind.
+#[inline(always)]
 fn is_entry(kind: &Kind, bytes: &[u8]) -> bool
     ensures { IsTrue result ↔ IsOfForm (Entries kind.now) bytes.now }
 {
@@ -71,6 +73,7 @@ fn is_entry(kind: &Kind, bytes: &[u8]) -> bool
 }
 
 /// Whether the bytes are those of a landed row.
+#[inline(always)]
 fn is_landed(columns: u32, numbers: &NumberList, bytes: &[u8]) -> bool
     ensures { IsTrue result ↔ IsOfForm (Landed columns numbers.now) bytes.now }
 {
@@ -94,6 +97,7 @@ fn is_landed(columns: u32, numbers: &NumberList, bytes: &[u8]) -> bool
 }
 
 /// Whether a field may stand in the column at this place: where numbers have to, it is one.
+#[inline(always)]
 fn may_stand(numbers: &NumberList, column: u32, field: &[u8]) -> bool
     ensures { IsTrue result ↔ EachIndex numbers.now
         (λ k. slice_index numbers.now k ≡ column → IsTrue (is_number field.now)) }
@@ -107,6 +111,7 @@ fn may_stand(numbers: &NumberList, column: u32, field: &[u8]) -> bool
 }
 
 /// Whether there are more columns than any of these places.
+#[inline(always)]
 fn are_below(numbers: &NumberList, columns: u32) -> bool
     ensures { IsTrue result ↔ EachIndex numbers.now (λ k. slice_index numbers.now k < columns) }
 {

@@ -63,6 +63,7 @@ impl KeptBytes {
     }
 
     /// The bytes of the row at hand.
+    #[inline(always)]
     pub(crate) fn row(&self) -> &[u8]
         ensures { result.now ≡ self.now.row }
     {
@@ -70,6 +71,7 @@ impl KeptBytes {
     }
 
     /// The bytes that weren't passed.
+    #[inline(always)]
     pub(crate) fn rest(&self) -> &[u8]
         ensures { result.now ≡ self.now.rest }
     {
@@ -77,6 +79,7 @@ impl KeptBytes {
     }
 
     /// Goes on to the row whose bytes stand behind their length.
+    #[inline(always)]
     pub(crate) fn take(&mut self, size: usize)
         requires { 4 + size ≤ length self.old.rest }
         ensures row { self.new.row ≡ take size (drop 4 self.old.rest) }
@@ -89,6 +92,7 @@ impl KeptBytes {
     }
 
     /// Reads on, unless a whole piece stands in front.
+    #[inline(always)]
     pub(crate) fn reach<D: Disk>(&mut self, disk: &mut D, run: &Run) -> Result<(), DiskError>
         requires bounded { IsBounded run.now self.old }
         ensures bounded { IsBounded run.now self.new }
@@ -105,6 +109,7 @@ impl KeptBytes {
     }
 
     /// Forgets the row at hand, and reads as many bytes behind the rest as may be kept.
+    #[inline(always)]
     fn fill<D: Disk>(&mut self, disk: &mut D, run: &Run) -> Result<(), DiskError>
         requires bounded { IsBounded run.now self.old }
         ensures bounded { IsBounded run.now self.new }
@@ -123,6 +128,7 @@ impl KeptBytes {
     }
 
     /// Moves the rest to the front, where there is one and it doesn't stand there.
+    #[inline(always)]
     fn keep_rest(&mut self)
         ensures rest { self.new.rest ≡ self.old.rest }
         ensures count { self.new.count ≡ length self.old.rest }
@@ -140,6 +146,7 @@ impl KeptBytes {
     }
 
     /// Reads so many bytes behind those that are kept, or as many as the file has.
+    #[inline(always)]
     fn read_more<D: Disk>(
         &mut self,
         disk: &mut D,
@@ -166,6 +173,7 @@ impl KeptBytes {
 }
 
 /// Makes room for so many bytes behind the first `end`, which stay.
+#[inline(always)]
 fn widen(bytes: &mut Vec<u8>, end: usize, wanted: usize) -> Result<(), AllocError>
     requires there { end ≤ length bytes.old.items }
     requires small { end + wanted ≤ 2 ^ 33 }
@@ -180,6 +188,7 @@ fn widen(bytes: &mut Vec<u8>, end: usize, wanted: usize) -> Result<(), AllocErro
 }
 
 /// Reads so many bytes behind the first `end`, which stay, or as many as the file has.
+#[inline(always)]
 fn read_behind<D: Disk>(
     disk: &mut D,
     file: u64,
@@ -202,6 +211,7 @@ fn read_behind<D: Disk>(
 }
 
 /// How many bytes are wanted from a place on, behind so many that are kept.
+#[inline(always)]
 fn wanted_of(run: &Run, at: u64, kept: usize) -> usize
     requires inside { at ≤ run.now.bytes }
     requires bound { kept ≤ most_kept run.now }

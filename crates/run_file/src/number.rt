@@ -12,6 +12,7 @@ const MOST: u64 = 922_337_203_685_477_579;
 const MOST_DIGITS: usize = 18;
 
 // The number that digits spell, where there are some, and no digit stands behind a number beyond `MOST`.
+#[inline(always)]
 fn short_value(digits: &[u8]) -> Option<u64>
     ensures some { IfSome result (λ value. 0 < length digits.now) }
     ensures digits { IfSome result (λ value. all_ascii_digits digits.now ≡ true) }
@@ -33,6 +34,8 @@ fn short_value(digits: &[u8]) -> Option<u64>
 }
 
 // The number that a field of any length is.
+#[cold]
+#[inline(never)]
 fn long_number(field: &[u8]) -> Option<i64>
     ensures { result ≡ number field.now }
 {
@@ -43,6 +46,7 @@ fn long_number(field: &[u8]) -> Option<i64>
 }
 
 // Whether a field begins with a minus.
+#[inline(always)]
 fn is_down(field: &[u8]) -> bool
     ensures { result ≡ starts_with_minus field.now }
 {
@@ -50,6 +54,7 @@ fn is_down(field: &[u8]) -> bool
 }
 
 // A field without its sign.
+#[inline(always)]
 fn digits_of(field: &[u8]) -> &[u8]
     ensures { result.now ≡ without_leading_sign field.now }
 {
@@ -60,6 +65,7 @@ fn digits_of(field: &[u8]) -> &[u8]
 }
 
 /// The number that a field is: an optional sign, then ASCII digits, in the range of `i64`.
+#[inline(always)]
 pub fn parse_number(field: &[u8]) -> Option<i64>
     ensures { result ≡ number field.now }
 {
@@ -71,6 +77,7 @@ pub fn parse_number(field: &[u8]) -> Option<i64>
 }
 
 // Whether all of these bytes are digits.
+#[inline(always)]
 fn are_digits(digits: &[u8]) -> bool
     ensures { result ≡ all_ascii_digits digits.now }
 {
@@ -84,6 +91,7 @@ fn are_digits(digits: &[u8]) -> bool
 
 /// Whether a field is a number. No number is worked out of up to 18 digits: they are in range whichever they are.
 #[tactic(auto, using(crate::proofs::Numerals::short_fits))]
+#[inline(always)]
 pub fn is_decimal(field: &[u8]) -> bool
     ensures { result ≡ is_number field.now }
 {

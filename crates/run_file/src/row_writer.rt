@@ -69,6 +69,7 @@ impl RowWriter {
     /// Puts a row behind those so far: on the page, which is written first where it is full. A row that
     /// passes the room of a page goes to the file as a page of its own. After an `Err` the writer is only
     /// dropped.
+    #[inline(always)]
     pub fn put<D: Disk, H: Shelf<D>>(
         &mut self,
         shelf: &mut H,
@@ -157,6 +158,8 @@ pub fn remove_run<D: Disk, H: Shelf<D>>(shelf: &mut H, run: &Run) -> Result<(), 
 }
 
 /// Puts a row on an empty page; one that passes its room goes to the file at once.
+#[cold]
+#[inline(never)]
 fn put_first<D: Disk, H: Shelf<D>>(
     alloc: Global,
     shelf: &mut H,
@@ -192,6 +195,8 @@ fn put_first<D: Disk, H: Shelf<D>>(
 }
 
 /// Puts a row behind those in a run's file, as a page of its own.
+#[cold]
+#[inline(never)]
 fn put_alone<D: Disk, H: Shelf<D>>(
     alloc: Global,
     shelf: &mut H,
@@ -250,6 +255,7 @@ fn start_on<D: Disk, H: Shelf<D>>(shelf: &mut H, to: u32) -> Result<RunWriter, R
 }
 
 /// Puts a page's rows behind those of a run on its disk.
+#[inline(never)]
 fn write_on<D: Disk, H: Shelf<D>>(
     shelf: &mut H,
     writer: &mut RunWriter,

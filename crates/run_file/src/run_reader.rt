@@ -73,6 +73,7 @@ impl RunReader {
     }
 
     /// The row that the reader stands at, lent from its buffer.
+    #[inline(always)]
     pub fn row(&self) -> RowView<'_>
         requires { (row : List (List ℕ)) × IsAtRow self.now row }
         ensures at { IsAtRow self.now (fields_in result) }
@@ -82,6 +83,7 @@ impl RunReader {
     }
 
     /// The key of the entry that the reader stands at.
+    #[inline(always)]
     pub fn key(&self) -> &[u8]
         requires { (kind : Kind) × ∥ IsAtEntry kind self.now ∥₁ }
         ensures { result.now ≡ (entry_at self.now).key }
@@ -90,6 +92,7 @@ impl RunReader {
     }
 
     /// The value of the entry that the reader stands at.
+    #[inline(always)]
     pub fn value(&self) -> &[u8]
         requires { (kind : Kind) × ∥ IsAtEntry kind self.now ∥₁ }
         ensures { result.now ≡ (entry_at self.now).value }
@@ -100,6 +103,7 @@ impl RunReader {
     /// Goes on to the next row, at which the reader then stands; `false` comes exactly after the run's
     /// count of rows. All files of the shelf stay. A row that isn't well formed is damage, and so is a
     /// length that no row of the run has: nothing grows for it. After an `Err` the same rows are ahead.
+    #[inline(always)]
     pub fn advance<D: Disk, H: Shelf<D>>(&mut self, shelf: &mut H) -> Result<bool, RunFault>
         requires there { self.old.run.disk < H.count_of shelf.old }
         ensures gives { (rows : List (List (List ℕ))) →
@@ -157,6 +161,7 @@ impl RunReader {
     }
 
     /// Reads on, unless a whole piece stands in front of what is kept.
+    #[inline(always)]
     fn reach<D: Disk, H: Shelf<D>>(&mut self, shelf: &mut H) -> Result<(), RunFault>
         requires there { self.old.run.disk < H.count_of shelf.old }
         ensures ahead { known_ahead (files_on H.disk_of D.files shelf.old self.old.run.disk) self.new
@@ -180,6 +185,7 @@ impl RunReader {
     }
 
     /// Goes on to the row at the front of what is kept.
+    #[inline(always)]
     fn step(&mut self) -> Result<bool, RunFault>
         requires left { self.old.found < self.old.run.count }
         ensures some { result ≡ Ok false → ⊥ }
@@ -201,6 +207,7 @@ impl RunReader {
 
 /// How many bytes the well-formed row has that stands at the front, behind its length. Where none does,
 /// the run is damaged.
+#[inline(always)]
 pub(crate) fn front_of(form: &Form, greatest: u64, bytes: &[u8]) -> Option<usize>
     ensures some { IfSome result (BeginsRow form.now greatest bytes.now) }
     ensures inside { IfSome result (λ size. 4 + size ≤ length bytes.now) }
@@ -216,6 +223,8 @@ pub(crate) fn front_of(form: &Form, greatest: u64, bytes: &[u8]) -> Option<usize
 }
 
 /// The damage of a run of which so many rows were found.
+#[cold]
+#[inline(never)]
 pub(crate) fn damage_of(run: &Run, found: u64) -> RunFault
     ensures { result ≡ damage_by run.now found }
 {

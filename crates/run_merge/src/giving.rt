@@ -36,6 +36,7 @@ fn put_row(row: &mut RowBuf, key: &[u8], value: &[u8]) -> Result<(), AllocError>
 }
 
 /// Takes the first reader out of the order: its row is given.
+#[inline(always)]
 fn take_first(readers: &[RunReader], heads: &mut Vec<bool>, order: &mut Vec<usize>) -> usize
     requires heads { length heads.old.items ≡ length readers.now }
     requires order { IsOrder readers.now heads.old.items order.old.items }
@@ -54,6 +55,7 @@ fn take_first(readers: &[RunReader], heads: &mut Vec<bool>, order: &mut Vec<usiz
 }
 
 /// Gives the entry of the first reader as it is, whose place is answered: its own row is lent.
+#[inline(always)]
 pub(crate) fn give_alone(
     readers: &[RunReader],
     heads: &mut Vec<bool>,

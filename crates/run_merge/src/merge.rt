@@ -102,6 +102,7 @@ impl Merge {
 
     /// The row that it stands at, a key and a value. It is lent from the buffer of the reader that has it,
     /// or from the merge's own, where values were combined.
+    #[inline(always)]
     pub fn row(&self) -> RowView<'_>
         ensures { fields_in result ≡ row_of self.now }
     {
@@ -175,6 +176,7 @@ impl Merge {
     }
 
     /// Gives the entry of the first reader in the order, which has the least key.
+    #[inline(always)]
     fn give(&mut self) -> Result<(), AllocError>
         requires some { 0 < length self.old.order.items }
         ensures gives { OnOk result ((files : ℕ → Option Files) (entries : List Entry) →

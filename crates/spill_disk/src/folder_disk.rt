@@ -124,6 +124,7 @@ impl<R: Files + Drop> Disk for FolderDisk<R> {
         counted(&mut self.faults, added)
     }
 
+    #[inline(always)]
     fn read_at(&mut self, file: u64, place: u64, buf: &mut [u8]) -> Result<usize, DiskError>
         ensures bound { IfOk result (λ count. count ≤ length buf.old) }
         ensures numbers { folder_next self.new ≡ folder_next self.old }
@@ -187,6 +188,7 @@ impl<R: Files + Drop> Disk for FolderDisk<R> {
 }
 
 /// The answer, with a count for each that failed.
+#[inline(always)]
 fn counted<T>(faults: &mut u64, answer: Result<T, DiskError>) -> Result<T, DiskError>
     ensures same { result ≡ answer }
     ensures cause { HasCauseAt DiskError.Failed faults.old faults.new result }
@@ -235,6 +237,8 @@ fn make_file<R: Files + Drop>(
 
 /// Opens a file that isn't open, or makes it. Where as many are open as may be, the one that was opened
 /// first is closed.
+#[cold]
+#[inline(never)]
 fn open_file<R: Files + Drop>(
     rt: &R,
     alloc: Global,
@@ -312,6 +316,7 @@ fn append_to<R: Files + Drop>(
 }
 
 /// Reads from a file, which is opened where it isn't.
+#[inline(always)]
 fn read_in<R: Files + Drop>(
     rt: &R,
     alloc: Global,
@@ -343,6 +348,7 @@ fn read_in<R: Files + Drop>(
 }
 
 /// Reads from a file that stands there among the open ones.
+#[inline(always)]
 fn read_open<F: Read + Write + Seek + Drop>(
     kept: &mut IndexMap<u64, Opened<F>>,
     at: usize,

@@ -35,6 +35,7 @@ impl<F: Read + Write + Seek + Drop> Opened<F> {
     }
 
     /// Writes what is collected. After an `Err` what wasn't written is lost.
+    #[inline(always)]
     pub fn flush(&mut self) -> Result<(), DiskError>
         ensures collected { self.new.collected.items ≡ [] }
         ensures ahead { self.new.ahead.items ≡ self.old.ahead.items }
@@ -69,6 +70,7 @@ impl<F: Read + Write + Seek + Drop> Opened<F> {
     }
 
     /// Fills the front of `buf` from a place on, through what was read ahead where that has it all.
+    #[inline(always)]
     pub fn read_at(&mut self, place: u64, buf: &mut [u8]) -> Result<usize, DiskError>
         ensures bound { IfOk result (λ count. count ≤ length buf.old) }
         ensures collected { self.new.collected.items ≡ [] }
@@ -95,6 +97,8 @@ impl<F: Read + Write + Seek + Drop> Opened<F> {
     }
 
     /// Reads a buffer ahead, from a place on.
+    #[cold]
+    #[inline(never)]
     fn read_ahead(&mut self, place: u64) -> Result<(), DiskError>
         ensures place { OnOk result (self.new.ahead_at ≡ place) }
         ensures collected { self.new.collected.items ≡ self.old.collected.items }
@@ -135,6 +139,7 @@ impl<F: Read + Write + Seek + Drop> Drop for Opened<F> {
     }
 }
 
+#[inline(never)]
 fn write_at_end<F: Write + Seek>(file: &mut F, bytes: &[u8]) -> Result<(), DiskError> {
     file.seek(SeekFrom::End(0))?;
     file.write_all(bytes)?;
@@ -142,6 +147,7 @@ fn write_at_end<F: Write + Seek>(file: &mut F, bytes: &[u8]) -> Result<(), DiskE
 }
 
 /// Fills the front of `buf` from a place of the file on, as far as there is something.
+#[inline(never)]
 fn read_from<F: Read + Seek>(file: &mut F, place: u64, buf: &mut [u8]) -> Result<usize, DiskError>
     ensures { IfOk result (λ count. count ≤ length buf.old) }
 {
@@ -158,6 +164,7 @@ fn read_from<F: Read + Seek>(file: &mut F, place: u64, buf: &mut [u8]) -> Result
 }
 
 /// Whether the bytes ahead, which begin at `from`, have so many bytes at a place.
+#[inline(always)]
 fn covers(ahead: &[u8], from: u64, place: u64, count: usize) -> bool
     ensures { IsTrue result ↔ Covers from ahead.now place count }
 {

@@ -13,6 +13,7 @@ pub const PLACES: usize = 64;
 
 /// Where a file stands among the open ones. It is looked for first at the place that is remembered for its
 /// number, which takes no hash.
+#[inline(always)]
 pub fn place_of<F: Read + Write + Seek + Drop>(
     kept: &IndexMap<u64, Opened<F>>,
     places: &mut [u8; PLACES],

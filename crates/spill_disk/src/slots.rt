@@ -61,6 +61,7 @@ pub fn bytes_at(slots: &[Stored], file: u64) -> &[u8]
 }
 
 /// Fills the front of `buf` with what stands at a place, and answers how many bytes that is.
+#[inline(always)]
 pub fn fill(bytes: &[u8], place: u64, buf: &mut [u8]) -> usize
     ensures count { result ≡ length (read_of bytes.now place (length buf.old)) }
     ensures filled { buf.new ≡ read_of bytes.now place (length buf.old) ++ drop result buf.old }
