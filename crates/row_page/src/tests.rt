@@ -74,6 +74,17 @@ fn a_page_that_is_read_back_lends_its_rows(rt: HostRuntime) -> Result<(), Fail> 
 }
 
 #[test]
+fn the_bytes_of_a_page_are_known_to_be_one(rt: HostRuntime) -> Result<(), Fail> {
+    let mut page = Page::new(rt.alloc(), 40);
+    assert_eq!(rt; page.push_pair(b"ab", b""), Ok(()));
+    assert_eq!(rt; page.push_pair(b"", b"c"), Ok(()));
+    let again = Page::read_known(rt.alloc(), page.bytes().to_vec(rt.alloc())?, 2, 40)?;
+    assert_eq!(rt; again.rows(), 2);
+    assert_eq!(rt; again.bytes(), page.bytes());
+    Ok(())
+}
+
+#[test]
 fn bytes_outside_the_grammar_are_no_row_and_no_page(rt: HostRuntime) -> Result<(), Fail> {
     assert!(rt; RowView::of(&ROW).is_some());
     assert!(rt; RowView::of(&[]).is_some(), "a row without fields is empty");
