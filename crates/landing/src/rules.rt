@@ -124,6 +124,7 @@ pub(crate) fn check_row(rules: &Rules, n: u64, row: &ByteRecord) -> Result<(), L
 }
 
 /// Puts a field behind those of a row. After an `Err` the row has any fields.
+#[inline(always)]
 fn add_field(landed: &mut RowBuf, field: &[u8]) -> Result<(), AllocError>
     requires { row_length landed.old + (4 + length field.now) < 2 ^ 31 }
     ensures ok { OnOk result (landed.new ≡ landed.old ++ field.now ∷ []) }
