@@ -21,7 +21,7 @@ use Rattle.task_memory.proofs.Holding.{not_there_before}
 use Rattle.task_memory.proofs.Sameness.{same_at_self, same_at_trans}
 use Rattle.job_plan.specs.declared.query_plan.Plan.{Plan}
 use Rattle.task_runner.specs.Parts.{HoldsRows, IsMade, LeavesOnlyAnswer, entries_in}
-use Rattle.task_runner.specs.Workers.{AreMade, HasAnswer, LeavesOnlyAnswers, TellParts, answer_at, part_at}
+use Rattle.task_runner.specs.Workers.{AreMade, HasAnswer, LeavesOnlyAnswers, AnswerParts, answer_at, part_at}
 
 -- a run whose file is as it was
 pub stands_at : (before after : Option Files) (run : Run) (rows : List (List (List ℕ))) → KeepsFile before after run.file → Stands before run rows → Stands after run rows
@@ -141,7 +141,7 @@ only_more start now after answers answer kept first last file none =
 
 -- ---- what they tell
 
-pub tell_none : (files : Option Files) (kind : Kind) (plan : Plan) (workers worker : ℕ) (rows : ℕ → List (List (List ℕ))) → TellParts files kind plan workers worker rows []
+pub tell_none : (files : Option Files) (kind : Kind) (plan : Plan) (workers worker : ℕ) (rows : ℕ → List (List (List ℕ))) → AnswerParts files kind plan workers worker rows []
 tell_none files kind plan workers worker rows = record {
   each = λ k below. absurd (omega arith);
   apart = λ j k one other first then same. absurd (none_some one (sym (get_or_past [] j None (omega arith)) ∙ first));
@@ -161,8 +161,8 @@ stands_apart files kind (Some run) (Some new) entries has made one other first t
     not_fresh files kind run (total kind entries) new.file has made.fresh (ap (λ (r : Run). r.file) old ∙ same ∙ sym (ap (λ (r : Run). r.file) young))
 
 pub tell_more : (now after : Option Files) (kind : Kind) (plan : Plan) (workers worker : ℕ) (rows : ℕ → List (List (List ℕ))) (answers : List (Option Run)) (answer : Option Run)
-    → KeepsFiles now after → TellParts now kind plan workers worker rows answers → IfSome answer (IsMade now)
-    → HasAnswer after kind answer (entries_in plan 0 (rows (part_at workers worker (length answers)))) → TellParts after kind plan workers worker rows (answers ++ answer ∷ [])
+    → KeepsFiles now after → AnswerParts now kind plan workers worker rows answers → IfSome answer (IsMade now)
+    → HasAnswer after kind answer (entries_in plan 0 (rows (part_at workers worker (length answers)))) → AnswerParts after kind plan workers worker rows (answers ++ answer ∷ [])
 tell_more now after kind plan workers worker rows answers answer kept tells made last =
     let entries_at = λ (k : ℕ). entries_in plan 0 (rows (part_at workers worker k)) in
     let count = length-append answers (answer ∷ []) in

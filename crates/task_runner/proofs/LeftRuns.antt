@@ -25,7 +25,7 @@ use Rattle.run_merge.specs.Merged.{IsFresh, LeavesOnly, answered}
 use Rattle.run_file.proofs.Among.{among_or_not}
 use Rattle.run_file.specs.Several.{AreApart, HasEntries, HaveEntries, concatenated}
 use Rattle.task_runner.specs.Answers.{MergesTotal}
-use Rattle.task_runner.specs.Parts.{IsMade, TellsTotal}
+use Rattle.task_runner.specs.Parts.{IsMade, AnswersTotal}
 use Rattle.task_runner.specs.Spilling.{HaveTotal}
 use Rattle.task_runner.specs.Workers.{IfSound}
 use Rattle.task_runner.specs.declared.work_fault.WorkFault.{WorkFault}
@@ -81,7 +81,7 @@ none_of kind (entry ∷ entries) same =
     absurd (total_not_none (Some kind) [] ends.front ends.last (same ∙ ap (total kind) ends.are) refl)
 
 tells_by : (files : Option Files) (kind : Kind) (entries drained : List Entry) (lists : List (List Entry)) → concatenated lists ≡ drained → total kind drained ≡ total kind entries
-    → (result : Result (Option Run) WorkFault) → MergesTotal (λ _. files) kind lists result → TellsTotal files kind entries result
+    → (result : Result (Option Run) WorkFault) → MergesTotal (λ _. files) kind lists result → AnswersTotal files kind entries result
 tells_by files kind entries drained lists are comes (Ok None) tells =
     none_of kind entries (ap (λ (each : List (List Entry)). total kind (concatenated each)) (sym tells) ∙ ap (total kind) are ∙ comes)
 tells_by files kind entries drained lists are comes (Ok (Some run)) tells = subst (λ (es : List Entry). HasEntries files kind run es) (ap (total kind) are ∙ comes) tells
@@ -98,7 +98,7 @@ telling_now (Some before) (Some old) telling kept = refl
 -- where a merge of the runs tells their total, its answer tells that of what the consumer was fed
 pub tells_left : (old new : Option Files) (kind : Kind) (entries : List Entry) (runs : List Run) (result : Result (Option Run) WorkFault)
     → ((lists : List (List Entry)) → IsSome old → HaveEntries (λ _. old) kind runs lists → AreApart (λ _. 0) runs → MergesTotal (λ _. new) kind lists result)
-    → IsSome old → HaveTotal old kind entries runs → TellsTotal new kind entries result
+    → IsSome old → HaveTotal old kind entries runs → AnswersTotal new kind entries result
 tells_left old new kind entries runs result merges telling whole =
     let lists = lists_of_runs old kind runs whole.drained whole.have in
     tells_by new kind entries whole.drained lists.lists lists.are whole.comes result
@@ -212,7 +212,7 @@ answer_apart old runs answer run file is fresh other there same =
     there (gone_there old file (fresh 0 file among other))
 
 -- where a merge finds no damage, none is told
-pub sound_left : {T : Type 0} (files : Option Files) (kind : Kind) (entries : List Entry) (says : T → Type 0) (fault : WorkFault) → TellsTotal files kind entries (Err fault) → IfSound says (Err fault)
+pub sound_left : {T : Type 0} (files : Option Files) (kind : Kind) (entries : List Entry) (says : T → Type 0) (fault : WorkFault) → AnswersTotal files kind entries (Err fault) → IfSound says (Err fault)
 sound_left files kind entries says (NoRoom asked held floor) tells = tt
 sound_left files kind entries says (DiskFault post) tells = tt
 sound_left files kind entries says (Damaged damage) tells = tells

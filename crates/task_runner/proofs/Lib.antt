@@ -1,4 +1,7 @@
 mod Readers
+mod Able
+mod FirstAnswers
+mod AllAtOnce
 mod Answered
 mod Told
 mod OneTask
@@ -11,7 +14,6 @@ mod OfPartitions
 mod InOrder
 mod Gathers
 mod Idle
-mod AtPosts
 mod Reaching
 mod OtherFaults
 mod WholePass

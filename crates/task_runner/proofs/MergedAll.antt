@@ -1,6 +1,6 @@
 -- Runs of a task's queries that are merged one after the other, and its answers once all are.
-use Rattle.std.proofs.Common.{◌≡◌, ◌∙◌, ℕ, ◌<◌, List, [], ◌∷◌, ◌++◌, Option, refl, sym, ap, subst, arith, inl, inr, length, set}
-use Rattle.std.specs.Prelude.{All, IfSome, IsSome, Result, Ok, Err, is_some}
+use Rattle.std.proofs.Common.{◌≡◌, ◌∙◌, ℕ, ◌<◌, List, [], ◌∷◌, ◌++◌, Option, sym, ap, subst, arith, inl, inr, length, set}
+use Rattle.std.specs.Prelude.{All, IfSome, IsSome, Ok, Err, is_some}
 use Rattle.std.proofs.lemmas.List.{get_or_past, get_or-set_other, get_or-set_same, length-set}
 use Rattle.aggregate.specs.Totals.{Entry}
 use Rattle.aggregate.specs.declared.kind.Kind.{Kind}
@@ -12,7 +12,7 @@ use Rattle.job_plan.specs.declared.query_plan.Plan.{Plan}
 use Rattle.task_memory.specs.Disks.{KeepsFiles}
 use Rattle.task_memory.specs.RunLists.{AreBounded, IsBounded, runs_at}
 use Rattle.task_memory.proofs.Places.{at_or_not, less_or_not}
-use Rattle.task_runner.specs.Parts.{TellsTotal}
+use Rattle.task_runner.specs.Parts.{AnswersTotal}
 use Rattle.task_runner.specs.Queries.{HaveAnswers, kind_in}
 use Rattle.task_runner.specs.Spilling.{HaveTotal}
 use Rattle.task_runner.specs.Workers.{IfSound, LeavesOnlyAnswers}
@@ -24,7 +24,7 @@ use Rattle.task_runner.proofs.MergedRuns.{AreMerged, MergesNext, merged_more}
 pub merged_next : (before old new : Option Files) (plan : Plan) (queries : List ℕ) (entries : ℕ → List Entry) (answers : List (Option Run)) (answer : Option Run) (lists lists' : List (List Run)) (runs : List Run) (i : ℕ) (kind : Kind)
     → length answers ≡ i → i < length queries → runs ≡ runs_at lists i → lists' ≡ set lists i [] → kind ≡ kind_in plan queries i → IfSome answer IsBounded
     → LeavesOnly (λ _. 0) (λ _. old) (λ _. new) runs (answered answer) → IsFresh (λ _. 0) (λ _. old) runs (answered answer) → KeepsOthers (λ _. 0) (λ _. old) (λ _. new) runs → is_some new ≡ is_some old
-    → ((es : List Entry) → IsSome old → HaveTotal old kind es runs → TellsTotal new kind es (Ok answer)) → AreMerged before old plan queries entries answers lists → AreMerged before new plan queries entries (answers ++ answer ∷ []) lists'
+    → ((es : List Entry) → IsSome old → HaveTotal old kind es runs → AnswersTotal new kind es (Ok answer)) → AreMerged before old plan queries entries answers lists → AreMerged before new plan queries entries (answers ++ answer ∷ []) lists'
 merged_next before old new plan queries entries answers answer lists lists' runs i kind at below taken left is bounded leaves fresh others tells total so_far =
     subst (λ (rest : List (List Run)). AreMerged before new plan queries entries (answers ++ answer ∷ []) rest) (sym (left ∙ ap (λ (n : ℕ). set lists n []) (sym at)))
     (merged_more before old new plan queries entries answers answer lists (omega (arith, at, below))
@@ -35,13 +35,13 @@ merged_next before old new plan queries entries answers answer lists lists' runs
       fresh = fresh;
       others = others;
       tells = tells;
-      total = λ es telling whole. subst (λ (k : Kind). TellsTotal new k es (Ok answer)) is (total es telling (subst (λ (k : Kind). HaveTotal old k es runs) (sym is) whole));
+      total = λ es telling whole. subst (λ (k : Kind). AnswersTotal new k es (Ok answer)) is (total es telling (subst (λ (k : Kind). HaveTotal old k es runs) (sym is) whole));
     }))) so_far)
 
 -- a merge that gave up found no damage
 pub sound_next : {T : Type 0} (before old new : Option Files) (plan : Plan) (queries : List ℕ) (entries : ℕ → List Entry) (answers : List (Option Run)) (lists : List (List Run)) (runs : List Run) (i : ℕ) (kind : Kind) (says : T → Type 0) (fault : WorkFault)
     → length answers ≡ i → i < length queries → runs ≡ runs_at lists i → kind ≡ kind_in plan queries i → IsSome before
-    → ((es : List Entry) → IsSome old → HaveTotal old kind es runs → TellsTotal new kind es (Err fault)) → AreMerged before old plan queries entries answers lists → IfSound says (Err fault)
+    → ((es : List Entry) → IsSome old → HaveTotal old kind es runs → AnswersTotal new kind es (Err fault)) → AreMerged before old plan queries entries answers lists → IfSound says (Err fault)
 sound_next before old new plan queries entries answers lists runs i kind says fault at below taken is telling total so_far =
     let whole : HaveTotal old (kind_in plan queries i) (entries i) (runs_at lists i) = (so_far.totals telling).left i (omega (arith, at)) below in
     sound_left new kind (entries i) says fault (total (entries i) (telling_now before old telling so_far.stay)

@@ -1,6 +1,6 @@
 -- The answers of a task's queries, as the runs of one after the other are merged.
-use Rattle.std.proofs.Common.{◌≡◌, ◌≢◌, ◌∙◌, ℕ, zero, suc, ◌+◌, ◌<◌, ◌≤◌, List, [], ◌∷◌, ◌++◌, Option, Some, None, refl, sym, ap, subst, arith, inl, inr, length, set}
-use Rattle.std.specs.Prelude.{All, IfSome, IsSome, Result, Ok, Err, is_some}
+use Rattle.std.proofs.Common.{◌≡◌, ◌≢◌, ◌∙◌, ℕ, suc, ◌+◌, ◌<◌, ◌≤◌, List, [], ◌∷◌, ◌++◌, Option, Some, None, refl, sym, ap, subst, arith, inl, inr, length, set}
+use Rattle.std.specs.Prelude.{All, IfSome, IsSome, Ok, is_some}
 use Rattle.std.proofs.lemmas.List.{get_or_append_left, get_or_past, get_or-set_other, get_or-set_same, length-append, length-set}
 use Rattle.std.proofs.Math.Seq.{get_or-append_seam}
 use Rattle.aggregate.specs.Totals.{Entry, total}
@@ -17,7 +17,7 @@ use Rattle.task_memory.specs.RunLists.{AreBounded, HaveEntries, IsBounded, run_a
 use Rattle.task_memory.specs.Writing.{WasNotThere}
 use Rattle.task_memory.proofs.Places.{at_or_not, less_or_not}
 use Rattle.task_memory.proofs.Sameness.{files_self}
-use Rattle.task_runner.specs.Parts.{TellsTotal}
+use Rattle.task_runner.specs.Parts.{AnswersTotal}
 use Rattle.task_runner.specs.Queries.{kind_in}
 use Rattle.task_runner.specs.Spilling.{AllNew, AreListsApart, HaveTotal, IsNoneIn, LeavesRuns}
 use Rattle.task_runner.specs.Workers.{AnswersApart, AreMade, HasAnswer, answer_at}
@@ -103,7 +103,7 @@ pub record MergesNext (old new : Option Files) (plan : Plan) (queries : List ℕ
   pub fresh : IsFresh (λ _. 0) (λ _. old) runs (answered answer)
   pub others : KeepsOthers (λ _. 0) (λ _. old) (λ _. new) runs
   pub tells : is_some new ≡ is_some old
-  pub total : (entries : List Entry) → IsSome old → HaveTotal old (kind_in plan queries i) entries runs → TellsTotal new (kind_in plan queries i) entries (Ok answer)
+  pub total : (entries : List Entry) → IsSome old → HaveTotal old (kind_in plan queries i) entries runs → AnswersTotal new (kind_in plan queries i) entries (Ok answer)
 
 module _ (before old new : Option Files) (plan : Plan) (queries : List ℕ) (entries : ℕ → List Entry) (answers : List (Option Run)) (answer : Option Run) (lists : List (List Run)) (next : length answers < length queries)
     (merges : MergesNext old new plan queries (length answers) (runs_at lists (length answers)) answer) (so_far : AreMerged before old plan queries entries answers lists) where
@@ -169,10 +169,10 @@ module _ (before old new : Option Files) (plan : Plan) (queries : List ℕ) (ent
     own : HaveTotal old (kind_in plan queries (length answers)) (entries (length answers)) runs
     own = was.left (length answers) (omega arith) next
 
-    told : TellsTotal new (kind_in plan queries (length answers)) (entries (length answers)) (Ok answer)
+    told : AnswersTotal new (kind_in plan queries (length answers)) (entries (length answers)) (Ok answer)
     told = merges.total (entries (length answers)) now own
 
-    has_answer : (kind : Kind) (es : List Entry) (given : Option Run) → TellsTotal new kind es (Ok given) → HasAnswer new kind given es
+    has_answer : (kind : Kind) (es : List Entry) (given : Option Run) → AnswersTotal new kind es (Ok given) → HasAnswer new kind given es
     has_answer kind es None tells = tells
     has_answer kind es (Some run) tells = tells
 

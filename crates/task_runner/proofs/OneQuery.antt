@@ -1,5 +1,5 @@
 -- A task of the plan's one query.
-use Rattle.std.proofs.Common.{◌≡◌, ◌≢◌, ◌∙◌, ℕ, zero, suc, ◌<◌, List, [], ◌∷◌, Option, Some, refl, sym, ap, subst, length, get_or, arith}
+use Rattle.std.proofs.Common.{◌≡◌, ◌≢◌, ◌∙◌, ℕ, zero, suc, ◌<◌, List, [], ◌∷◌, Option, Some, sym, ap, length, get_or, arith}
 use Rattle.std.proofs.lemmas.List.{get_or_past}
 use Rattle.std.specs.Prelude.{IfSome, None}
 use Rattle.consumer_trait.specs.States.{State}
@@ -7,7 +7,6 @@ use Rattle.run_file.specs.declared.run.Run.{Run}
 use Rattle.spill_disk.specs.Files.{Files}
 use Rattle.job_plan.specs.Plans.{kept_in, kind_at}
 use Rattle.job_plan.specs.declared.query_plan.Plan.{Plan}
-use Rattle.task_memory.specs.Disks.{SameAt}
 use Rattle.task_runner.specs.Consumers.{FeedsOne, place_for}
 use Rattle.task_runner.specs.Parts.{IsMade, LeavesOnlyAnswer, entries_in}
 use Rattle.task_runner.specs.Queries.{AreQueries, FeedsAll, HaveAnswers, made_in, place_at}

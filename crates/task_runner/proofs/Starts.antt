@@ -1,5 +1,5 @@
 -- A task's consumers as they start.
-use Rattle.std.proofs.Common.{◌≡◌, ◌≢◌, ◌∙◌, ℕ, zero, suc, ◌+◌, ◌<◌, true, List, [], ◌∷◌, ◌++◌, Option, Some, None, refl, sym, ap, subst, arith, inl, inr, length, get_or, map, replicate}
+use Rattle.std.proofs.Common.{◌≡◌, ◌∙◌, ℕ, zero, suc, ◌+◌, ◌<◌, true, List, [], ◌++◌, Option, Some, None, refl, sym, ap, arith, inl, inr, length, get_or, map, replicate}
 use Rattle.std.specs.Prelude.{slice_index}
 use Rattle.std.specs.List.{range_with_len}
 use Rattle.std.proofs.lemmas.List.{get_or_past, length-replicate}
@@ -21,7 +21,7 @@ use Rattle.task_memory.specs.Starting.{kind_at as kind_among}
 use Rattle.job_plan.specs.declared.query_plan.Plan.{Plan}
 use Rattle.task_runner.specs.Consumers.{HasConsumers, KeepsConsumers, place_of}
 use Rattle.task_runner.specs.Queries.{AreQueries, FeedsAll, IsOther, kind_in, place_at}
-use Rattle.task_runner.specs.Spilling.{AreFed, AreServed}
+use Rattle.task_runner.specs.Spilling.{AreFed}
 use Rattle.task_runner.proofs.Feeds.{everywhere, keeps_self, places_apart}
 
 none_at : {A : Type 0} (nothing : A) (n i : ℕ) → get_or (replicate n nothing) i nothing ≡ nothing

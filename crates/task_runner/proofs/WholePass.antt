@@ -20,8 +20,8 @@ use Rattle.task_runner.specs.AllWorkers.{Finished, HoldsOwn, Reached, answers_of
 use Rattle.task_runner.specs.Consumers.{KeepsConsumers, place_for, FeedsOne}
 use Rattle.task_runner.specs.Gathered.{answer_for, gathered}
 use Rattle.task_runner.specs.Parts.{HoldsRows, IsMade, entries_in}
-use Rattle.task_runner.specs.Pass.{FeedsParts, LeavesOnlyRuns, TellAllParts}
-use Rattle.task_runner.specs.Workers.{HasAnswer, IsCount, TellParts, answer_at, part_at, rows_to}
+use Rattle.task_runner.specs.Pass.{FeedsParts, LeavesOnlyRuns, AnswerAllParts}
+use Rattle.task_runner.specs.Workers.{HasAnswer, IsCount, AnswerParts, answer_at, part_at, rows_to}
 use Rattle.task_runner.specs.declared.post.Post.{Post}
 use Rattle.task_runner.proofs.Gathers.{gathered_among, gathered_apart, gathered_have, gathered_new, gathered_small}
 use Rattle.task_runner.proofs.Idle.{keeps_consumers}
@@ -43,11 +43,11 @@ counts_of state files workers size plan parts lock olds news posts posts' all an
 pub tells_of : {D C : Type 0} (state : C → State) (files : D → Option Files) (workers : ℕ) (plan : Plan) (parts : List Run) (lock : LockId) (olds news : List PassState) (posts posts' : List (Post D C)) (all : List (List (Option Run))) (any : PassState) (rows : ℕ → List (List (List ℕ)))
     → AreWorkers lock workers olds → Finished state files workers workers plan parts olds news posts posts' all
     → ((part : ℕ) → part < length parts → HoldsRows (files_of files (slice_get posts (part % workers))) (form_in plan) (run_at parts part) (rows part))
-    → (w : ℕ) → w < workers → TellParts (files_of files (slice_get posts' w)) (kind_at plan 0) plan workers w rows (answers_of all w)
+    → (w : ℕ) → w < workers → AnswerParts (files_of files (slice_get posts' w)) (kind_at plan 0) plan workers w rows (answers_of all w)
 tells_of state files workers plan parts lock olds news posts posts' all any rows are done holds w below =
     let number = (are.1 w any below).number_is in
     let own = holds_of files plan parts workers w rows posts below holds in
-    subst (λ (n : ℕ). TellParts (files_of files (slice_get posts' w)) (kind_at plan 0) plan workers n rows (answers_of all w)) number
+    subst (λ (n : ℕ). AnswerParts (files_of files (slice_get posts' w)) (kind_at plan 0) plan workers n rows (answers_of all w)) number
     ((done.each w any below).tells rows (subst (λ (n : ℕ). HoldsOwn (files_of files (slice_get posts w)) plan parts workers n rows) (sym number) own))
 
 -- the runs tell what the rows of all partitions come to
@@ -55,7 +55,7 @@ pub tell_all : {D C : Type 0} (state : C → State) (files : D → Option Files)
     → 1 ≤ workers → size ≡ workers → AreWorkers lock workers olds → Finished state files workers workers plan parts olds news posts posts' all
     → ((part : ℕ) → part < length parts → HoldsRows (files_of files (slice_get posts (part % workers))) (form_in plan) (run_at parts part) (rows part))
     → runs ≡ gathered all size (length parts)
-    → TellAllParts (λ place. files_of files (slice_get posts' place)) (kind_at plan 0) plan (length parts) rows runs
+    → AnswerAllParts (λ place. files_of files (slice_get posts' place)) (kind_at plan 0) plan (length parts) rows runs
 tell_all state files workers size plan parts lock olds news posts posts' all any rows runs some same are done holds is =
     let kind = kind_at plan 0 in
     let after : ℕ → Option Files = λ place. files_of files (slice_get posts' place) in
@@ -67,7 +67,7 @@ tell_all state files workers size plan parts lock olds news posts posts' all any
     let within = task_within workers part (length parts) (length (answers_of all (part % workers))) below (counts (part % workers) known) in
     subst (λ (p : ℕ). HasAnswer (after (part % workers)) kind (answer_for all workers part) (entries_in plan 0 (rows p))) (part_is workers part) ((tells (part % workers) known).each (part / workers) within)) in
     let apart = gathered_apart all workers (length parts) some (λ w below. (tells w below).apart) in
-    subst (λ (rs : List Run). TellAllParts after kind plan (length parts) rows rs) (sym (is ∙ ap (λ (n : ℕ). gathered all n (length parts)) same))
+    subst (λ (rs : List Run). AnswerAllParts after kind plan (length parts) rows rs) (sym (is ∙ ap (λ (n : ℕ). gathered all n (length parts)) same))
     (record { lists = have.lists; have = have.have; apart = apart; same = have.same })
 
 made_small : (before : Option Files) (answer : Option Run) → IfSome answer (IsMade before) → IfSome answer (λ run. run.greatest ≤ 196752)

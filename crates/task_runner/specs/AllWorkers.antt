@@ -13,7 +13,7 @@ use Rattle.job_plan.specs.Plans.{form_in, kind_at}
 use Rattle.job_plan.specs.declared.query_plan.Plan.{Plan}
 use Rattle.task_runner.specs.Consumers.{FeedsOne, KeepsConsumers, place_for}
 use Rattle.task_runner.specs.Parts.{HoldsRows}
-use Rattle.task_runner.specs.Workers.{AreMade, DoesSome, DoesTasks, IsCount, LeavesOnlyAnswers, TellParts, part_at, rows_to}
+use Rattle.task_runner.specs.Workers.{AreMade, DoesSome, DoesTasks, IsCount, LeavesOnlyAnswers, AnswerParts, part_at, rows_to}
 use Rattle.task_runner.specs.declared.post.Post.{Post}
 use Rattle.task_runner.specs.declared.work_fault.WorkFault.{WorkFault}
 use Rattle.task_runner.specs.declared.work_fault.WorkFault.TheVariants.{NoRoom, DiskFault, Damaged, NoMemory}
@@ -64,7 +64,7 @@ pub record Finishes {D C : Type 0} (state : C → State) (files : D → Option F
   pub made : AreMade (files_of files post) answers
   pub only : LeavesOnlyAnswers (files_of files post) (files_of files post') answers
   pub tells : (rows : ℕ → List (List (List ℕ))) → HoldsOwn (files_of files post) plan parts workers before.number rows
-      → TellParts (files_of files post') (kind_at plan 0) plan workers before.number rows answers
+      → AnswerParts (files_of files post') (kind_at plan 0) plan workers before.number rows answers
 
 -- ---- all workers
 

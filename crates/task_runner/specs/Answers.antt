@@ -64,11 +64,11 @@ NamesSomePost count (Err NoMemory) = ⊤
 
 -- damage is told of one of these runs, or of one that was made of them on the disk `to`, whose file is one of theirs or wasn't
 -- there before
-abbrev pub TellsAmong : {T : Type 0} → (ℕ → ℕ) → (ℕ → Option Files) → List Run → ℕ → Result T WorkFault → Type 0
-TellsAmong named before runs to (Ok x) = ⊤
-TellsAmong named before runs to (Err (NoRoom asked held floor)) = ⊤
-TellsAmong named before runs to (Err (DiskFault post)) = ⊤
-TellsAmong named before runs to (Err (Damaged damage)) =
+abbrev pub NamesRunOf : {T : Type 0} → (ℕ → ℕ) → (ℕ → Option Files) → List Run → ℕ → Result T WorkFault → Type 0
+NamesRunOf named before runs to (Ok x) = ⊤
+NamesRunOf named before runs to (Err (NoRoom asked held floor)) = ⊤
+NamesRunOf named before runs to (Err (DiskFault post)) = ⊤
+NamesRunOf named before runs to (Err (Damaged damage)) =
     (is_run_in runs damage.disk damage.file damage.kept ≡ false → damage.disk ≡ to)
     × ((IsFileAmong named runs damage.disk damage.file → ⊥) → IsGone (before damage.disk) damage.file) × (damage.found < damage.kept)
-TellsAmong named before runs to (Err NoMemory) = ⊤
+NamesRunOf named before runs to (Err NoMemory) = ⊤

@@ -1,5 +1,6 @@
 pub mod Works
 pub mod Answers
+pub mod AtOnce
 pub mod Merging
 pub mod Consumers
 pub mod Parts

@@ -1,6 +1,6 @@
 -- What a merge of runs asks of the pool, and what a refusal then says.
 -- This project's own.
-use Rattle.std.specs.Prelude.{◌≡◌, ℕ, ◌+◌, ◌*◌, min, List, Option, Result, Ok, Err, length, ⊤}
+use Rattle.std.specs.Prelude.{◌≡◌, ℕ, ◌+◌, ◌*◌, min, List, Result, Ok, Err, length, ⊤}
 use Rattle.run_file.specs.declared.run.Run.{Run}
 use Rattle.run_file.specs.Several.{greatest_of}
 use Rattle.task_pool.specs.Accounts.{Held}

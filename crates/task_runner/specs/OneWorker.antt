@@ -13,7 +13,7 @@ use Rattle.job_plan.specs.Plans.{form_in, kind_at}
 use Rattle.job_plan.specs.declared.query_plan.Plan.{Plan}
 use Rattle.task_runner.specs.Consumers.{FeedsOne, KeepsConsumers, place_for}
 use Rattle.task_runner.specs.Parts.{HoldsRows, IsMade, LeavesOnlyAnswer, entries_in}
-use Rattle.task_runner.specs.Workers.{AreMade, DoesTasks, HasAnswer, LeavesOnlyAnswers, TellParts, part_at, rows_to}
+use Rattle.task_runner.specs.Workers.{AreMade, DoesTasks, HasAnswer, LeavesOnlyAnswers, AnswerParts, part_at, rows_to}
 use Rattle.task_runner.specs.Works.{Works}
 
 -- a worker, the consumers of its post, and the files and the count of faults of its post's disk
@@ -61,7 +61,7 @@ pub record DoesFirst (plan : Plan) (parts : List Run) (workers : ℕ) (start now
   pub stays : Stays start now
   pub within : (k : ℕ) → k < length answers → part_at workers start.worker.number k < length parts
   pub tells : (rows : ℕ → List (List (List ℕ))) → HoldParts start.files (form_in plan) parts workers start.worker.number rows
-      → TellParts now.files (kind_at plan 0) plan workers start.worker.number rows answers
+      → AnswerParts now.files (kind_at plan 0) plan workers start.worker.number rows answers
   pub made : AreMade start.files answers
   pub only : LeavesOnlyAnswers start.files now.files answers
   pub fed : FeedsOne start.states now.states (place_for (kind_at plan 0)) (rows_to parts workers start.worker.number (length answers))

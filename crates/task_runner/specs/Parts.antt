@@ -28,13 +28,13 @@ abbrev pub entries_in : Plan → ℕ → List (List (List ℕ)) → List Entry
 entries_in plan query rows = map (entry_of (kept_at plan query)) rows
 
 -- the answer is a run of what these entries come to, or none where there are none; and no damage is found
-abbrev pub TellsTotal : Option Files → Kind → List Entry → Result (Option Run) WorkFault → Type 0
-TellsTotal files kind entries (Ok None) = entries ≡ []
-TellsTotal files kind entries (Ok (Some run)) = HasEntries files kind run (total kind entries)
-TellsTotal files kind entries (Err (NoRoom asked held floor)) = ⊤
-TellsTotal files kind entries (Err (DiskFault post)) = ⊤
-TellsTotal files kind entries (Err (Damaged damage)) = ⊥
-TellsTotal files kind entries (Err NoMemory) = ⊤
+abbrev pub AnswersTotal : Option Files → Kind → List Entry → Result (Option Run) WorkFault → Type 0
+AnswersTotal files kind entries (Ok None) = entries ≡ []
+AnswersTotal files kind entries (Ok (Some run)) = HasEntries files kind run (total kind entries)
+AnswersTotal files kind entries (Err (NoRoom asked held floor)) = ⊤
+AnswersTotal files kind entries (Err (DiskFault post)) = ⊤
+AnswersTotal files kind entries (Err (Damaged damage)) = ⊥
+AnswersTotal files kind entries (Err NoMemory) = ⊤
 
 -- no file was made or changed but the answer's
 abbrev pub LeavesOnlyAnswer : Option Files → Option Files → Option Run → Type 0

@@ -29,7 +29,7 @@ pub record FeedsParts (states states' : List State) (place : ℕ) (parts : List 
   pub feeds : FeedsOne states states' place (rows_to parts workers worker count)
 
 -- the runs have what the rows of the partitions come to, each partition by itself, in order; no two are one file of one disk
-pub record TellAllParts (files : ℕ → Option Files) (kind : Kind) (plan : Plan) (partitions : ℕ) (rows : ℕ → List (List (List ℕ))) (runs : List Run) : Type 0 where
+pub record AnswerAllParts (files : ℕ → Option Files) (kind : Kind) (plan : Plan) (partitions : ℕ) (rows : ℕ → List (List (List ℕ))) (runs : List Run) : Type 0 where
   pub lists : List (List Entry)
   pub have : HaveEntries files kind runs lists
   pub apart : AreApart (λ disk. disk) runs

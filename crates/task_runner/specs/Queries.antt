@@ -49,5 +49,5 @@ pub record HaveAnswers (files : Option Files) (plan : Plan) (queries : List ℕ)
   pub apart : AnswersApart answers
 
 -- the same of what is answered; and no damage is found
-abbrev pub TellTotals : Option Files → Plan → List ℕ → (ℕ → List Entry) → Result (Vec (Option Run)) WorkFault → Type 0
-TellTotals files plan queries entries result = IfSound (λ answers. HaveAnswers files plan queries entries answers.items) result
+abbrev pub AnswerTotals : Option Files → Plan → List ℕ → (ℕ → List Entry) → Result (Vec (Option Run)) WorkFault → Type 0
+AnswerTotals files plan queries entries result = IfSound (λ answers. HaveAnswers files plan queries entries answers.items) result

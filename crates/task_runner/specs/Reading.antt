@@ -17,16 +17,16 @@ GivesRows rows (Err (Damaged damage)) = ⊥
 GivesRows rows (Err NoMemory) = ⊤
 
 -- damage is told of this run, on this disk, of which fewer rows were found than it has
-abbrev pub TellsRunOn : {T : Type 0} → ℕ → Run → Result T WorkFault → Type 0
-TellsRunOn disk run (Ok x) = ⊤
-TellsRunOn disk run (Err (NoRoom asked held floor)) = ⊤
-TellsRunOn disk run (Err (DiskFault post)) = ⊤
-TellsRunOn disk run (Err (Damaged damage)) = (damage.disk ≡ disk) × (damage.file ≡ run.file) × (damage.kept ≡ run.count) × (damage.found < damage.kept)
-TellsRunOn disk run (Err NoMemory) = ⊤
+abbrev pub NamesRunOn : {T : Type 0} → ℕ → Run → Result T WorkFault → Type 0
+NamesRunOn disk run (Ok x) = ⊤
+NamesRunOn disk run (Err (NoRoom asked held floor)) = ⊤
+NamesRunOn disk run (Err (DiskFault post)) = ⊤
+NamesRunOn disk run (Err (Damaged damage)) = (damage.disk ≡ disk) × (damage.file ≡ run.file) × (damage.kept ≡ run.count) × (damage.found < damage.kept)
+NamesRunOn disk run (Err NoMemory) = ⊤
 
 -- damage is told of this run, on the one disk that there is
-abbrev pub TellsRun : {T : Type 0} → Run → Result T WorkFault → Type 0
-TellsRun run result = TellsRunOn 0 run result
+abbrev pub NamesRun : {T : Type 0} → Run → Result T WorkFault → Type 0
+NamesRun run result = NamesRunOn 0 run result
 
 -- whether it is a form of landed rows
 abbrev pub is_landed : Form → Bool

@@ -81,7 +81,7 @@ LeavesOnlyAnswers before after answers =
     (file : ℕ) → ((k : ℕ) (run : Run) → answer_at answers k ≡ Some run → run.file ≢ file) → SameAt before after file
 
 -- a worker's answers tell what the rows of its partitions come to, in files of their own; and no damage is found
-pub record TellParts (files : Option Files) (kind : Kind) (plan : Plan) (workers worker : ℕ) (rows : ℕ → List (List (List ℕ))) (answers : List (Option Run)) : Type 0 where
+pub record AnswerParts (files : Option Files) (kind : Kind) (plan : Plan) (workers worker : ℕ) (rows : ℕ → List (List (List ℕ))) (answers : List (Option Run)) : Type 0 where
   pub each : (k : ℕ) → k < length answers → HasAnswer files kind (answer_at answers k) (entries_in plan 0 (rows (part_at workers worker k)))
   pub apart : AnswersApart answers
 

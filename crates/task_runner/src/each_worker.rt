@@ -1,4 +1,4 @@
-//! The workers of a pass, one after another.
+//! The workers of a pass, and what they come to.
 
 ghost use Rattle.std.specs.Prelude.{◌≡◌, ◌≤◌, ◌<◌, ◌+◌, ◌*◌, ◌%◌, ◌^◌, All, List, ℕ, Some, false, IfOk, ⊤, length, map, slice_index_or};
 ghost use Rattle.pool_ledger.specs.History.{was_begun};
@@ -17,8 +17,9 @@ ghost use Rattle.task_runner.specs.Parts.{HoldsRows};
 ghost use Rattle.task_runner.specs.Workers.{IfSound};
 ghost use Rattle.task_runner.specs.Works.{IfNoRoom, ShowsNoRoom};
 
+use crate::answers::{all_of, no_answers};
+use crate::at_once::run_at_once;
 use crate::executor::Executor;
-use crate::one_worker::run_one;
 use crate::post::Post;
 use crate::work_fault::WorkFault;
 use consumer_trait::Consumer;
@@ -27,9 +28,17 @@ use memory_lock::{Basis, Worker};
 use run_file::Run;
 use spill_disk::Disk;
 use std::sync::Wait;
+use std::thread::Threads;
 
-/// Does the tasks of all workers, up to the first that fails. Answers what each worker answers, in the order of their numbers.
-pub(crate) fn run_each<K: Disk, D: Disk, C: Consumer, B: Basis, R: Wait>(
+/// Does the tasks of all workers at the same time. Answers what each worker answers, in the order of their numbers, or the fault of
+/// the lowest worker that failed; the others have then done all their tasks, or failed too.
+pub(crate) fn run_each<
+    K: Disk + Send,
+    D: Disk + Send,
+    C: Consumer + Send,
+    B: Basis + Send + Sync,
+    R: Threads + Wait + Sync,
+>(
     executor: &Executor<'_, R, K, B>,
     workers: &mut Vec<Worker<B>>,
     plan: &Plan,
@@ -66,16 +75,10 @@ pub(crate) fn run_each<K: Disk, D: Disk, C: Consumer, B: Basis, R: Wait>(
     ensures cause { HasCauseAmong (faults_on (disk_at (λ post. post.disk)) D.faults posts.old)
         (faults_on (disk_at (λ post. post.disk)) D.faults posts.new) result }
 {
-    let mut all = Vec::new(executor.alloc);
-    for number in 0..workers.len() {
-        match run_one(executor, workers, plan, parts, posts, number) {
-            Ok(answers) => {
-                if all.push(answers).is_err() {
-                    return Err(WorkFault::NoMemory);
-                }
-            }
-            Err(fault) => return Err(fault),
-        }
-    }
-    Ok(all)
+    let count = workers.len();
+    let Ok(mut answers) = no_answers(executor.alloc, count) else {
+        return Err(WorkFault::NoMemory);
+    };
+    run_at_once(executor, count, workers, plan, parts, posts, &mut answers);
+    all_of(executor.alloc, answers)
 }

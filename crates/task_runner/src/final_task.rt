@@ -10,7 +10,7 @@ ghost use Rattle.run_file.specs.Shelved.{KeepsShelf};
 ghost use Rattle.run_file.specs.Several.{KeepsOthers};
 ghost use Rattle.run_merge.specs.Merged.{LeavesOnly, answered};
 ghost use Rattle.run_file.specs.Several.{AreApart, AreOn, HaveEntries};
-ghost use Rattle.task_runner.specs.Answers.{HasCauseAmong, MergesTotal, TellsAmong};
+ghost use Rattle.task_runner.specs.Answers.{HasCauseAmong, MergesTotal, NamesRunOf};
 ghost use Rattle.task_runner.specs.Merging.{reader_of, told_with};
 ghost use Rattle.task_runner.specs.Works.{IfNoRoom, MayWork, ShowsNoRoom, Works};
 
@@ -69,7 +69,7 @@ pub fn run_final<K: Disk, D: Disk, H: Shelf<D>, B: Basis, R: Wait>(
     ensures shelf { KeepsShelf H.count_of H.named H.disk_of D.files D.faults shelf.old shelf.new }
     ensures cause { HasCauseAmong (faults_on H.disk_of D.faults shelf.old)
         (faults_on H.disk_of D.faults shelf.new) result }
-    ensures damaged { TellsAmong (H.named shelf.old) (files_on H.disk_of D.files shelf.old) runs.items 0 result }
+    ensures damaged { NamesRunOf (H.named shelf.old) (files_on H.disk_of D.files shelf.old) runs.items 0 result }
 {
     let Ok(task) = executor.manager.begin(executor.rt, worker, number) else {
         return Err(WorkFault::NoMemory);

@@ -1,8 +1,10 @@
 //! The tasks of a job: what its final one merges, and the posts of its workers.
 #![tactic(auto)]
 
+mod answers;
 mod aside;
 mod asking;
+mod at_once;
 mod each_worker;
 mod executor;
 mod feeding;

@@ -11,8 +11,8 @@ ghost use Rattle.task_memory.specs.RunLists.{AreBounded, IsBounded, lists_of, ru
 ghost use Rattle.job_plan.specs.Plans.{form_in};
 ghost use Rattle.task_runner.specs.Answers.{HasCauseAmong};
 ghost use Rattle.task_runner.specs.Consumers.{HasConsumers, KeepsConsumers};
-ghost use Rattle.task_runner.specs.Parts.{TellsTotal};
-ghost use Rattle.task_runner.specs.Queries.{AreQueries, FeedsAll, TellTotals, made_in};
+ghost use Rattle.task_runner.specs.Parts.{AnswersTotal};
+ghost use Rattle.task_runner.specs.Queries.{AreQueries, FeedsAll, AnswerTotals, made_in};
 ghost use Rattle.task_runner.specs.Spilling.{AreShort, HaveTotal, LeavesRuns};
 ghost use Rattle.task_runner.specs.Workers.{AreMade, LeavesOnlyAnswers};
 ghost use Rattle.task_runner.specs.Works.{IfNoRoom, IsRefused};
@@ -46,7 +46,7 @@ pub(crate) fn make_runs<C: Consumer, P: Pool, D: Disk>(
     requires consumers { HasConsumers (map C.state post.old.consumers.items) }
     requires rows { AreShort (form_in plan.now) page.now.rows }
     ensures count { IfOk result (λ answers. length answers.items ≡ length queries.now) }
-    ensures answer { IsSome (D.files post.old.disk) → TellTotals (D.files post.new.disk) plan.now queries.now
+    ensures answer { IsSome (D.files post.old.disk) → AnswerTotals (D.files post.new.disk) plan.now queries.now
         (made_in plan.now queries.now page.now.rows) result }
     ensures made { IfOk result (λ answers. AreMade (D.files post.old.disk) answers.items) }
     ensures only { IfOk result (λ answers. LeavesOnlyAnswers (D.files post.old.disk) (D.files post.new.disk)
@@ -92,7 +92,7 @@ fn merge_lists<C: Consumer, P: Pool, D: Disk>(
     ensures count { IfOk result (λ answers. length answers.items ≡ length queries.now) }
     ensures answer { (before : Option Files) (entries : ℕ → List Entry) → IsSome before
         → LeavesRuns before (D.files post.old.disk) plan.now queries.now entries (lists_of lists.items)
-        → TellTotals (D.files post.new.disk) plan.now queries.now entries result }
+        → AnswerTotals (D.files post.new.disk) plan.now queries.now entries result }
     ensures made { (before : Option Files) (entries : ℕ → List Entry)
         → LeavesRuns before (D.files post.old.disk) plan.now queries.now entries (lists_of lists.items)
         → IfOk result (λ answers. AreMade before answers.items) }
@@ -147,7 +147,7 @@ fn merge_left<C: Consumer, P: Pool, D: Disk>(
     requires bounded { All IsBounded runs.items }
     ensures answer { (entries : List Entry) → IsSome (D.files post.old.disk)
         → HaveTotal (D.files post.old.disk) kind.now entries runs.items
-        → TellsTotal (D.files post.new.disk) kind.now entries result }
+        → AnswersTotal (D.files post.new.disk) kind.now entries result }
     ensures bounded { IfOk result (λ answer. IfSome answer IsBounded) }
     ensures only { IfOk result (λ answer. LeavesOnly (λ _. 0) (λ _. D.files post.old.disk)
         (λ _. D.files post.new.disk) runs.items (answered answer)) }

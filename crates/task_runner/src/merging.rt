@@ -9,7 +9,7 @@ ghost use Rattle.run_file.specs.Several.{KeepsOthers};
 ghost use Rattle.run_merge.specs.Merged.{IsFresh, LeavesOnly, answered};
 ghost use Rattle.run_file.specs.Several.{AreApart, AreOn, HaveEntries};
 ghost use Rattle.task_pool.specs.Pools.{Goes, IsAtWork};
-ghost use Rattle.task_runner.specs.Answers.{HasCauseAmong, MergesTotal, TellsAmong};
+ghost use Rattle.task_runner.specs.Answers.{HasCauseAmong, MergesTotal, NamesRunOf};
 ghost use Rattle.task_runner.specs.Merging.{IsShort, reader_of, wish_of};
 ghost use Rattle.task_runner.specs.Works.{FallsShort, IfNoRoom};
 
@@ -70,7 +70,7 @@ pub(crate) fn merge_runs<P: Pool, D: Disk, H: Shelf<D>>(
     ensures shelf { KeepsShelf H.count_of H.named H.disk_of D.files D.faults shelf.old shelf.new }
     ensures cause { HasCauseAmong (faults_on H.disk_of D.faults shelf.old)
         (faults_on H.disk_of D.faults shelf.new) result }
-    ensures damaged { TellsAmong (H.named shelf.old) (files_on H.disk_of D.files shelf.old) runs.items to result }
+    ensures damaged { NamesRunOf (H.named shelf.old) (files_on H.disk_of D.files shelf.old) runs.items to result }
 {
     // For the proof: no call is a way to go on, and so are two calls.
     pools_go_on();

@@ -6,7 +6,7 @@ ghost use Rattle.run_file.specs.Forms.{IsWellFormed};
 ghost use Rattle.job_plan.specs.Plans.{form_in};
 ghost use Rattle.task_runner.specs.Answers.{HasCauseAmong};
 ghost use Rattle.task_runner.specs.Parts.{HoldsRows};
-ghost use Rattle.task_runner.specs.Reading.{GivesRows, TellsRun, is_landed};
+ghost use Rattle.task_runner.specs.Reading.{GivesRows, NamesRun, is_landed};
 ghost use Rattle.task_runner.specs.Works.{IfNoRoom};
 
 use crate::work_fault::WorkFault;
@@ -28,7 +28,7 @@ pub(crate) fn read_landed<D: Disk>(
     ensures formed { IfOk result (λ page. AllByRecursion (IsWellFormed
         (form_in plan.now) landed.now.greatest) page.rows) }
     ensures count { IfOk result (λ page. length page.rows ≡ landed.now.count) }
-    ensures damaged { TellsRun landed.now result }
+    ensures damaged { NamesRun landed.now result }
     ensures landed { IfOk result (λ page. is_landed (form_in plan.now) ≡ true) }
     ensures never { IfNoRoom result (λ asked held floor. ⊥) }
     ensures files { D.files disk.new ≡ D.files disk.old }

@@ -9,7 +9,7 @@ ghost use Rattle.job_plan.specs.Plans.{form_in};
 ghost use Rattle.task_runner.specs.Answers.{HasCauseAmong};
 ghost use Rattle.task_runner.specs.Consumers.{HasConsumers, KeepsConsumers};
 ghost use Rattle.task_runner.specs.Parts.{HoldsRows};
-ghost use Rattle.task_runner.specs.Queries.{AreQueries, FeedsAll, TellTotals, made_in};
+ghost use Rattle.task_runner.specs.Queries.{AreQueries, FeedsAll, AnswerTotals, made_in};
 ghost use Rattle.task_runner.specs.Workers.{AreMade, LeavesOnlyAnswers};
 ghost use Rattle.task_runner.specs.Works.{IfNoRoom, MayWork, ShowsNoRoom, Works};
 
@@ -51,7 +51,7 @@ pub fn run_task<K: Disk, D: Disk, C: Consumer, B: Basis, R: Wait>(
     ensures count { IfOk result (λ answers. length answers.items ≡ length queries.now) }
     ensures answer { (rows : List (List (List ℕ)))
         → HoldsRows (D.files post.old.disk) (form_in plan.now) landed.now rows
-        → TellTotals (D.files post.new.disk) plan.now queries.now (made_in plan.now queries.now rows) result }
+        → AnswerTotals (D.files post.new.disk) plan.now queries.now (made_in plan.now queries.now rows) result }
     ensures made { IfOk result (λ answers. AreMade (D.files post.old.disk) answers.items) }
     ensures only { IfOk result (λ answers. LeavesOnlyAnswers (D.files post.old.disk) (D.files post.new.disk)
         answers.items) }

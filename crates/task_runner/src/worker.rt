@@ -11,7 +11,7 @@ ghost use Rattle.task_runner.specs.Answers.{HasCauseAmong};
 ghost use Rattle.task_runner.specs.Consumers.{FeedsOne, HasConsumers, KeepsConsumers, place_for};
 ghost use Rattle.task_runner.specs.OneWorker.{AddsOne, Stays, scene_of};
 ghost use Rattle.task_runner.specs.Parts.{HoldsRows};
-ghost use Rattle.task_runner.specs.Workers.{AreMade, DoesSome, DoesTasks, IfSound, IsCount, LeavesOnlyAnswers, TellParts, part_at, rows_to};
+ghost use Rattle.task_runner.specs.Workers.{AreMade, DoesSome, DoesTasks, IfSound, IsCount, LeavesOnlyAnswers, AnswerParts, part_at, rows_to};
 ghost use Rattle.task_runner.specs.Works.{IfNoRoom, MayWork, ShowsNoRoom};
 
 use crate::executor::Executor;
@@ -90,7 +90,7 @@ pub(crate) fn run_worker<K: Disk, D: Disk, C: Consumer, B: Basis, R: Wait>(
         ((k : ℕ) → part_at workers worker.old.number k < length parts.now
         → HoldsRows (D.files post.old.disk) (form_in plan.now)
         (run_at parts.now (part_at workers worker.old.number k)) (rows (part_at workers worker.old.number k))) →
-        IfSound (λ answers. TellParts (D.files post.new.disk)
+        IfSound (λ answers. AnswerParts (D.files post.new.disk)
         (kind_at plan.now 0) plan.now workers worker.old.number rows answers.items) result }
     ensures made { IfOk result (λ answers. AreMade (D.files post.old.disk) answers.items) }
     ensures only { IfOk result (λ answers. LeavesOnlyAnswers (D.files post.old.disk)

@@ -14,7 +14,7 @@ ghost use Rattle.job_plan.specs.Plans.{form_in, kept_in, kind_at};
 ghost use Rattle.task_runner.specs.Answers.{HasCauseAmong, NamesSomePost};
 ghost use Rattle.task_runner.specs.Consumers.{HasConsumers, KeepsConsumers, place_for};
 ghost use Rattle.task_runner.specs.Parts.{HoldsRows};
-ghost use Rattle.task_runner.specs.Pass.{AreInNewFiles, FeedsParts, KeepsAll, LeavesOnlyRuns, TellAllParts, states_at};
+ghost use Rattle.task_runner.specs.Pass.{AreInNewFiles, FeedsParts, KeepsAll, LeavesOnlyRuns, AnswerAllParts, states_at};
 ghost use Rattle.task_runner.specs.Workers.{DoesAll, DoesSome, IfSound};
 ghost use Rattle.task_runner.specs.Works.{IfNoRoom, ShowsNoRoom};
 
@@ -29,12 +29,19 @@ use memory_lock::{Basis, Worker};
 use run_file::Run;
 use spill_disk::Disk;
 use std::sync::Wait;
+use std::thread::Threads;
 
 /// Does the tasks of all partitions of a pass, worker after worker on this thread. Partition `p` is of worker `p % workers`, on
 /// that worker's post, and its task has its number. Answers the runs of what the partitions' rows come to, in the order of the
 /// partitions, each on the disk of its worker; a partition without a row has none. A fault is that of the lowest worker that
 /// failed, and names its post.
-pub fn run_workers<K: Disk, D: Disk, C: Consumer, B: Basis, R: Wait>(
+pub fn run_workers<
+    K: Disk + Send,
+    D: Disk + Send,
+    C: Consumer + Send,
+    B: Basis + Send + Sync,
+    R: Threads + Wait + Sync,
+>(
     executor: &Executor<'_, R, K, B>,
     workers: &mut Vec<Worker<B>>,
     plan: &Plan,
@@ -58,7 +65,7 @@ pub fn run_workers<K: Disk, D: Disk, C: Consumer, B: Basis, R: Wait>(
         ((part : ℕ) → part < length parts.now → HoldsRows
         (files_on (disk_at (λ post. post.disk)) D.files posts.old (part % B.sizes.workers)) (form_in plan.now)
         (run_at parts.now part) (rows part)) →
-        IfSound (λ runs. TellAllParts (files_on (disk_at (λ post. post.disk)) D.files posts.new)
+        IfSound (λ runs. AnswerAllParts (files_on (disk_at (λ post. post.disk)) D.files posts.new)
         (kind_at plan.now 0) plan.now
         (length parts.now) rows runs.items) result }
     ensures there { IfOk result (λ runs. AreOn B.sizes.workers runs.items) }

@@ -1,4 +1,4 @@
-use Rattle.std.proofs.Common.{◌≡◌, ◌∙◌, [], ℕ, length, map, refl, sym, subst, arith}
+use Rattle.std.proofs.Common.{◌∙◌, [], length, map, refl, sym, subst, arith}
 use Rattle.std.proofs.lemmas.Grind.{common_steps}
 use Rattle.std.proofs.lemmas.Result.{on_ok_weaker}
 use Rattle.task_memory.specs.Scenes.{Scene}

@@ -1,4 +1,4 @@
-use Rattle.std.proofs.Common.{◌≡◌, ◌<◌, ◌∙◌, List, Option, None, map, length, arith}
+use Rattle.std.proofs.Common.{◌≡◌, ◌∙◌, List, Option, None, map, length, arith}
 use Rattle.std.proofs.lemmas.List.{get_or_default}
 use Rattle.run_file.specs.declared.run.Run.{Run}
 use Rattle.task_runner.specs.Workers.{answer_at}

@@ -8,7 +8,7 @@ use Rattle.run_file.specs.Several.{run_at}
 use Rattle.job_plan.specs.Plans.{form_in, kind_at}
 use Rattle.task_runner.specs.OneWorker.{DoesFirst, DoesOne, Scene, scene_of}
 use Rattle.task_runner.specs.Parts.{HoldsRows}
-use Rattle.task_runner.specs.Workers.{TellParts, part_at}
+use Rattle.task_runner.specs.Workers.{AnswerParts, part_at}
 use Rattle.task_runner.specs.Works.{MayWork}
 use Rattle.task_runner.proofs.Advancing.{first_more, first_none, part_first, part_is, part_next, some_more, sound_of}
 use Rattle.task_runner.proofs.BegunTasks.{fresh_still}
@@ -49,7 +49,7 @@ returns-in_err-next_task-clause-answer g c rows hold =
     let stands : HoldsRows now form (run_at parts c.tasks.part) (rows c.tasks.part) = subst (λ (n : ℕ). HoldsRows now form (run_at parts n) (rows n)) (sym is)
     (rows_kept start now form (run_at parts part) (rows part) c.tasks.invariant.first.stays.disk.kept (hold k below)) in
     let p = err_from_is_err_and c.from_residual.result c.from_residual.ensures.1 in
-    rw (p.1, p.2) (sound_of (λ (nothing : Unit {0}). Unit {0}) (λ (answers : Vec (Option Run) Global). TellParts after kind plan c.args.workers c.args.worker.now.number rows answers.items) c.in_err-next_task.field-0.0 (c.in_err-next_task.ensures.sound (rows c.tasks.part) stands))
+    rw (p.1, p.2) (sound_of (λ (nothing : Unit {0}). Unit {0}) (λ (answers : Vec (Option Run) Global). AnswerParts after kind plan c.args.workers c.args.worker.now.number rows answers.items) c.in_err-next_task.field-0.0 (c.in_err-next_task.ensures.sound (rows c.tasks.part) stands))
 
 pub returns-in_err-next_task-clause-may_work : goal.returns-in_err-next_task-clause-may_work
 returns-in_err-next_task-clause-may_work g c =

@@ -1,0 +1,211 @@
+-- The workers of a pass at the same time: what each of them left and answered, as what all of them did.
+use Rattle.std.proofs.Common.{◌≡◌, ◌∙◌, ℕ, zero, suc, ◌<◌, ◌+◌, List, [], ◌∷◌, Option, Some, None, Result, Ok, Err, length, get_or, refl, sym, ap, subst, inl, inr, arith}
+use Rattle.std.specs.Prelude.{IfOk, slice_get, ⊤}
+use Rattle.std.specs.Global.{Vec}
+use Rattle.std.proofs.lemmas.List.{get_or_past}
+use Rattle.pool_ledger.specs.Sizes.{Sizes}
+use Rattle.spill_disk.specs.Files.{Files}
+use Rattle.run_file.specs.declared.run.Run.{Run}
+use Rattle.turn_lock.specs.Passes.{LockId, PassState}
+use Rattle.memory_lock.specs.Crew.{AreWorkers}
+use Rattle.memory_lock.specs.Workers.{IsFree, own_of}
+use Rattle.consumer_trait.specs.States.{State}
+use Rattle.worker_threads.specs.Places.{AtEachPlace, AtPlace}
+use Rattle.job_plan.specs.declared.query_plan.Plan.{Plan}
+use Rattle.task_runner.specs.AllWorkers.{Finished, Finishes, HoldsOwn, Leaves, Reached, faults_of, files_of}
+use Rattle.task_runner.specs.Answers.{HasCauseAmong, NamesPost, NamesSomePost}
+use Rattle.task_runner.specs.AtOnce.{AreAnswers, Ran, GivesFirst}
+use Rattle.task_runner.specs.Workers.{IfSound}
+use Rattle.task_runner.specs.Works.{IfNoRoom, ShowsNoRoom}
+use Rattle.task_runner.specs.declared.post.Post.{Post}
+use Rattle.task_runner.specs.declared.work_fault.WorkFault.{WorkFault}
+use Rattle.task_runner.specs.declared.work_fault.WorkFault.TheVariants.{NoRoom, DiskFault, Damaged, NoMemory}
+use Rattle.task_runner.proofs.Idle.{leaves_same}
+
+-- ---- where nobody was called
+
+pub reached_idle : {D C : Type 0} (state : C → State) (files : D → Option Files) (faults : D → ℕ) (workers partitions : ℕ) (olds : List PassState) (posts : List (Post D C))
+    → ((w : ℕ) (any : PassState) → w < workers → IsFree (get_or olds w any)) → Reached state files faults workers partitions workers olds olds posts posts
+reached_idle state files faults workers partitions olds posts free = record {
+  each = λ w any below. leaves_same state files faults workers partitions (get_or olds w any) (slice_get posts w) (free w any below);
+  still = λ w any above. refl;
+  others = λ place above. refl;
+  count = refl;
+}
+
+-- ---- a place of the lists
+
+value_at : {X : Type 0} (xs : List X) (n : ℕ) (x d : X) → slice_get xs n ≡ Some x → get_or xs n d ≡ x
+value_at [] n x d is = let wrong : None ≡ Some x = is in absurd cc
+value_at (y ∷ xs) zero x d is = let same : Some y ≡ Some x = is in let inner : y ≡ x = cc in inner
+value_at (y ∷ xs) (suc n) x d is = value_at xs n x d is
+
+-- what holds of the worker and the post of a place holds of them in their lists
+at_lists : {D C : Type 0} (P : PassState → PassState → Option (Post D C) → Option (Post D C) → Type 0) (olds news : List PassState) (posts posts' : List (Post D C)) (n : ℕ) (any w w' : PassState) (p p' : Post D C)
+    → slice_get olds n ≡ Some w → slice_get news n ≡ Some w' → slice_get posts n ≡ Some p → slice_get posts' n ≡ Some p' → P w w' (Some p) (Some p')
+    → P (get_or olds n any) (get_or news n any) (slice_get posts n) (slice_get posts' n)
+at_lists {D = D} {C = C} P olds news posts posts' n any w w' p p' old new post post' holds =
+    subst (λ (s : PassState). P s (get_or news n any) (slice_get posts n) (slice_get posts' n)) (sym (value_at olds n w any old))
+    (subst (λ (s : PassState). P w s (slice_get posts n) (slice_get posts' n)) (sym (value_at news n w' any new))
+    (subst (λ (o : Option (Post D C)). P w w' o (slice_get posts' n)) (sym post)
+    (subst (λ (o : Option (Post D C)). P w w' (Some p) o) (sym post') holds)))
+
+from_zero : (k : ℕ) → 0 + k ≡ k
+from_zero k = omega arith
+
+-- the call of a place, counted from 0
+here : {W P A : Type 0} (R : ℕ → W → W → P → P → A → Type 0) (ws ws' : List W) (ps ps' : List P) (told : List A) → AtEachPlace R 0 ws ws' ps ps' told
+    → (k : ℕ) → k < length ws → AtPlace R k (slice_get ws k) (slice_get ws' k) (slice_get ps k) (slice_get ps' k) (slice_get told k)
+here R ws ws' ps ps' told all k within =
+    subst (λ (j : ℕ). AtPlace R j (slice_get ws k) (slice_get ws' k) (slice_get ps k) (slice_get ps' k) (slice_get told k)) (from_zero k) (all.each k within)
+
+module _ {D C : Type 0} (state : C → State) (files : D → Option Files) (faults : D → ℕ) (sizes : Sizes) (count : ℕ) (plan : Plan) (parts : List Run) (olds news : List PassState) (posts posts' : List (Post D C))
+    (told : List (Result (Vec (Option Run)) WorkFault)) (size : length olds ≡ count)
+    (ran : AtEachPlace (Ran state files faults sizes count plan parts) 0 olds news posts posts' told) where
+  -- ---- what they left
+
+  pub reached_at_once : Reached state files faults count (length parts) count olds news posts posts'
+  reached_at_once = record {
+    each = λ w any below.
+        let at = here (Ran state files faults sizes count plan parts) olds news posts posts' told ran w (omega (arith, below, size)) in
+        at_lists (λ before after post post'. Leaves state files faults count (length parts) before after post post') olds news posts posts' w any
+        at.one at.one_after at.other at.other_after at.one_is at.one_left at.other_is at.other_left at.did.leaves;
+    still = λ w any above.
+        let same = ran.same_workers in
+        get_or_past news w any (omega (arith, above, size, same)) ∙ sym (get_or_past olds w any (omega (arith, above, size)));
+    others = λ place above. ran.others place (omega (arith, above, size));
+    count = ran.same_posts;
+  }
+
+  pub workers_at_once : (lock : LockId) → AreWorkers lock count olds → AreWorkers lock count news
+  workers_at_once lock were = (
+    ran.same_workers ∙ size,
+    λ number any below.
+        let at = here (Ran state files faults sizes count plan parts) olds news posts posts' told ran number (omega (arith, below, size)) in
+        let was = were.1 number any below in
+        let old : get_or olds number any ≡ at.one = value_at olds number at.one any at.one_is in
+        let new : get_or news number any ≡ at.one_after = value_at news number at.one_after any at.one_left in
+        let sees = at.did.leaves.sees in
+        record {
+          lock_is = ap (λ (w : PassState). w.lock) new ∙ sees.lock_is ∙ ap (λ (w : PassState). w.lock) (sym old) ∙ was.lock_is;
+          number_is = ap (λ (w : PassState). w.number) new ∙ sees.number_is ∙ ap (λ (w : PassState). w.number) (sym old) ∙ was.number_is;
+          speaks_is = ap (λ (w : PassState). w.speaks) new ∙ sees.speaks_is ∙ ap (λ (w : PassState). w.speaks) (sym old) ∙ was.speaks_is;
+          last = λ end. ap (λ (w : PassState). w.spare) new ∙ sees.spare_is ∙ ap (λ (w : PassState). w.spare) (sym old) ∙ was.last end;
+          others = λ more. ap (λ (w : PassState). w.spare) new ∙ sees.spare_is ∙ ap (λ (w : PassState). w.spare) (sym old) ∙ was.others more;
+          free = ap (λ (w : PassState). w.base) new ∙ at.did.rests;
+        },
+  )
+
+  -- ---- what they answered
+
+  is_told : (k : ℕ) (one other : Result (Vec (Option Run)) WorkFault) → slice_get told k ≡ Some one → slice_get told k ≡ Some other → one ≡ other
+  is_told k one other first second = let both : Some one ≡ Some other = sym first ∙ second in let same : one ≡ other = cc in same
+
+  finishes_of : (before after : PassState) (post post' : Option (Post D C)) (answer : Result (Vec (Option Run)) WorkFault) (answers : Vec (Option Run)) → answer ≡ Ok answers
+      → IfOk answer (λ answers. Finishes state files count plan parts before after post post' answers.items) → Finishes state files count plan parts before after post post' answers.items
+  finishes_of before after post post' answer answers is done = rw is at done
+
+  pub finished_at_once : (all : List (List (Option Run))) → AreAnswers told all → Finished state files count count plan parts olds news posts posts' all
+  finished_at_once all are =
+      let answered = ran.all_answered in
+      let many = are.count in
+      record {
+        count = omega (arith, many, answered, size);
+        each = λ w any below.
+            let at = here (Ran state files faults sizes count plan parts) olds news posts posts' told ran w (omega (arith, below, size)) in
+            let list = are.each w (omega (arith, below, size, answered)) in
+            let done = finishes_of at.one at.one_after (Some at.other) (Some at.other_after) at.told list.0 (is_told w at.told (Ok list.0) at.told_is list.1) at.did.finishes in
+            subst (λ (answers : List (Option Run)). Finishes state files count plan parts (get_or olds w any) (get_or news w any) (slice_get posts w) (slice_get posts' w) answers) (sym list.2)
+            (at_lists (λ before after post post'. Finishes state files count plan parts before after post post' (list.0).items) olds news posts posts' w any
+            at.one at.one_after at.other at.other_after at.one_is at.one_left at.other_is at.other_left done);
+      }
+
+  -- ---- a fault of one of them
+
+  pub sound_at_once : {T : Type 0} (lock : LockId) (result : Result T WorkFault) → AreWorkers lock count olds → GivesFirst told result → (rows : ℕ → List (List (List ℕ)))
+      → ((w : ℕ) → w < count → HoldsOwn (files_of files (slice_get posts w)) plan parts count w rows) → IfSound (λ _. ⊤) result
+  sound_at_once lock (Ok all) were tells rows holds = tt
+  sound_at_once lock (Err (NoRoom asked held floor)) were tells rows holds = tt
+  sound_at_once lock (Err (DiskFault post)) were tells rows holds = tt
+  sound_at_once lock (Err NoMemory) were tells rows holds = tt
+  sound_at_once lock (Err (Damaged damage)) were tells rows holds =
+      elim tells [
+        | inl none ↦ let wrong : Damaged damage ≡ NoMemory = none in absurd cc
+        | inr first ↦
+            let answered = ran.all_answered in
+            let within = first.within in
+            let at = here (Ran state files faults sizes count plan parts) olds news posts posts' told ran first.place (omega (arith, within, answered)) in
+            let is : at.told ≡ Err (Damaged damage) = is_told first.place at.told (Err (Damaged damage)) at.told_is first.is in
+            let number : at.one.number ≡ first.place =
+            ap (λ (w : PassState). w.number) (sym (value_at olds first.place at.one at.one at.one_is)) ∙ (were.1 first.place at.one (omega (arith, within, answered, size))).number_is in
+            let own = holds first.place (omega (arith, within, answered, size)) in
+            let there : HoldsOwn (files at.other.disk) plan parts count first.place rows = subst (λ (o : Option (Post D C)). HoldsOwn (files_of files o) plan parts count first.place rows) at.other_is own in
+            let mine : HoldsOwn (files at.other.disk) plan parts count at.one.number rows = subst (λ (n : ℕ). HoldsOwn (files at.other.disk) plan parts count n rows) (sym number) there in
+            let never : IfSound (λ _. ⊤) at.told = at.did.sound rows mine in
+            rw is at never
+      ]
+
+  pub room_at_once : {T : Type 0} (result : Result T WorkFault) → GivesFirst told result
+      → IfNoRoom result (λ asked held floor. (worker task : ℕ) × (worker < count) × ((any : PassState) → ShowsNoRoom sizes (own_of (get_or news worker any)) task asked held floor))
+  room_at_once (Ok all) tells = tt
+  room_at_once (Err (DiskFault post)) tells = tt
+  room_at_once (Err (Damaged damage)) tells = tt
+  room_at_once (Err NoMemory) tells = tt
+  room_at_once (Err (NoRoom asked held floor)) tells =
+      elim tells [
+        | inl none ↦ let wrong : NoRoom asked held floor ≡ NoMemory = none in absurd cc
+        | inr first ↦
+            let answered = ran.all_answered in
+            let within = first.within in
+            let at = here (Ran state files faults sizes count plan parts) olds news posts posts' told ran first.place (omega (arith, within, answered)) in
+            let is : at.told ≡ Err (NoRoom asked held floor) = is_told first.place at.told (Err (NoRoom asked held floor)) at.told_is first.is in
+            let room : IfNoRoom at.told (λ asked held floor. (task : ℕ) × ShowsNoRoom sizes (own_of at.one_after) task asked held floor) = at.did.no_room in
+            let shows : (task : ℕ) × ShowsNoRoom sizes (own_of at.one_after) task asked held floor = rw is at room in (
+              first.place,
+              shows.0,
+              omega (arith, within, answered, size),
+              λ any. subst (λ (w : PassState). ShowsNoRoom sizes (own_of w) shows.0 asked held floor) (sym (value_at news first.place at.one_after any at.one_left)) shows.1,
+            )
+      ]
+
+  names_fault : (T : Type 0) (place : ℕ) (fault : WorkFault) → place < count → NamesPost {T = Vec (Option Run)} place (Err fault) → NamesSomePost {T = T} count (Err fault)
+  names_fault T place (NoRoom asked held floor) below names = tt
+  names_fault T place (DiskFault post) below names = omega (arith, below, names)
+  names_fault T place (Damaged damage) below names = omega (arith, below, names)
+  names_fault T place NoMemory below names = tt
+
+  pub names_at_once : {T : Type 0} (result : Result T WorkFault) → GivesFirst told result → NamesSomePost count result
+  names_at_once (Ok all) tells = tt
+  names_at_once {T = T} (Err fault) tells =
+      elim tells [
+        | inl none ↦ subst (λ (f : WorkFault). NamesSomePost {T = T} count (Err f)) (sym none) tt
+        | inr first ↦
+            let answered = ran.all_answered in
+            let within = first.within in
+            let at = here (Ran state files faults sizes count plan parts) olds news posts posts' told ran first.place (omega (arith, within, answered)) in
+            let is : at.told ≡ Err fault = is_told first.place at.told (Err fault) at.told_is first.is in
+            names_fault T first.place fault (omega (arith, within, answered, size)) (subst (λ (answer : Result (Vec (Option Run)) WorkFault). NamesPost first.place answer) is at.did.names)
+      ]
+
+  cause_fault : (T : Type 0) (before now : ℕ → ℕ) (fault : WorkFault) → HasCauseAmong {T = Vec (Option Run)} before now (Err fault) → HasCauseAmong {T = T} before now (Err fault)
+  cause_fault T before now (NoRoom asked held floor) cause = tt
+  cause_fault T before now (DiskFault post) cause = cause
+  cause_fault T before now (Damaged damage) cause = cause
+  cause_fault T before now NoMemory cause = tt
+
+  pub cause_at_once : {T : Type 0} (result : Result T WorkFault) → GivesFirst told result
+      → HasCauseAmong (λ place. faults_of faults (slice_get posts place)) (λ place. faults_of faults (slice_get posts' place)) result
+  cause_at_once (Ok all) tells = tt
+  cause_at_once {T = T} (Err fault) tells =
+      let before : ℕ → ℕ = λ place. faults_of faults (slice_get posts place) in
+      let now : ℕ → ℕ = λ place. faults_of faults (slice_get posts' place) in
+      elim tells [
+        | inl none ↦ subst (λ (f : WorkFault). HasCauseAmong {T = T} before now (Err f)) (sym none) tt
+        | inr first ↦
+            let answered = ran.all_answered in
+            let within = first.within in
+            let at = here (Ran state files faults sizes count plan parts) olds news posts posts' told ran first.place (omega (arith, within, answered)) in
+            let is : at.told ≡ Err fault = is_told first.place at.told (Err fault) at.told_is first.is in
+            let cause = at.did.cause before now (ap (λ (o : Option (Post D C)). faults_of faults o) at.other_is) (ap (λ (o : Option (Post D C)). faults_of faults o) at.other_left) in
+            cause_fault T before now fault (subst (λ (answer : Result (Vec (Option Run)) WorkFault). HasCauseAmong before now answer) is cause)
+      ]

@@ -1,0 +1,73 @@
+-- The workers of a pass at the same time: what each may do at its post, what it did there, and what all of them answered.
+-- This project's own.
+use Rattle.std.specs.Prelude.{◌≡◌, ℕ, ◌+◌, ◌*◌, ◌^◌, ◌<◌, ◌≤◌, ◌⊎◌, All, List, Option, Some, None, Result, Ok, Err, IfOk, false, length, map, slice_get, slice_index_or, ⊤}
+use Rattle.std.specs.Global.{Vec}
+use Rattle.consumer_trait.specs.States.{State}
+use Rattle.pool_ledger.specs.History.{was_begun}
+use Rattle.pool_ledger.specs.Sizes.{Sizes}
+use Rattle.spill_disk.specs.Files.{Files}
+use Rattle.run_file.specs.declared.run.Run.{Run}
+use Rattle.turn_lock.specs.Passes.{LockId, PassState}
+use Rattle.memory_lock.specs.Workers.{IsFree, own_of}
+use Rattle.job_plan.specs.Planning.{columns_of}
+use Rattle.job_plan.specs.Plans.{form_in, kept_in}
+use Rattle.job_plan.specs.declared.query_plan.Plan.{Plan}
+use Rattle.task_runner.specs.AllWorkers.{Finishes, HoldsOwn, Leaves, answers_of}
+use Rattle.task_runner.specs.Answers.{HasCauseAmong, NamesPost}
+use Rattle.task_runner.specs.Consumers.{HasConsumers}
+use Rattle.task_runner.specs.Workers.{IfSound, part_at}
+use Rattle.task_runner.specs.Works.{IfNoRoom, ShowsNoRoom}
+use Rattle.task_runner.specs.declared.post.Post.{Post}
+use Rattle.task_runner.specs.declared.work_fault.WorkFault.{WorkFault}
+use Rattle.task_runner.specs.declared.work_fault.WorkFault.TheVariants.{NoMemory}
+
+-- ---- one worker at its post
+
+-- the worker of this place may do its tasks at this post: it has no task, owns those of its partitions, and began none of them
+pub record MayRun {D C : Type 0} (state : C → State) (lock : LockId) (owner : ℕ → Option ℕ) (workers : ℕ) (plan : Plan) (parts : List Run) (place : ℕ) (worker : PassState) (post : Post D C) : Type 0 where
+  pub lock_is : worker.lock ≡ lock
+  pub number_is : worker.number ≡ place
+  pub known : place < workers
+  pub narrow : place < 2 ^ 32
+  pub free : IsFree worker
+  pub owns : (k : ℕ) → part_at workers worker.number k < length parts → owner (part_at workers worker.number k) ≡ Some worker.number
+  pub fresh : (k : ℕ) → part_at workers worker.number k < length parts → was_begun (own_of worker) (part_at workers worker.number k) ≡ false
+  pub consumers : HasConsumers (map state post.consumers.items)
+  pub few : length parts ≤ 10000000
+  pub short : All (λ run. run.greatest ≤ 36 + 4 * columns_of (form_in plan) + 65536) parts
+  pub one : length (kept_in plan) ≡ 1
+
+-- what the worker of this place leaves there, and what it answers
+pub record Ran {D C : Type 0} (state : C → State) (files : D → Option Files) (faults : D → ℕ) (sizes : Sizes) (workers : ℕ) (plan : Plan) (parts : List Run) (place : ℕ) (before after : PassState) (post post' : Post D C) (answer : Result (Vec (Option Run)) WorkFault) : Type 0 where
+  pub finishes : IfOk answer (λ answers. Finishes state files workers plan parts before after (Some post) (Some post') answers.items)
+  pub leaves : Leaves state files faults workers (length parts) before after (Some post) (Some post')
+  pub sound : (rows : ℕ → List (List (List ℕ))) → HoldsOwn (files post.disk) plan parts workers before.number rows → IfSound (λ _. ⊤) answer
+  pub no_room : IfNoRoom answer (λ asked held floor. (task : ℕ) × ShowsNoRoom sizes (own_of after) task asked held floor)
+  pub names : NamesPost place answer
+  pub rests : after.base ≡ None
+  pub cause : (was now : ℕ → ℕ) → was place ≡ faults post.disk → now place ≡ faults post'.disk → HasCauseAmong was now answer
+
+-- ---- all of them
+
+-- the worker of each place may do its tasks there
+abbrev pub AllMayRun : {D C : Type 0} → (C → State) → LockId → (ℕ → Option ℕ) → ℕ → Plan → List Run → List PassState → List (Post D C) → Type 0
+AllMayRun {D = D} {C = C} state lock owner count plan parts workers posts =
+    (place : ℕ) (worker : PassState) (post : Post D C) → place < length workers
+    → MayRun state lock owner count plan parts place (slice_index_or workers place worker) (slice_index_or posts place post)
+
+-- each worker answered its list of these
+pub record AreAnswers (told : List (Result (Vec (Option Run)) WorkFault)) (all : List (List (Option Run))) : Type 0 where
+  pub count : length all ≡ length told
+  pub each : (k : ℕ) → k < length told → (answers : Vec (Option Run)) × (slice_get told k ≡ Some (Ok answers)) × (answers_of all k ≡ answers.items)
+
+-- the fault of the first worker that failed
+pub record IsFirst (told : List (Result (Vec (Option Run)) WorkFault)) (fault : WorkFault) : Type 0 where
+  pub place : ℕ
+  pub within : place < length told
+  pub is : slice_get told place ≡ Some (Err fault)
+  pub before : (k : ℕ) → k < place → (answers : Vec (Option Run)) × (slice_get told k ≡ Some (Ok answers))
+
+-- what is told of all is told by the first that failed, unless memory was wanting for the list of all
+abbrev pub GivesFirst : {T : Type 0} → List (Result (Vec (Option Run)) WorkFault) → Result T WorkFault → Type 0
+GivesFirst told (Ok all) = ⊤
+GivesFirst told (Err fault) = (fault ≡ NoMemory) ⊎ IsFirst told fault
