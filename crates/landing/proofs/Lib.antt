@@ -4,5 +4,6 @@ pub mod Following
 pub mod Shelves
 pub mod Filled
 pub mod Partitions
+pub mod Planned
 pub mod Checking
 pub mod NewFiles

@@ -3,3 +3,4 @@ pub mod Landed
 pub mod Ruling
 pub mod Explaining
 pub mod Filling
+pub mod Headers

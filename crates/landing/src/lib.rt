@@ -3,10 +3,12 @@
 
 mod desk;
 mod fault;
+mod header;
 mod landing;
 mod length;
 mod part;
 mod rules;
 
 pub use fault::LandFault;
+pub use header::plan_input;
 pub use landing::{Landed, land};

@@ -1,0 +1,18 @@
+-- What a job makes of an input's header alone, whatever rows stand below it.
+-- This project's own.
+use Rattle.std.specs.Prelude.{◌≡◌, ℕ, List, [], ◌∷◌, take}
+use Rattle.job_text.specs.declared.job.Job.{Job}
+use Rattle.job_plan.specs.Columns.{Fields}
+use Rattle.job_plan.specs.Plans.{IsPlanOf}
+use Rattle.job_plan.specs.declared.query_plan.Plan.{Plan}
+use Rattle.landing.specs.Checks.{Checked, Rows, checked}
+
+-- the checks of the first record, where no record stands behind it
+abbrev pub checked_header : Job → List Fields → Checked
+checked_header job records = checked job 0 (take 1 records)
+
+-- the header passes the job's checks, and the plan is that of the job over it
+pub record IsPlanOver (job : Job) (plan : Plan) (records : List Fields) : Type 0 where
+  pub header : Fields
+  pub passed : checked_header job records ≡ Rows header []
+  pub planned : IsPlanOf job header plan
