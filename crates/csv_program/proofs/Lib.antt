@@ -7,6 +7,7 @@ pub mod Called
 pub mod Completed
 pub mod Judged
 pub mod FedRows
+pub mod Planned
 pub mod Printed
 pub mod Aside
 pub mod Journals

@@ -7,7 +7,7 @@ use Rattle.run_file.specs.declared.run.Run.{Run}
 use Rattle.run_merge.specs.Causes.{is_run_in}
 use Rattle.run_file.specs.Several.{AreOn}
 use Rattle.run_merge.proofs.Damage.{in_cases, in_or_not, one_is}
-use Rattle.task_runner.specs.Answers.{TellsAmong}
+use Rattle.task_runner.specs.Answers.{NamesRunOf}
 use Rattle.task_runner.specs.declared.work_fault.WorkFault.{WorkFault}
 use Rattle.task_runner.specs.declared.work_fault.WorkFault.TheVariants.{NoRoom, DiskFault, Damaged, NoMemory}
 use Rattle.csv_program.specs.Posts.{DamagedOn}
@@ -20,7 +20,7 @@ in_on count (run ∷ runs) disk file rows on is = elim (in_cases (run ∷ []) ru
 ]
 
 -- damage of the final task names a disk of the runs that it merges, or the first
-pub final_named : (T : Type 0) (named : ℕ → ℕ) (before : ℕ → Option Files) (runs : List Run) (result : Result T WorkFault) → TellsAmong named before runs 0 result → (count : ℕ) → 0 < count → AreOn count runs → DamagedOn result (λ post. post < count)
+pub final_named : (T : Type 0) (named : ℕ → ℕ) (before : ℕ → Option Files) (runs : List Run) (result : Result T WorkFault) → NamesRunOf named before runs 0 result → (count : ℕ) → 0 < count → AreOn count runs → DamagedOn result (λ post. post < count)
 final_named T named before runs (Ok x) told count some on = tt
 final_named T named before runs (Err (NoRoom asked held floor)) told count some on = tt
 final_named T named before runs (Err (DiskFault post)) told count some on = tt

@@ -20,7 +20,7 @@ use Rattle.result_table.specs.Results.{HasResult}
 use Rattle.task_runner.specs.Answers.{MergesTotal}
 use Rattle.task_runner.specs.Consumers.{FeedsOne, KeepsConsumers}
 use Rattle.task_runner.specs.Parts.{HoldsRows, entries_in}
-use Rattle.task_runner.specs.Pass.{FeedsParts, KeepsAll, TellAllParts, states_at}
+use Rattle.task_runner.specs.Pass.{FeedsParts, KeepsAll, AnswerAllParts, states_at}
 use Rattle.task_runner.specs.Workers.{IfSound, rows_to}
 use Rattle.task_runner.specs.declared.post.Post.{Post}
 use Rattle.task_runner.specs.declared.work_fault.WorkFault.{WorkFault}
@@ -103,7 +103,7 @@ result_by files kind lists all (Err NoMemory) same merges = tt
 
 -- the merged runs of all partitions are the result of all rows
 pub result_of : (mid after : ℕ → Option Files) (plan : Plan) (partitions : ℕ) (rows : ℕ → List (List (List ℕ))) (runs : List Run) (answer : Result (Option Run) WorkFault) → PartsTellAll
-    → TellAllParts mid (kind_at plan 0) plan partitions rows runs
+    → AnswerAllParts mid (kind_at plan 0) plan partitions rows runs
     → ((lists : List (List Entry)) → HaveEntries mid (kind_at plan 0) runs lists → AreApart (λ disk. disk) runs → MergesTotal after (kind_at plan 0) lists answer)
     → IfSound (λ answer. HasResult after (kind_at plan 0) answer (total (kind_at plan 0) (concatenated (map (λ part. entries_in plan 0 (rows part)) (range_with_len 0 partitions))))) answer
 result_of mid after plan partitions rows runs answer told tells merges =

@@ -1,5 +1,6 @@
 pub mod Words
 pub mod Calls
+pub mod PlanCalls
 pub mod Statuses
 pub mod Telling
 pub mod Endings

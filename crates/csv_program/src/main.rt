@@ -6,6 +6,7 @@ mod call;
 mod consumers;
 mod input;
 mod outcome;
+mod plan;
 mod pool;
 mod query;
 mod spill;
@@ -16,6 +17,7 @@ mod top;
 
 use byte_io::{StdSink, StdSource};
 use outcome::Status;
+use plan::plan_call;
 use spill::prepare;
 use std::alloc::{AllocError, Global};
 use std::fmt::Display;
@@ -23,6 +25,7 @@ use std::process::ExitCode;
 use std::rt::Env;
 use std::{env, io};
 use top::run;
+use words::begins_with;
 
 // The words behind the program's name. One that is no text makes the words faulty.
 fn words_of_call(rt: &(impl Env + AllocGlobal)) -> Result<Vec<String>, Status> {
@@ -63,6 +66,12 @@ fn main(rt: HostRuntime) -> ExitCode {
         let status = Status::NoMemory;
         return end_with(&rt, status.number(), &status);
     };
+    if begins_with(&texts, "plan") {
+        let mut input = StdSource::new(rt.reader());
+        let mut output = StdSink::new(io::writer(&rt));
+        let status = plan_call(rt.alloc(), &texts, &mut input, &mut output);
+        return end_with(&rt, status.number(), &status);
+    }
     // The folder is this process' own until its end.
     let (mut posts, store, _lock) = match prepare(&rt, &texts) {
         Ok(made) => made,

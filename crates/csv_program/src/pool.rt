@@ -37,14 +37,21 @@ use run_file::Run;
 use spill_disk::Disk;
 use std::alloc::Global;
 use std::sync::Wait;
+use std::thread::Threads;
 use task_runner::{
     Executor, Post, WorkFault, run_final, run_workers, swap_consumers, take_consumers,
 };
 
-/// Does all tasks of a plan of one query over landed partitions, in a pool of these sizes: those of the partitions, worker after
-/// worker on this thread, and then the final one, which merges their runs into the answer. There is no journal exactly where no
+/// Does all tasks of a plan of one query over landed partitions, in a pool of these sizes: those of the partitions, each worker in a
+/// thread of its own, and then the final one on this thread, which merges their runs into the answer. There is no journal exactly where no
 /// pool could be made.
-pub fn run_tasks<K: Disk, D: Disk, C: Consumer, B: Basis, R: Wait>(
+pub fn run_tasks<
+    K: Disk + Send,
+    D: Disk + Send,
+    C: Consumer + Send,
+    B: Basis + Send + Sync,
+    R: Threads + Wait + Sync,
+>(
     rt: &R,
     alloc: Global,
     pool: Setup,
@@ -106,7 +113,13 @@ pub fn run_tasks<K: Disk, D: Disk, C: Consumer, B: Basis, R: Wait>(
 }
 
 // Does all tasks with these workers: each worker's own, and the final one by the first.
-fn work<K: Disk, D: Disk, C: Consumer, B: Basis, R: Wait>(
+fn work<
+    K: Disk + Send,
+    D: Disk + Send,
+    C: Consumer + Send,
+    B: Basis + Send + Sync,
+    R: Threads + Wait + Sync,
+>(
     executor: &Executor<'_, R, K, B>,
     workers: &mut Vec<Worker<B>>,
     plan: &Plan,

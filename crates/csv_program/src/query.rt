@@ -30,10 +30,18 @@ use run_file::Run;
 use spill_disk::Disk;
 use std::alloc::Global;
 use std::sync::Wait;
+use std::thread::Threads;
 use task_runner::{Post, WorkFault};
 
 /// Does the tasks of a plan of one query over landed partitions, in a pool of these sizes, checks the sums, and prints the table.
-pub fn run_query<K: Disk, D: Disk, C: Consumer, W: Sink, B: Basis, R: Wait>(
+pub fn run_query<
+    K: Disk + Send,
+    D: Disk + Send,
+    C: Consumer + Send,
+    W: Sink,
+    B: Basis + Send + Sync,
+    R: Threads + Wait + Sync,
+>(
     rt: &R,
     alloc: Global,
     pool: Setup,

@@ -3,6 +3,7 @@ mod faults;
 mod generated;
 mod journals;
 mod plain;
+mod plans;
 mod refusals;
 mod running;
 mod statuses;

@@ -37,7 +37,7 @@ use std::thread::Threads;
 use task_runner::Post;
 
 // The status that tells why an input couldn't be landed.
-fn land_status(fault: LandFault) -> Status
+pub(crate) fn land_status(fault: LandFault) -> Status
     ensures { result ≡ status_of fault }
 {
     match fault {
@@ -54,7 +54,7 @@ fn land_status(fault: LandFault) -> Status
 }
 
 // Runs a job in its pool.
-fn run_job<X: Threads + Wait + Sync, S: Source, W: Sink, D: Disk, C: Consumer>(
+fn run_job<X: Threads + Wait + Sync, S: Source, W: Sink, D: Disk + Send, C: Consumer + Send>(
     rt: &X,
     alloc: Global,
     asked: &RunCall,
@@ -141,7 +141,7 @@ fn run_job<X: Threads + Wait + Sync, S: Source, W: Sink, D: Disk, C: Consumer>(
 
 /// Runs the job that the words ask for: lands the input on the disks of the workers' posts in partitions of 10,000 rows or as many
 /// as the words say, groups or orders each partition in a task of its worker, merges what the tasks spilled, and prints the table.
-/// The tasks run worker after worker on this thread, and take turns in one memory pool. Words are `run [OPTION..] JOB`, with options
+/// The workers run at the same time, each in a thread of its own, and share one memory pool; the final task runs on this thread. Words are `run [OPTION..] JOB`, with options
 /// for the workers, the pool's sizes and the rows (the crate `words`); a job is the text of one query over the input that groups or
 /// orders.
 ///
@@ -151,7 +151,7 @@ fn run_job<X: Threads + Wait + Sync, S: Source, W: Sink, D: Disk, C: Consumer>(
 ///
 /// The pool and its journal are after Spark's unified memory manager, and the spills after its TaskMemoryManager; the job language
 /// and the statuses are this project's own. Want of memory has no clause; a test shows that a run with ample memory answers.
-pub fn run<X: Threads + Wait + Sync, S: Source, W: Sink, D: Disk + Send, C: Consumer>(
+pub fn run<X: Threads + Wait + Sync, S: Source, W: Sink, D: Disk + Send, C: Consumer + Send>(
     rt: &X,
     alloc: Global,
     words: &[&str],

@@ -62,3 +62,37 @@ fn pools_that_have_room_agree_on_orders(rt: HostRuntime) -> Result<(), Fail> {
     assert!(rt; ran.written.is_empty());
     Ok(())
 }
+
+#[test]
+fn any_number_of_workers_gives_the_same_table(rt: HostRuntime) -> Result<(), Fail> {
+    let alloc = rt.alloc();
+    let input = generated(alloc, ROWS)?;
+    let job = "group k: count, sum price";
+    let alone = run_in(&rt, alloc, "1073741824", job, &input)?;
+    assert_eq!(rt; alone.outcome.status.number(), 0);
+    for workers in ["2", "4", "16"] {
+        for heap in ["262144", "1073741824"] {
+            let words = [
+                "run",
+                "--workers",
+                workers,
+                "--reserved",
+                "0",
+                "--fraction",
+                "1000",
+                "--part-rows",
+                "2000",
+                "--heap",
+                heap,
+                job,
+            ];
+            let ran = run_with(&rt, alloc, 16, call_of(&words, &input))?;
+            assert_eq!(rt; ran.outcome.status.number(), 0, "{workers} {heap}");
+            assert!(rt;
+                ran.written.as_slice() == alone.written.as_slice(),
+                "{workers} {heap}"
+            );
+        }
+    }
+    Ok(())
+}

@@ -82,8 +82,12 @@ fn tasks_are_done_by_the_workers_of_their_partitions(rt: HostRuntime) -> Result<
             _ => {}
         }
     }
-    // Worker after worker, and the final task last.
-    let wanted = [(0, 0), (0, 4), (1, 1), (1, 5), (2, 2), (3, 3), (0, 6)];
+    // Workers run at the same time, so that theirs may stand in any order between; the final task comes last.
+    assert_eq!(rt; begun.last(), Some(&(0, 6)));
+    assert_eq!(rt; ended.last(), Some(&(0, 6)));
+    begun.sort()?;
+    ended.sort()?;
+    let wanted = [(0, 0), (0, 4), (0, 6), (1, 1), (1, 5), (2, 2), (3, 3)];
     assert_eq!(rt; begun.as_slice(), wanted.as_slice());
     assert_eq!(rt; ended.as_slice(), wanted.as_slice());
     Ok(())

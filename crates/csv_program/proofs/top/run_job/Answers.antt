@@ -19,7 +19,7 @@ use Rattle.csv_program.proofs.StillThere.{keeps_then}
 use Rattle.csv_program.proofs.top.run_job.Goals as goal
 
 pub run_query-requires-clause-consumers : goal.run_query-requires-clause-consumers
-run_query-requires-clause-consumers g c =
+run_query-requires-clause-consumers g c κs within =
     consumers_as (λ consumers. HasConsumers (map g.C.Consumer.state consumers.items)) c.args.posts.now.items c.land_on.new.posts.items c.land_on.ensures.consumers c.requires.consumers
 
 -- ---- an input that isn't landed
