@@ -167,7 +167,8 @@ class Trial:
 
     def one(self, edit, kept):
         kind, said = self.rt.must_fail(self.crate, edit.path, ['--jobs', '1'], kept)
-        edit.refused = kind in (self.rt.REFUSED, self.rt.AT_LIMIT)
+        # An earlier toolchain only tells whether the edit was refused.
+        edit.refused = kind if isinstance(kind, bool) else kind in (self.rt.REFUSED, self.rt.AT_LIMIT)
         edit.said = said.partition(': ')[2]
 
     def together(self, lot, kept):
