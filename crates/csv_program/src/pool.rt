@@ -42,9 +42,9 @@ use task_runner::{
     Executor, Post, WorkFault, run_final, run_workers, swap_consumers, take_consumers,
 };
 
-/// Does all tasks of a plan of one query over landed partitions, in a pool of these sizes: those of the partitions, each worker in a
-/// thread of its own, and then the final one on this thread, which merges their runs into the answer. There is no journal exactly where no
-/// pool could be made.
+/// Does all tasks of a plan of one query over landed partitions, in a pool of these sizes: those of the partitions, each worker
+/// in a thread of its own, and then the final one on this thread, which merges their runs into the answer. There is no journal
+/// exactly where no pool could be made.
 pub fn run_tasks<
     K: Disk + Send,
     D: Disk + Send,

@@ -141,9 +141,9 @@ fn run_job<X: Threads + Wait + Sync, S: Source, W: Sink, D: Disk + Send, C: Cons
 
 /// Runs the job that the words ask for: lands the input on the disks of the workers' posts in partitions of 10,000 rows or as many
 /// as the words say, groups or orders each partition in a task of its worker, merges what the tasks spilled, and prints the table.
-/// The workers run at the same time, each in a thread of its own, and share one memory pool; the final task runs on this thread. Words are `run [OPTION..] JOB`, with options
-/// for the workers, the pool's sizes and the rows (the crate `words`); a job is the text of one query over the input that groups or
-/// orders.
+/// The workers run at the same time, each in a thread of its own, and share one memory pool; the final task runs on this thread.
+/// Words are `run [OPTION..] JOB`, with options for the workers, the pool's sizes and the rows (the crate `words`); a job is the
+/// text of one query over the input that groups or orders.
 ///
 /// Worker `w` uses the post at place `w`, whose disk gets its partitions and its runs. Partitions stay, runs that were merged are
 /// removed, and the run that the table is printed from stays. Each post has sixteen consumers, of which the first eight serve

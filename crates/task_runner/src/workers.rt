@@ -31,7 +31,7 @@ use spill_disk::Disk;
 use std::sync::Wait;
 use std::thread::Threads;
 
-/// Does the tasks of all partitions of a pass, worker after worker on this thread. Partition `p` is of worker `p % workers`, on
+/// Does the tasks of all partitions of a pass, each worker in a thread of its own. Partition `p` is of worker `p % workers`, on
 /// that worker's post, and its task has its number. Answers the runs of what the partitions' rows come to, in the order of the
 /// partitions, each on the disk of its worker; a partition without a row has none. A fault is that of the lowest worker that
 /// failed, and names its post.
