@@ -1,5 +1,5 @@
 -- How far a worker has come with its tasks: none yet, one more, or some when one gave up.
-use Rattle.std.proofs.Common.{◌≡◌, ◌∙◌, ◌∷◌, ◌++◌, ◌+◌, ◌-◌, ◌<◌, ◌≤◌, ◌^◌, [], ℕ, suc, List, Option, min, length, refl, sym, ap, subst, inl, inr, arith}
+use Rattle.std.proofs.Common.{◌≡◌, ◌∙◌, ◌++◌, ◌+◌, ◌-◌, ◌<◌, ◌≤◌, ◌^◌, [], ℕ, suc, List, Option, min, refl, sym, ap, subst, inl, inr, arith}
 use Rattle.std.specs.Prelude.{Err}
 use Rattle.std.proofs.lemmas.List.{length-append}
 use Rattle.run_file.specs.declared.run.Run.{Run}
@@ -7,12 +7,13 @@ use Rattle.run_file.specs.Several.{run_at}
 use Rattle.turn_lock.specs.Passes.{PassState}
 use Rattle.memory_lock.specs.Workers.{IsFree, SeesMore}
 use Rattle.task_memory.proofs.Holding.{prefix_self, prefix_trans}
+use Rattle.task_memory.proofs.Places.{less_or_not}
 use Rattle.task_memory.proofs.Sameness.{leaves_self, leaves_trans}
-use Rattle.job_plan.specs.Plans.{form_in, kind_at}
-use Rattle.job_plan.specs.declared.query_plan.Plan.{Plan}
-use Rattle.task_runner.specs.Consumers.{FeedsOne, place_for}
+use Rattle.job_plan.specs.Plans.{form_in}
 use Rattle.task_runner.specs.OneWorker.{DoesFirst, DoesOne, Scene, Stays}
-use Rattle.task_runner.specs.Workers.{DoesSome, DoesTasks, IfSound, part_at, rows_to}
+use Rattle.task_runner.specs.PassViews.{PassView, parts_of, queries_of, task_for}
+use Rattle.task_runner.specs.Queries.{FeedsAll}
+use Rattle.task_runner.specs.Workers.{DoesSome, IfSound, IsCount, part_at, rows_to}
 use Rattle.task_runner.specs.Works.{MayWork}
 use Rattle.task_runner.specs.declared.work_fault.WorkFault.{WorkFault}
 use Rattle.task_runner.specs.declared.work_fault.WorkFault.TheVariants.{NoRoom, DiskFault, Damaged, NoMemory}
@@ -52,16 +53,17 @@ stays_trans a b c first then = record {
 
 -- ---- none yet, and one more
 
-pub first_none : (plan : Plan) (parts : List Run) (workers : ℕ) (start : Scene) → IsFree start.worker → DoesFirst plan parts workers start start []
+pub first_none : (pass : PassView) (workers : ℕ) (start : Scene) → IsFree start.worker → DoesFirst pass workers start start 0 []
 unfolding rows_to
-first_none plan parts workers start free = record {
+first_none pass workers start free = record {
   stays = stays_self start free;
-  within = λ k below. absurd (omega arith);
-  tells = λ rows hold. tell_none start.files (kind_at plan 0) plan workers start.worker.number rows;
+  many = omega arith;
+  within = λ k below. absurd (omega (arith, below));
+  tells = λ rows hold. tell_none start.files pass workers start.worker.number rows;
   made = made_none start.files;
   only = only_none start.files;
-  fed = feeds_none start.states (place_for (kind_at plan 0));
-  works = does_none workers start.worker;
+  fed = feeds_none start.states pass.plan pass.queries;
+  works = does_none pass.first workers start.worker;
 }
 
 rows_more : (parts : List Run) (workers worker k : ℕ) → rows_to parts workers worker (suc k) ≡ rows_to parts workers worker k + (run_at parts (part_at workers worker k)).count
@@ -74,35 +76,29 @@ within_more workers worker partitions n within last k below =
     let rise = parts_rise workers worker k n (omega (arith, below)) in
     omega (arith, rise, last)
 
-pub first_more : (plan : Plan) (parts : List Run) (workers : ℕ) (start now after : Scene) (answers answers' : List (Option Run)) (answer : Option Run)
-    → part_at workers start.worker.number (length answers) < length parts → DoesFirst plan parts workers start now answers
-    → DoesOne plan (run_at parts (part_at workers start.worker.number (length answers))) (part_at workers start.worker.number (length answers)) now after answer
-    → answers' ≡ answers ++ answer ∷ [] → DoesFirst plan parts workers start after answers'
-first_more plan parts workers start now after answers answers' answer below first one is =
-    subst (DoesFirst plan parts workers start after) (sym is) (record {
+pub first_more : (pass : PassView) (workers : ℕ) (start now after : Scene) (tasks : ℕ) (answers answers' found : List (Option Run)) → DoesFirst pass workers start now tasks answers
+    → 1 ≤ queries_of pass → part_at workers start.worker.number tasks < parts_of pass
+    → DoesOne pass (run_at pass.parts (part_at workers start.worker.number tasks)) (part_at workers start.worker.number tasks) now after found
+    → answers' ≡ answers ++ found → DoesFirst pass workers start after (suc tasks) answers'
+first_more pass workers start now after tasks answers answers' found first some below one is =
+    subst (DoesFirst pass workers start after (suc tasks)) (sym is) (record {
       stays = stays_trans start now after first.stays one.stays;
-      within = λ k within. within_more workers number (length parts) (length answers) first.within below k (omega (arith, within, count));
-      tells = λ rows hold. tell_more now.files after.files (kind_at plan 0) plan workers number rows answers answer one.stays.disk.kept (first.tells rows hold) one.made
-          (one.tells (rows part) (rows_kept start.files now.files (form_in plan) (run_at parts part) (rows part) first.stays.disk.kept (hold (length answers) below)));
-      made = made_more start.files now.files answers answer first.stays.disk.kept first.made one.made;
-      only = only_more start.files now.files after.files answers answer first.stays.disk.kept first.only one.only;
-      fed = subst (λ (n : ℕ). FeedsOne start.states after.states place (rows_to parts workers number n)) (sym count)
-          (subst (FeedsOne start.states after.states place) (sym (rows_more parts workers number (length answers)))
-          (feeds_more start.states now.states after.states place (rows_to parts workers number (length answers)) (run_at parts part).count first.fed one.fed));
-      works = subst (λ (n : ℕ). DoesTasks workers n start.worker after.worker) (sym count) (does_more workers (length answers) start.worker now.worker after.worker first.stays.sees.number_is first.works one.works);
+      many = let whole = length-append answers found in let was = first.many in let more = one.count in omega (arith, whole, was, more);
+      within = λ k within. within_more workers number (parts_of pass) tasks first.within below k within;
+      tells = λ rows hold. tell_more now.files after.files pass workers number tasks rows answers found some first.many one.count one.stays.disk.kept (first.tells rows hold) one.made
+          (one.tells (rows part) (rows_kept start.files now.files (form_in pass.plan) (run_at pass.parts part) (rows part) first.stays.disk.kept (hold tasks below)));
+      made = made_more start.files now.files answers found first.stays.disk.kept first.made one.made;
+      only = only_more start.files now.files after.files answers found first.stays.disk.kept first.only one.only;
+      fed = subst (λ (n : ℕ). FeedsAll start.states after.states pass.plan pass.queries (λ _. n)) (sym (rows_more pass.parts workers number tasks))
+          (feeds_more start.states now.states after.states pass.plan pass.queries (rows_to pass.parts workers number tasks) (run_at pass.parts part).count first.fed one.fed);
+      works = does_more pass.first workers tasks start.worker now.worker after.worker first.stays.sees.number_is first.works one.works;
     })
   where
     number : ℕ
     number = start.worker.number
 
     part : ℕ
-    part = part_at workers start.worker.number (length answers)
-
-    place : ℕ
-    place = place_for (kind_at plan 0)
-
-    count : length (answers ++ answer ∷ []) ≡ suc (length answers)
-    count = let whole = length-append answers (answer ∷ []) in omega (arith, whole)
+    part = part_at workers start.worker.number tasks
 
 -- ---- the count of parts
 
@@ -111,29 +107,38 @@ pub part_is : (part most partitions : ℕ) → part ≡ min most (2 ^ 64 - 1) �
 part_is part most partitions is below few = omega (arith, is, below, few)
 
 -- parts are counted up to the last `u64`
-pub part_first : (workers worker part : ℕ) (answers : List (Option Run)) → answers ≡ [] → part ≡ worker → part < 2 ^ 32 → part ≡ min (part_at workers worker (length answers)) (2 ^ 64 - 1)
-part_first workers worker part answers none is small = rw none (omega (arith, is, small))
+pub part_first : (workers worker part : ℕ) → part ≡ worker → part < 2 ^ 32 → part ≡ min (part_at workers worker 0) (2 ^ 64 - 1)
+part_first workers worker part is small = omega (arith, is, small)
 
-pub part_next : (workers worker part next : ℕ) (answers answers' : List (Option Run)) (answer : Option Run) → answers' ≡ answers ++ answer ∷ [] → part ≡ part_at workers worker (length answers)
-    → next ≡ min (part + workers) (2 ^ 64 - 1) → next ≡ min (part_at workers worker (length answers')) (2 ^ 64 - 1)
-part_next workers worker part next answers answers' answer more is after =
-    let whole = ap (λ (list : List (Option Run)). length list) more ∙ length-append answers (answer ∷ []) in
-    let count : length answers' ≡ suc (length answers) = omega (arith, whole) in
-    let step : part + workers ≡ part_at workers worker (suc (length answers)) = omega (arith, is) in
-    after ∙ ap (λ (n : ℕ). min n (2 ^ 64 - 1)) (step ∙ ap (part_at workers worker) (sym count))
+pub part_next : (workers worker part next tasks tasks' : ℕ) → tasks' ≡ suc tasks → part ≡ part_at workers worker tasks
+    → next ≡ min (part + workers) (2 ^ 64 - 1) → next ≡ min (part_at workers worker tasks') (2 ^ 64 - 1)
+part_next workers worker part next tasks tasks' more is after =
+    let step : part + workers ≡ part_at workers worker (suc tasks) = omega (arith, is) in
+    after ∙ ap (λ (n : ℕ). min n (2 ^ 64 - 1)) (step ∙ ap (part_at workers worker) (sym more))
+
+-- all parts were counted
+pub counts_all : (pass : PassView) (workers : ℕ) (start now : Scene) (tasks : ℕ) (answers : List (Option Run)) (part : ℕ) → DoesFirst pass workers start now tasks answers → parts_of pass ≤ 10000000
+    → part ≡ min (part_at workers start.worker.number tasks) (2 ^ 64 - 1) → parts_of pass ≤ part → IsCount workers start.worker.number (parts_of pass) tasks
+counts_all pass workers start now tasks answers part first few is over = record {
+  within = first.within;
+  covers = λ k inside. elim (less_or_not k tasks) [
+    | inl below ↦ below
+    | inr past ↦ let rise = parts_rise workers start.worker.number tasks k past in absurd (omega (arith, rise, inside, is, over, few))
+  ];
+}
 
 -- ---- a task that gave up
 
 -- tasks that were done, and perhaps one that gave up
-pub some_more : (plan : Plan) (parts : List Run) (workers : ℕ) (start now : Scene) (after : PassState) (answers : List (Option Run)) → DoesFirst plan parts workers start now answers
-    → part_at workers start.worker.number (length answers) < length parts → MayWork (part_at workers start.worker.number (length answers)) now.worker after
-    → DoesSome workers (length parts) start.worker after
-some_more plan parts workers start now after answers first below may = elim may [
-  | inl same ↦ record { count = length answers; within = first.within; does = does_same workers (length answers) start.worker now.worker after first.works same }
+pub some_more : (pass : PassView) (workers : ℕ) (start now : Scene) (after : PassState) (tasks : ℕ) (answers : List (Option Run)) → DoesFirst pass workers start now tasks answers
+    → part_at workers start.worker.number tasks < parts_of pass → MayWork (task_for pass (part_at workers start.worker.number tasks)) now.worker after
+    → DoesSome pass.first workers (parts_of pass) start.worker after
+some_more pass workers start now after tasks answers first below may = elim may [
+  | inl same ↦ record { count = tasks; within = first.within; does = does_same pass.first workers tasks start.worker now.worker after first.works same }
   | inr works ↦ record {
-    count = suc (length answers);
-    within = within_more workers start.worker.number (length parts) (length answers) first.within below;
-    does = does_more workers (length answers) start.worker now.worker after first.stays.sees.number_is first.works works;
+    count = suc tasks;
+    within = within_more workers start.worker.number (parts_of pass) tasks first.within below;
+    does = does_more pass.first workers tasks start.worker now.worker after first.stays.sees.number_is first.works works;
   }
 ]
 

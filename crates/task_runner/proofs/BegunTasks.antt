@@ -1,5 +1,5 @@
 -- Which tasks a worker has begun, and what its entries are, after its first tasks.
-use Rattle.std.proofs.Common.{◌≡◌, ◌≢◌, ◌∙◌, ◌∷◌, ◌++◌, ◌*◌, ◌<◌, ◌≤◌, [], ℕ, zero, suc, List, Bool, false, refl, sym, ap, subst, inl, inr, append_assoc, append-nil, arith}
+use Rattle.std.proofs.Common.{◌≡◌, ◌≢◌, ◌∙◌, ◌∷◌, ◌++◌, ◌+◌, ◌*◌, ◌<◌, ◌≤◌, [], ℕ, zero, suc, List, Bool, false, refl, sym, ap, subst, inl, inr, append_assoc, append-nil, arith}
 use Rattle.std.specs.Prelude.{◌==◌, ◌||◌}
 use Rattle.std.specs.List.{AllByRecursion, list_any}
 use Rattle.std.proofs.Math.Nat.{mul-lt-mul_of_pos_right, mul-le-mul_right}
@@ -48,18 +48,18 @@ begun_task worker task before entries is =
     ∙ ap (λ (es : List Entry). begun (history_of es)) (sym (append_assoc before (first ∷ []) (is.amid ++ last ∷ [])))
     ∙ begun_all (before ++ first ∷ []) (is.amid ++ last ∷ []) rest ∙ ap begun (reverse-append before (first ∷ []))
 
-begun_tasks : (workers worker k task : ℕ) (before added : List Entry) → AreTasks workers worker k added → ((j : ℕ) → j < k → part_at workers worker j ≢ task)
+begun_tasks : (number workers worker k task : ℕ) (before added : List Entry) → AreTasks number workers worker k added → ((j : ℕ) → j < k → part_at workers worker j + number ≢ task)
     → was_begun (history_of (before ++ added)) task ≡ was_begun (history_of before) task
 unfolding AreTasks
-begun_tasks workers worker zero task before added are differs = ap (λ (es : List Entry). was_begun (history_of es) task) (ap (λ (es : List Entry). before ++ es) are ∙ append-nil before)
-begun_tasks workers worker (suc k) task before added are differs =
+begun_tasks number workers worker zero task before added are differs = ap (λ (es : List Entry). was_begun (history_of es) task) (ap (λ (es : List Entry). before ++ es) are ∙ append-nil before)
+begun_tasks number workers worker (suc k) task before added are differs =
     let old = are.0 in
     let last = are.1 in
-    let apart : (part_at workers worker k == task) ≡ false = ne_eqb (part_at workers worker k) task (differs k (omega arith)) in
+    let apart : (part_at workers worker k + number == task) ≡ false = ne_eqb (part_at workers worker k + number) task (differs k (omega arith)) in
     ap (λ (es : List Entry). was_begun (history_of es) task) (ap (λ (es : List Entry). before ++ es) are.4 ∙ sym (append_assoc before old last))
-    ∙ ap (λ (ts : List ℕ). list_any (λ t. t == task) ts) (begun_task worker (part_at workers worker k) (before ++ old) last are.3)
+    ∙ ap (λ (ts : List ℕ). list_any (λ t. t == task) ts) (begun_task worker (part_at workers worker k + number) (before ++ old) last are.3)
     ∙ ap (λ (b : Bool). b || was_begun (history_of (before ++ old)) task) apart
-    ∙ begun_tasks workers worker k task before old are.2 (λ j below. differs j (omega (arith, below)))
+    ∙ begun_tasks number workers worker k task before old are.2 (λ j below. differs j (omega (arith, below)))
 
 -- ---- partitions
 
@@ -76,27 +76,29 @@ parts_rise workers worker j k below =
 -- ---- workers
 
 -- a task that is still to come wasn't begun yet
-pub fresh_still : (workers k : ℕ) (start now : PassState) → 0 < workers → DoesTasks workers k start now
-    → was_begun (own_of start) (part_at workers start.number k) ≡ false → was_begun (own_of now) (part_at workers start.number k) ≡ false
-fresh_still workers k start now some does fresh =
-    let task = part_at workers start.number k in
+pub fresh_still : (number workers k : ℕ) (start now : PassState) → 0 < workers → DoesTasks number workers k start now
+    → was_begun (own_of start) (part_at workers start.number k + number) ≡ false → was_begun (own_of now) (part_at workers start.number k + number) ≡ false
+fresh_still number workers k start now some does fresh =
+    let task = part_at workers start.number k + number in
     ap (λ (es : List Entry). was_begun (history_of es) task) does.2
-    ∙ begun_tasks workers start.number k task (own_entries start) does.0 does.1 (λ j below. parts_apart workers start.number j k some below)
+    ∙ begun_tasks number workers start.number k task (own_entries start) does.0 does.1
+    (λ j below same. parts_apart workers start.number j k some below (omega (arith, same)))
     ∙ fresh
 
-pub does_none : (workers : ℕ) (start : PassState) → DoesTasks workers 0 start start
+pub does_none : (number workers : ℕ) (start : PassState) → DoesTasks number workers 0 start start
 unfolding AreTasks
-does_none workers start = ([], refl, sym (append-nil (own_entries start)))
+does_none number workers start = ([], refl, sym (append-nil (own_entries start)))
 
-pub does_more : (workers k : ℕ) (start now after : PassState) → now.number ≡ start.number → DoesTasks workers k start now
-    → Works (part_at workers start.number k) now after → DoesTasks workers (suc k) start after
+pub does_more : (number workers k : ℕ) (start now after : PassState) → now.number ≡ start.number → DoesTasks number workers k start now
+    → Works (part_at workers start.number k + number) now after → DoesTasks number workers (suc k) start after
 unfolding AreTasks
-does_more workers k start now after number does works =
-    let last : IsTaskOf start.number (part_at workers start.number k) works.0 = subst (λ (n : ℕ). IsTaskOf n (part_at workers start.number k) works.0) number works.1 in (
+does_more number workers k start now after same does works =
+    let task : ℕ = part_at workers start.number k + number in
+    let last : IsTaskOf start.number task works.0 = subst (λ (n : ℕ). IsTaskOf n task works.0) same works.1 in (
       does.0 ++ works.0,
       (does.0, works.0, does.1, last, refl),
       works.2 ∙ ap (λ (es : List Entry). es ++ works.0) does.2 ∙ append_assoc (own_entries start) does.0 works.0,
     )
 
-pub does_same : (workers k : ℕ) (start now after : PassState) → DoesTasks workers k start now → own_entries after ≡ own_entries now → DoesTasks workers k start after
-does_same workers k start now after does same = (does.0, does.1, same ∙ does.2)
+pub does_same : (number workers k : ℕ) (start now after : PassState) → DoesTasks number workers k start now → own_entries after ≡ own_entries now → DoesTasks number workers k start after
+does_same number workers k start now after does same = (does.0, does.1, same ∙ does.2)

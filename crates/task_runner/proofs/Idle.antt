@@ -8,18 +8,19 @@ use Rattle.memory_lock.specs.Workers.{IsFree, SeesMore, own_entries}
 use Rattle.consumer_trait.specs.States.{State}
 use Rattle.task_runner.specs.AllWorkers.{Leaves, faults_of, files_of, states_of}
 use Rattle.task_runner.specs.Consumers.{KeepsConsumers}
+use Rattle.task_runner.specs.PassViews.{PassView, parts_of}
 use Rattle.task_runner.specs.Workers.{AreTasks, DoesSome}
 use Rattle.task_runner.specs.declared.post.Post.{Post}
 
-no_tasks : (workers worker : ℕ) → AreTasks workers worker 0 []
+no_tasks : (number workers worker : ℕ) → AreTasks number workers worker 0 []
 unfolding AreTasks
-no_tasks workers worker = refl
+no_tasks number workers worker = refl
 
-pub does_none : (workers partitions : ℕ) (worker : PassState) → DoesSome workers partitions worker worker
-does_none workers partitions worker = record {
+pub does_none : (number workers partitions : ℕ) (worker : PassState) → DoesSome number workers partitions worker worker
+does_none number workers partitions worker = record {
   count = 0;
   within = λ k below. absurd (omega (arith, below));
-  does = ([], no_tasks workers worker.number, sym (append-nil (own_entries worker)));
+  does = ([], no_tasks number workers worker.number, sym (append-nil (own_entries worker)));
 }
 
 pub sees_same : (worker : PassState) → SeesMore worker worker
@@ -42,10 +43,10 @@ pub leaves_disk : (files : Option Files) (faults : ℕ) → LeavesDisk files fil
 leaves_disk files faults = record { kept = keeps_files files; later = omega arith }
 
 -- a worker and a post that are as they were
-pub leaves_same : {D C : Type 0} (state : C → State) (files : D → Option Files) (faults : D → ℕ) (workers partitions : ℕ) (worker : PassState) (post : Option (Post D C)) → IsFree worker
-    → Leaves state files faults workers partitions worker worker post post
-leaves_same state files faults workers partitions worker post free = record {
-  may_work = does_none workers partitions worker;
+pub leaves_same : {D C : Type 0} (state : C → State) (files : D → Option Files) (faults : D → ℕ) (workers : ℕ) (pass : PassView) (worker : PassState) (post : Option (Post D C)) → IsFree worker
+    → Leaves state files faults workers pass worker worker post post
+leaves_same state files faults workers pass worker post free = record {
+  may_work = does_none pass.first workers (parts_of pass) worker;
   free = free;
   pin = refl;
   sees = sees_same worker;

@@ -16,6 +16,7 @@ mod Gathers
 mod Idle
 mod Reaching
 mod OtherFaults
+mod FinishedOne
 mod WholePass
 mod Behind
 mod Feeds
@@ -27,7 +28,10 @@ mod Starts
 mod LeftRuns
 mod MergedRuns
 mod MergedAll
-mod OneQuery
+mod OneList
+mod FilesOfLists
+mod TotalsOfLists
+mod AllLists
 mod FromRuns
 mod Leaving
 mod Charged

@@ -22,7 +22,7 @@ use Rattle.task_runner.specs.Queries.{kind_in}
 use Rattle.task_runner.specs.Spilling.{AllNew, AreListsApart, HaveTotal, IsNoneIn, LeavesRuns}
 use Rattle.task_runner.specs.Workers.{AnswersApart, AreMade, HasAnswer, answer_at}
 use Rattle.task_runner.proofs.Behind.{at_more}
-use Rattle.task_runner.proofs.KeptRuns.{answer_stays, at_within, have_there, made_more, made_none, not_fresh, stands_at}
+use Rattle.task_runner.proofs.KeptRuns.{answer_stays, at_within, have_there, made_more, made_none, made_one, not_fresh, stands_at}
 use Rattle.task_runner.proofs.LeftRuns.{Among, answer_apart, kept_left, made_before, same_left, telling_now}
 
 -- ---- what was merged so far
@@ -281,7 +281,7 @@ module _ (before old new : Option Files) (plan : Plan) (queries : List ℕ) (ent
     bounded = at_left (λ i list. All IsBounded list) (λ i other. so_far.bounded i) (λ k any below. absurd (omega (arith, below)));
     fresh = at_left (λ i list. (k : ℕ) → k < length list → WasNotThere before (taken_at list k).file) (λ i other. so_far.fresh i) (λ k below. absurd (omega (arith, below)));
     stay = kept_left before old new runs fresh_here so_far.stay merges.tells (merges.others 0);
-    made = made_more before before answers answer (files_self before) so_far.made (made_before before old runs answer fresh_here so_far.stay merges.bounded merges.fresh);
+    made = made_more before before answers (answer ∷ []) (files_self before) so_far.made (made_one before answer (made_before before old runs answer fresh_here so_far.stay merges.bounded merges.fresh));
     only = only_more;
     totals = totals_more;
   }

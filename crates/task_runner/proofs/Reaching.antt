@@ -1,31 +1,30 @@
 -- What is known of all workers of a pass.
-use Rattle.std.proofs.Common.{◌≡◌, ℕ, ◌<◌, ◌≤◌, ◌%◌, List, Option, length, ap, subst, inl, inr, arith}
+use Rattle.std.proofs.Common.{◌≡◌, ℕ, ◌<◌, ◌≤◌, List, Option, ap, subst, inl, inr, arith}
 use Rattle.std.specs.Prelude.{slice_get}
 use Rattle.std.proofs.lemmas.Bool.{cases_lt}
 use Rattle.spill_disk.specs.Files.{Files}
-use Rattle.run_file.specs.declared.run.Run.{Run}
 use Rattle.run_file.specs.Several.{run_at}
 use Rattle.turn_lock.specs.Passes.{PassState}
 use Rattle.consumer_trait.specs.States.{State}
 use Rattle.job_plan.specs.Plans.{form_in}
-use Rattle.job_plan.specs.declared.query_plan.Plan.{Plan}
-use Rattle.task_runner.specs.AllWorkers.{HoldsOwn, Reached, faults_of, files_of}
+use Rattle.task_runner.specs.AllWorkers.{Reached, faults_of, files_of}
+use Rattle.task_runner.specs.PartAnswers.{HoldsAll, HoldsOwn}
 use Rattle.task_runner.specs.Parts.{HoldsRows}
+use Rattle.task_runner.specs.PassViews.{PassView}
 use Rattle.task_runner.specs.Workers.{part_at}
 use Rattle.task_runner.specs.declared.post.Post.{Post}
 use Rattle.task_runner.proofs.OfPartitions.{worker_of}
 
 -- the rows of all partitions are those of a worker's, too
-pub holds_of : {D C : Type 0} (files : D → Option Files) (plan : Plan) (parts : List Run) (workers n : ℕ) (rows : ℕ → List (List (List ℕ))) (posts : List (Post D C)) → n < workers
-    → ((part : ℕ) → part < length parts → HoldsRows (files_of files (slice_get posts (part % workers))) (form_in plan) (run_at parts part) (rows part))
-    → HoldsOwn (files_of files (slice_get posts n)) plan parts workers n rows
-holds_of files plan parts workers n rows posts below holds k within =
-    subst (λ (w : ℕ). HoldsRows (files_of files (slice_get posts w)) (form_in plan) (run_at parts (part_at workers n k)) (rows (part_at workers n k))) (worker_of workers n k below) (holds (part_at workers n k) within)
+pub holds_of : {D C : Type 0} (files : D → Option Files) (pass : PassView) (workers n : ℕ) (rows : ℕ → List (List (List ℕ))) (posts : List (Post D C)) → n < workers
+    → HoldsAll (λ place. files_of files (slice_get posts place)) pass workers rows → HoldsOwn (files_of files (slice_get posts n)) pass workers n rows
+holds_of files pass workers n rows posts below holds k within =
+    subst (λ (w : ℕ). HoldsRows (files_of files (slice_get posts w)) (form_in pass.plan) (run_at pass.parts (part_at workers n k)) (rows (part_at workers n k))) (worker_of workers n k below) (holds (part_at workers n k) within)
 
 -- no count of faults fell
-pub later_of : {D C : Type 0} (state : C → State) (files : D → Option Files) (faults : D → ℕ) (workers partitions n : ℕ) (olds news : List PassState) (posts posts' : List (Post D C)) (any : PassState)
-    → Reached state files faults workers partitions n olds news posts posts' → (place : ℕ) → faults_of faults (slice_get posts place) ≤ faults_of faults (slice_get posts' place)
-later_of {D = D} {C = C} state files faults workers partitions n olds news posts posts' any so_far place =
+pub later_of : {D C : Type 0} (state : C → State) (files : D → Option Files) (faults : D → ℕ) (workers n : ℕ) (pass : PassView) (olds news : List PassState) (posts posts' : List (Post D C)) (any : PassState)
+    → Reached state files faults workers n pass olds news posts posts' → (place : ℕ) → faults_of faults (slice_get posts place) ≤ faults_of faults (slice_get posts' place)
+later_of {D = D} {C = C} state files faults workers n pass olds news posts posts' any so_far place =
     elim (cases_lt place n) [
       | inl low ↦ (so_far.each place any low).disk.later
       | inr high ↦

@@ -1,124 +1,216 @@
 -- What the workers of a pass did and answered, as the pass tells it.
-use Rattle.std.proofs.Common.{◌≡◌, ◌∙◌, ℕ, zero, suc, ◌<◌, ◌≤◌, ◌%◌, ◌/◌, List, [], ◌∷◌, Option, Some, None, length, refl, sym, ap, subst, inl, inr, arith}
+use Rattle.std.proofs.Common.{◌≡◌, ◌∙◌, ℕ, zero, suc, ◌<◌, ◌≤◌, ◌*◌, ◌%◌, ◌/◌, List, [], ◌∷◌, Option, Some, None, length, refl, sym, ap, subst, inl, inr, arith}
 use Rattle.std.specs.Prelude.{All, IfSome, slice_get}
 use Rattle.std.specs.List.{AllByRecursion}
-use Rattle.std.proofs.Math.Nat.{mod-lt}
+use Rattle.std.proofs.Math.Nat.{mod-lt, mul-le-mul_right}
 use Rattle.std.proofs.lemmas.Bool.{cases_lt}
+use Rattle.std.proofs.lemmas.List.{get_or_past}
 use Rattle.spill_disk.specs.Files.{Files}
 use Rattle.run_file.specs.declared.run.Run.{Run}
-use Rattle.run_file.specs.Several.{IsFileAmong, KeepsFile}
-use Rattle.run_file.specs.Several.{run_at}
+use Rattle.run_file.specs.Several.{IsFileAmong, KeepsFile, run_at as run_in}
 use Rattle.task_memory.specs.Disks.{KeepsFiles, SameAt}
+use Rattle.task_memory.specs.RunLists.{runs_at}
 use Rattle.task_memory.specs.Writing.{WasNotThere}
+use Rattle.task_memory.proofs.Places.{less_or_not}
 use Rattle.task_memory.proofs.Sameness.{same_at_self}
 use Rattle.turn_lock.specs.Passes.{LockId, PassState}
 use Rattle.memory_lock.specs.Crew.{AreWorkers}
 use Rattle.consumer_trait.specs.States.{State}
-use Rattle.job_plan.specs.Plans.{form_in, kind_at}
-use Rattle.job_plan.specs.declared.query_plan.Plan.{Plan}
-use Rattle.task_runner.specs.AllWorkers.{Finished, HoldsOwn, Reached, answers_of, files_of, states_of}
-use Rattle.task_runner.specs.Consumers.{KeepsConsumers, place_for, FeedsOne}
+use Rattle.task_runner.specs.AllWorkers.{Finished, Reached, answers_of, files_of, states_of}
+use Rattle.task_runner.specs.Consumers.{KeepsConsumers}
 use Rattle.task_runner.specs.Gathered.{answer_for, gathered}
-use Rattle.task_runner.specs.Parts.{HoldsRows, IsMade, entries_in}
-use Rattle.task_runner.specs.Pass.{FeedsParts, LeavesOnlyRuns, AnswerAllParts}
-use Rattle.task_runner.specs.Workers.{HasAnswer, IsCount, AnswerParts, answer_at, part_at, rows_to}
+use Rattle.task_runner.specs.PartAnswers.{AnswerParts, HoldsAll, HoldsOwn, answer_place}
+use Rattle.task_runner.specs.Parts.{IsMade}
+use Rattle.task_runner.specs.Pass.{AnswerAllParts, AnswerEachPart, FeedsParts, LeavesOnlyRuns}
+use Rattle.task_runner.specs.PassViews.{PassView, parts_of, queries_of}
+use Rattle.task_runner.specs.Queries.{FeedsAll, kind_in, made_in}
+use Rattle.task_runner.specs.RunsApart.{AllOfLists, AreAllApart, IsFileOfLists}
+use Rattle.task_runner.specs.Workers.{AnswersApart, HasAnswer, IsCount, answer_at, part_at, rows_to}
 use Rattle.task_runner.specs.declared.post.Post.{Post}
-use Rattle.task_runner.proofs.Gathers.{gathered_among, gathered_apart, gathered_have, gathered_new, gathered_small}
+use Rattle.task_runner.proofs.Gathers.{gathered_among, gathered_apart, gathered_few, gathered_have, gathered_new, gathered_on, gathered_small, queries_apart}
 use Rattle.task_runner.proofs.Idle.{keeps_consumers}
-use Rattle.task_runner.proofs.KeptRuns.{at_within}
+use Rattle.task_runner.proofs.KeptRuns.{at_within, earlier_task, task_and_query}
 use Rattle.task_runner.proofs.OfPartitions.{part_is, task_of, task_within, worker_of}
 use Rattle.task_runner.proofs.Reaching.{holds_of}
-
--- each worker answered all of its partitions
-pub counts_of : {D C : Type 0} (state : C → State) (files : D → Option Files) (workers size : ℕ) (plan : Plan) (parts : List Run) (lock : LockId) (olds news : List PassState) (posts posts' : List (Post D C)) (all : List (List (Option Run))) (any : PassState)
-    → size ≡ workers → AreWorkers lock workers olds → Finished state files workers workers plan parts olds news posts posts' all
-    → (w : ℕ) → w < size → IsCount size w (length parts) (length (answers_of all w))
-counts_of state files workers size plan parts lock olds news posts posts' all any same are done w below =
-    let known : w < workers = omega (arith, same, below) in
-    let number = (are.1 w any known).number_is in
-    subst (λ (n : ℕ). IsCount n w (length parts) (length (answers_of all w))) (sym same)
-    (subst (λ (n : ℕ). IsCount workers n (length parts) (length (answers_of all w))) number (done.each w any known).count)
-
--- each worker's answers tell what its rows come to
-pub tells_of : {D C : Type 0} (state : C → State) (files : D → Option Files) (workers : ℕ) (plan : Plan) (parts : List Run) (lock : LockId) (olds news : List PassState) (posts posts' : List (Post D C)) (all : List (List (Option Run))) (any : PassState) (rows : ℕ → List (List (List ℕ)))
-    → AreWorkers lock workers olds → Finished state files workers workers plan parts olds news posts posts' all
-    → ((part : ℕ) → part < length parts → HoldsRows (files_of files (slice_get posts (part % workers))) (form_in plan) (run_at parts part) (rows part))
-    → (w : ℕ) → w < workers → AnswerParts (files_of files (slice_get posts' w)) (kind_at plan 0) plan workers w rows (answers_of all w)
-tells_of state files workers plan parts lock olds news posts posts' all any rows are done holds w below =
-    let number = (are.1 w any below).number_is in
-    let own = holds_of files plan parts workers w rows posts below holds in
-    subst (λ (n : ℕ). AnswerParts (files_of files (slice_get posts' w)) (kind_at plan 0) plan workers n rows (answers_of all w)) number
-    ((done.each w any below).tells rows (subst (λ (n : ℕ). HoldsOwn (files_of files (slice_get posts w)) plan parts workers n rows) (sym number) own))
-
--- the runs tell what the rows of all partitions come to
-pub tell_all : {D C : Type 0} (state : C → State) (files : D → Option Files) (workers size : ℕ) (plan : Plan) (parts : List Run) (lock : LockId) (olds news : List PassState) (posts posts' : List (Post D C)) (all : List (List (Option Run))) (any : PassState) (rows : ℕ → List (List (List ℕ))) (runs : List Run)
-    → 1 ≤ workers → size ≡ workers → AreWorkers lock workers olds → Finished state files workers workers plan parts olds news posts posts' all
-    → ((part : ℕ) → part < length parts → HoldsRows (files_of files (slice_get posts (part % workers))) (form_in plan) (run_at parts part) (rows part))
-    → runs ≡ gathered all size (length parts)
-    → AnswerAllParts (λ place. files_of files (slice_get posts' place)) (kind_at plan 0) plan (length parts) rows runs
-tell_all state files workers size plan parts lock olds news posts posts' all any rows runs some same are done holds is =
-    let kind = kind_at plan 0 in
-    let after : ℕ → Option Files = λ place. files_of files (slice_get posts' place) in
-    let tells = tells_of state files workers plan parts lock olds news posts posts' all any rows are done holds in
-    let counts = counts_of state files workers workers plan parts lock olds news posts posts' all any refl are done in
-    let have = gathered_have after kind (λ part. entries_in plan 0 (rows part)) all workers (length parts)
-    (λ part below.
-    let known : part % workers < workers = mod-lt part (omega (arith, some)) in
-    let within = task_within workers part (length parts) (length (answers_of all (part % workers))) below (counts (part % workers) known) in
-    subst (λ (p : ℕ). HasAnswer (after (part % workers)) kind (answer_for all workers part) (entries_in plan 0 (rows p))) (part_is workers part) ((tells (part % workers) known).each (part / workers) within)) in
-    let apart = gathered_apart all workers (length parts) some (λ w below. (tells w below).apart) in
-    subst (λ (rs : List Run). AnswerAllParts after kind plan (length parts) rows rs) (sym (is ∙ ap (λ (n : ℕ). gathered all n (length parts)) same))
-    (record { lists = have.lists; have = have.have; apart = apart; same = have.same })
-
-made_small : (before : Option Files) (answer : Option Run) → IfSome answer (IsMade before) → IfSome answer (λ run. run.greatest ≤ 196752)
-made_small before None made = tt
-made_small before (Some run) made = made.bounded
-
--- no row of theirs costs more than a merge can count on
-pub all_small : {D C : Type 0} (state : C → State) (files : D → Option Files) (workers size : ℕ) (plan : Plan) (parts : List Run) (olds news : List PassState) (posts posts' : List (Post D C)) (all : List (List (Option Run))) (any : PassState) (runs : List Run)
-    → 1 ≤ workers → size ≡ workers → Finished state files workers workers plan parts olds news posts posts' all → runs ≡ gathered all size (length parts)
-    → AllByRecursion (λ run. run.greatest ≤ 196752) runs
-all_small state files workers size plan parts olds news posts posts' all any runs some same done is =
-    subst (λ (rs : List Run). AllByRecursion (λ run. run.greatest ≤ 196752) rs) (sym (is ∙ ap (λ (n : ℕ). gathered all n (length parts)) same))
-    (gathered_small 196752 all workers (length parts)
-    (λ part below.
-    let known : part % workers < workers = mod-lt part (omega (arith, some)) in
-    made_small (files_of files (slice_get posts (part % workers))) (answer_for all workers part) ((done.each (part % workers) any known).made (part / workers))))
-
-made_new : (before : Option Files) (answer : Option Run) → IfSome answer (IsMade before) → IfSome answer (λ run. WasNotThere before run.file)
-made_new before None made = tt
-made_new before (Some run) made = made.fresh
-
--- the file of each wasn't there before
-pub all_new : {D C : Type 0} (state : C → State) (files : D → Option Files) (workers size : ℕ) (plan : Plan) (parts : List Run) (olds news : List PassState) (posts posts' : List (Post D C)) (all : List (List (Option Run))) (any : PassState) (runs : List Run)
-    → 1 ≤ workers → size ≡ workers → Finished state files workers workers plan parts olds news posts posts' all → runs ≡ gathered all size (length parts)
-    → AllByRecursion (λ run. WasNotThere (files_of files (slice_get posts run.disk)) run.file) runs
-all_new state files workers size plan parts olds news posts posts' all any runs some same done is =
-    let before : ℕ → Option Files = λ place. files_of files (slice_get posts place) in
-    subst (λ (rs : List Run). AllByRecursion (λ run. WasNotThere (before run.disk) run.file) rs) (sym (is ∙ ap (λ (n : ℕ). gathered all n (length parts)) same))
-    (gathered_new before all workers (length parts)
-    (λ part below.
-    let known : part % workers < workers = mod-lt part (omega (arith, some)) in
-    made_new (before (part % workers)) (answer_for all workers part) ((done.each (part % workers) any known).made (part / workers))))
-
--- each worker's consumer was fed the rows of all of its partitions
-pub feeds_parts : {D C : Type 0} (state : C → State) (files : D → Option Files) (workers : ℕ) (plan : Plan) (parts : List Run) (lock : LockId) (olds news : List PassState) (posts posts' : List (Post D C)) (all : List (List (Option Run))) (any : PassState)
-    → AreWorkers lock workers olds → Finished state files workers workers plan parts olds news posts posts' all
-    → (w : ℕ) → w < workers → FeedsParts (states_of state (slice_get posts w)) (states_of state (slice_get posts' w)) (place_for (kind_at plan 0)) parts workers w
-feeds_parts state files workers plan parts lock olds news posts posts' all any are done w below =
-    let number = (are.1 w any below).number_is in
-    let one = done.each w any below in
-    record {
-      count = length (answers_of all w);
-      all = subst (λ (n : ℕ). IsCount workers n (length parts) (length (answers_of all w))) number one.count;
-      feeds = subst (λ (n : ℕ). FeedsOne (states_of state (slice_get posts w)) (states_of state (slice_get posts' w)) (place_for (kind_at plan 0)) (rows_to parts workers n (length (answers_of all w)))) number one.feeds;
-    }
 
 -- what holds of all holds at each place
 pub all_of : {X : Type 0} (P : X → Type 0) (xs : List X) → AllByRecursion P xs → All P xs
 all_of P [] all k d below = absurd (omega (arith, below))
 all_of P (x ∷ xs) all zero d below = all.0
 all_of P (x ∷ xs) all (suc k) d below = all_of P xs all.1 k d (omega (arith, below))
+
+made_small : (before : Option Files) (answer : Option Run) → IfSome answer (IsMade before) → IfSome answer (λ run. run.greatest ≤ 196752)
+made_small before None made = tt
+made_small before (Some run) made = made.bounded
+
+made_new : (before : Option Files) (answer : Option Run) → IfSome answer (IsMade before) → IfSome answer (λ run. WasNotThere before run.file)
+made_new before None made = tt
+made_new before (Some run) made = made.fresh
+
+-- ---- the runs that all workers answered, a list for each query
+
+module _ {D C : Type 0} (state : C → State) (files : D → Option Files) (workers : ℕ) (pass : PassView) (lock : LockId) (olds news : List PassState) (posts posts' : List (Post D C)) (all : List (List (Option Run))) (any : PassState)
+    (some : 1 ≤ workers) (are : AreWorkers lock workers olds) (done : Finished state files workers workers pass olds news posts posts' all) where
+  abbrev n : ℕ
+  n = queries_of pass
+
+  abbrev before : ℕ → Option Files
+  before place = files_of files (slice_get posts place)
+
+  abbrev after : ℕ → Option Files
+  after place = files_of files (slice_get posts' place)
+
+  -- how many tasks each worker did
+  abbrev tasks_of : (w : ℕ) → w < workers → ℕ
+  tasks_of w below = (done.each w any below).tasks
+
+  counts_of : (w : ℕ) (below : w < workers) → IsCount workers w (parts_of pass) (tasks_of w below)
+  counts_of w below =
+      let number = (are.1 w any below).number_is in
+      subst (λ (m : ℕ). IsCount workers m (parts_of pass) (tasks_of w below)) number (done.each w any below).count
+
+  -- each partition has an answer to each query
+  place_within : (part i : ℕ) → part < parts_of pass → i < n → answer_place n (part / workers) i < length (answers_of all (part % workers))
+  place_within part i below query =
+      let known : part % workers < workers = mod-lt part (omega (arith, some)) in
+      let within = task_within workers part (parts_of pass) (tasks_of (part % workers) known) below (counts_of (part % workers) known) in
+      let most : suc (part / workers) * n ≤ tasks_of (part % workers) known * n = mul-le-mul_right n (omega (arith, within)) in
+      let many = (done.each (part % workers) any known).many in
+      omega (arith, most, many, query)
+
+  pub answered_of : (size : ℕ) → size ≡ workers → (part i : ℕ) → part < parts_of pass → i < n → answer_place n (part / size) i < length (answers_of all (part % size))
+  answered_of size same part i below query = rw same (place_within part i below query)
+
+  -- each worker's answers tell what its rows come to
+  tells_of : (rows : ℕ → List (List (List ℕ))) → HoldsAll before pass workers rows → (w : ℕ) → w < workers → AnswerParts (after w) pass workers w rows (answers_of all w)
+  tells_of rows holds w below =
+      let number = (are.1 w any below).number_is in
+      let own = holds_of files pass workers w rows posts below holds in
+      subst (λ (m : ℕ). AnswerParts (after w) pass workers m rows (answers_of all w)) number
+      ((done.each w any below).tells rows (subst (λ (m : ℕ). HoldsOwn (before w) pass workers m rows) (sym number) own))
+
+  -- each worker's consumers were fed the rows of all of its partitions
+  pub feeds_parts : (w : ℕ) → w < workers → FeedsParts (states_of state (slice_get posts w)) (states_of state (slice_get posts' w)) pass workers w
+  feeds_parts w below =
+      let number = (are.1 w any below).number_is in
+      let one = done.each w any below in
+      record {
+        count = tasks_of w below;
+        all = counts_of w below;
+        feeds = subst (λ (m : ℕ). FeedsAll (states_of state (slice_get posts w)) (states_of state (slice_get posts' w)) pass.plan pass.queries (λ _. rows_to pass.parts workers m (tasks_of w below))) number one.feeds;
+      }
+
+  module _ (size : ℕ) (lists : List (List Run)) (same : size ≡ workers) (count : length lists ≡ n) (is : (i : ℕ) → i < n → runs_at lists i ≡ gathered n i all size (parts_of pass)) where
+    list_is : (i : ℕ) → i < n → runs_at lists i ≡ gathered n i all workers (parts_of pass)
+    list_is i query = is i query ∙ ap (λ (m : ℕ). gathered n i all m (parts_of pass)) same
+
+    -- what holds of the runs of each query, and of none, holds of each list
+    by_list : (P : ℕ → List Run → Type 0) → ((i : ℕ) → i < n → P i (gathered n i all workers (parts_of pass))) → ((i : ℕ) → P i []) → (i : ℕ) → P i (runs_at lists i)
+    by_list P each none i = elim (less_or_not i n) [
+      | inl query ↦ subst (P i) (sym (list_is i query)) (each i query)
+      | inr past ↦ subst (P i) (sym (get_or_past lists i [] (omega (arith, past, count)))) (none i)
+    ]
+
+    none_all : (P : Run → Type 0) → All P []
+    none_all P k d below = absurd (omega (arith, below))
+
+    -- at most one for each partition
+    pub all_few : (i : ℕ) → length (runs_at lists i) ≤ parts_of pass
+    all_few = by_list (λ i runs. length runs ≤ parts_of pass) (λ i query. gathered_few n i all workers (parts_of pass)) (λ i. omega arith)
+
+    -- they are on the workers' disks
+    pub all_there : AllOfLists (λ run. run.disk < workers) lists
+    all_there = by_list (λ i runs. All (λ run. run.disk < workers) runs)
+        (λ i query. all_of (λ run. run.disk < workers) (gathered n i all workers (parts_of pass)) (gathered_on n i all workers (parts_of pass) some)) (λ i. none_all (λ run. run.disk < workers))
+
+    -- no row of theirs costs more than a merge can count on
+    pub all_small : AllOfLists (λ run. run.greatest ≤ 196752) lists
+    all_small = by_list (λ i runs. All (λ run. run.greatest ≤ 196752) runs)
+        (λ i query. all_of (λ run. run.greatest ≤ 196752) (gathered n i all workers (parts_of pass)) (gathered_small 196752 n i all workers (parts_of pass)
+        (λ part below.
+        let known : part % workers < workers = mod-lt part (omega (arith, some)) in
+        made_small (before (part % workers)) (answer_for n i all workers part) ((done.each (part % workers) any known).made (answer_place n (part / workers) i)))))
+        (λ i. none_all (λ run. run.greatest ≤ 196752))
+
+    -- the file of each wasn't there before
+    pub all_new : AllOfLists (λ run. WasNotThere (before run.disk) run.file) lists
+    all_new = by_list (λ i runs. All (λ run. WasNotThere (before run.disk) run.file) runs)
+        (λ i query. all_of (λ run. WasNotThere (before run.disk) run.file) (gathered n i all workers (parts_of pass)) (gathered_new before n i all workers (parts_of pass)
+        (λ part below.
+        let known : part % workers < workers = mod-lt part (omega (arith, some)) in
+        made_new (before (part % workers)) (answer_for n i all workers part) ((done.each (part % workers) any known).made (answer_place n (part / workers) i)))))
+        (λ i. none_all (λ run. WasNotThere (before run.disk) run.file))
+
+    -- they tell what each query makes of the rows of all partitions
+    pub tell_all : (rows : ℕ → List (List (List ℕ))) → HoldsAll before pass workers rows → AnswerAllParts after pass rows lists
+    tell_all rows holds =
+        let tells = tells_of rows holds in
+        record {
+          each = λ i query.
+              let kind = kind_in pass.plan pass.queries i in
+              let have = gathered_have after kind (λ part. made_in pass.plan pass.queries (rows part) i) n i all workers (parts_of pass)
+              (λ part below.
+              let known : part % workers < workers = mod-lt part (omega (arith, some)) in
+              subst (λ (p : ℕ). HasAnswer (after (part % workers)) kind (answer_for n i all workers part) (made_in pass.plan pass.queries (rows p) i)) (part_is workers part)
+              ((tells (part % workers) known).each (part / workers) i query (place_within part i below query))) in
+              subst (λ (runs : List Run). AnswerEachPart after pass i rows runs) (sym (list_is i query)) (record { lists = have.lists; have = have.have; same = have.same });
+          apart = apart;
+        }
+      where
+        own : (w : ℕ) → w < workers → AnswersApart (answers_of all w)
+        own w below = (tells_of rows holds w below).apart
+
+        pair : (i j k l : ℕ) → i < n → j < n → k < length (gathered n i all workers (parts_of pass)) → l < length (gathered n j all workers (parts_of pass))
+            → (run_in (gathered n i all workers (parts_of pass)) k).disk ≡ (run_in (gathered n j all workers (parts_of pass)) l).disk
+            → (run_in (gathered n i all workers (parts_of pass)) k).file ≡ (run_in (gathered n j all workers (parts_of pass)) l).file → (i ≡ j) × (k ≡ l)
+        pair i j k l query query' below below' on called =
+            let one : i ≡ j = queries_apart n i j all workers (parts_of pass) k l query query' some own below below' on called in
+            let alike : gathered n j all workers (parts_of pass) ≡ gathered n i all workers (parts_of pass) = ap (λ (q : ℕ). gathered n q all workers (parts_of pass)) (sym one) in (
+              one,
+              gathered_apart n i all workers (parts_of pass) query some own k l below (subst (λ (rs : List Run). l < length rs) alike below')
+                  (on ∙ ap (λ (rs : List Run). (run_in rs l).disk) alike) (called ∙ ap (λ (rs : List Run). (run_in rs l).file) alike),
+            )
+
+        apart : AreAllApart (λ disk. disk) lists
+        apart i j k l below below' on called = by_list
+            (λ i runs. (j k l : ℕ) → k < length runs → l < length (runs_at lists j) → (run_in runs k).disk ≡ (run_in (runs_at lists j) l).disk → (run_in runs k).file ≡ (run_in (runs_at lists j) l).file → (i ≡ j) × (k ≡ l))
+            (λ i query. by_list
+            (λ j runs. (k l : ℕ) → k < length (gathered n i all workers (parts_of pass)) → l < length runs → (run_in (gathered n i all workers (parts_of pass)) k).disk ≡ (run_in runs l).disk
+            → (run_in (gathered n i all workers (parts_of pass)) k).file ≡ (run_in runs l).file → (i ≡ j) × (k ≡ l))
+            (λ j query' k l below below' on called. pair i j k l query query' below below' on called)
+            (λ j k l below below' on called. absurd (omega (arith, below'))))
+            (λ i j k l below below' on called. absurd (omega (arith, below)))
+            i j k l below below' on called
+
+    -- no file was made or changed but those of the runs
+    pub only_all : (faults : D → ℕ) → 1 ≤ n → Reached state files faults workers workers pass olds news posts posts' → LeavesOnlyRuns before after lists
+    only_all faults queries so_far disk file apart =
+        elim (cases_lt disk workers) [
+          | inl low ↦
+              (done.each disk any low).only file (λ k run answer called. apart (subst (λ (f : ℕ). IsFileOfLists (λ number. number) lists disk f) called (answer_among disk k low run answer)))
+          | inr high ↦ subst (λ (p : Option (Post D C)). SameAt (before disk) (files_of files p) file) (sym (so_far.others disk high)) (same_at_self (before disk) file)
+        ]
+      where
+        -- an answer of a worker is among the runs
+        answer_among : (disk k : ℕ) → disk < workers → (run : Run) → answer_at (answers_of all disk) k ≡ Some run → IsFileOfLists (λ number. number) lists disk run.file
+        answer_among disk k low run answer =
+            let at : answer_place n (k / n) (k % n) ≡ k = task_and_query n k in
+            let query : k % n < n = mod-lt k (omega (arith, queries)) in
+            let many = (done.each disk any low).many in
+            let inside = at_within (answers_of all disk) k run answer in
+            let task = earlier_task n (k / n) (k % n) (tasks_of disk low) (omega (arith, inside, at, many)) in
+            let part : ℕ = part_at workers disk (k / n) in
+            let below : part < parts_of pass = (counts_of disk low).within (k / n) task in
+            let worker : part % workers ≡ disk = worker_of workers disk (k / n) low in
+            let its : part / workers ≡ k / n = task_of workers disk (k / n) low in
+            let found : answer_for n (k % n) all workers part ≡ Some run =
+            ap (λ (w : ℕ). answer_at (answers_of all w) (answer_place n (part / workers) (k % n))) worker
+            ∙ ap (λ (t : ℕ). answer_at (answers_of all disk) (answer_place n t (k % n))) its ∙ ap (answer_at (answers_of all disk)) at ∙ answer in (
+              k % n,
+              subst (λ (rs : List Run). IsFileAmong (λ number. number) rs disk run.file) (sym (list_is (k % n) query))
+                  (subst (λ (d : ℕ). IsFileAmong (λ number. number) (gathered n (k % n) all workers (parts_of pass)) d run.file) worker
+                  (gathered_among n (k % n) all workers (parts_of pass) part run below found)),
+            )
 
 -- ---- what is left of the posts
 
@@ -135,45 +227,18 @@ keeps_same before after file same = subst (λ (files : Option Files). KeepsFile 
     itself None = tt
     itself (Some files) = λ there. refl
 
-pub keeps_all : {D C : Type 0} (state : C → State) (files : D → Option Files) (faults : D → ℕ) (workers partitions n : ℕ) (olds news : List PassState) (posts posts' : List (Post D C)) (any : PassState)
-    → Reached state files faults workers partitions n olds news posts posts' → (disk file : ℕ) → KeepsFile (files_of files (slice_get posts disk)) (files_of files (slice_get posts' disk)) file
-keeps_all {D = D} {C = C} state files faults workers partitions n olds news posts posts' any so_far disk file =
+pub keeps_all : {D C : Type 0} (state : C → State) (files : D → Option Files) (faults : D → ℕ) (workers n : ℕ) (pass : PassView) (olds news : List PassState) (posts posts' : List (Post D C)) (any : PassState)
+    → Reached state files faults workers n pass olds news posts posts' → (disk file : ℕ) → KeepsFile (files_of files (slice_get posts disk)) (files_of files (slice_get posts' disk)) file
+keeps_all {D = D} {C = C} state files faults workers n pass olds news posts posts' any so_far disk file =
     elim (cases_lt disk n) [
       | inl low ↦ keeps_one (files_of files (slice_get posts disk)) (files_of files (slice_get posts' disk)) file (so_far.each disk any low).disk.kept
       | inr high ↦ keeps_same (files_of files (slice_get posts disk)) (files_of files (slice_get posts' disk)) file (ap (λ (p : Option (Post D C)). files_of files p) (so_far.others disk high))
     ]
 
-pub consumers_kept : {D C : Type 0} (state : C → State) (files : D → Option Files) (faults : D → ℕ) (workers partitions n : ℕ) (olds news : List PassState) (posts posts' : List (Post D C)) (any : PassState)
-    → Reached state files faults workers partitions n olds news posts posts' → (w : ℕ) → KeepsConsumers (states_of state (slice_get posts w)) (states_of state (slice_get posts' w))
-consumers_kept {D = D} {C = C} state files faults workers partitions n olds news posts posts' any so_far w =
+pub consumers_kept : {D C : Type 0} (state : C → State) (files : D → Option Files) (faults : D → ℕ) (workers n : ℕ) (pass : PassView) (olds news : List PassState) (posts posts' : List (Post D C)) (any : PassState)
+    → Reached state files faults workers n pass olds news posts posts' → (w : ℕ) → KeepsConsumers (states_of state (slice_get posts w)) (states_of state (slice_get posts' w))
+consumers_kept {D = D} {C = C} state files faults workers n pass olds news posts posts' any so_far w =
     elim (cases_lt w n) [
       | inl low ↦ (so_far.each w any low).consumers
       | inr high ↦ subst (λ (p : Option (Post D C)). KeepsConsumers (states_of state (slice_get posts w)) (states_of state p)) (sym (so_far.others w high)) (keeps_consumers (states_of state (slice_get posts w)))
-    ]
-
--- ---- the other files
-
--- an answer of a worker is among the runs
-answer_among : (workers size partitions disk k : ℕ) (all : List (List (Option Run))) (run : Run) (runs : List Run) → disk < workers → size ≡ workers → part_at workers disk k < partitions
-    → answer_at (answers_of all disk) k ≡ Some run → runs ≡ gathered all size partitions → IsFileAmong (λ n. n) runs disk run.file
-answer_among workers size partitions disk k all run runs below same within is are =
-    let part : ℕ = part_at workers disk k in
-    let worker : part % workers ≡ disk = worker_of workers disk k below in
-    let task : part / workers ≡ k = task_of workers disk k below in
-    let answer : answer_for all workers part ≡ Some run = ap (λ (w : ℕ). answer_at (answers_of all w) (part / workers)) worker ∙ ap (λ (n : ℕ). answer_at (answers_of all disk) n) task ∙ is in
-    subst (λ (rs : List Run). IsFileAmong (λ n. n) rs disk run.file) (sym (are ∙ ap (λ (n : ℕ). gathered all n partitions) same))
-    (subst (λ (d : ℕ). IsFileAmong (λ n. n) (gathered all workers partitions) d run.file) worker (gathered_among all workers partitions part run within answer))
-
--- no file was made or changed but those of the runs
-pub only_all : {D C : Type 0} (state : C → State) (files : D → Option Files) (faults : D → ℕ) (workers size : ℕ) (plan : Plan) (parts : List Run) (lock : LockId) (olds news : List PassState) (posts posts' : List (Post D C)) (all : List (List (Option Run))) (any : PassState) (runs : List Run)
-    → size ≡ workers → AreWorkers lock workers olds → Reached state files faults workers (length parts) workers olds news posts posts' → Finished state files workers workers plan parts olds news posts posts' all
-    → runs ≡ gathered all size (length parts) → LeavesOnlyRuns (λ place. files_of files (slice_get posts place)) (λ place. files_of files (slice_get posts' place)) runs
-only_all {D = D} {C = C} state files faults workers size plan parts lock olds news posts posts' all any runs same are so_far done is disk file apart =
-    elim (cases_lt disk workers) [
-      | inl low ↦
-          let counts = counts_of state files workers workers plan parts lock olds news posts posts' all any refl are done in
-          (done.each disk any low).only file (λ k run answer called.
-          apart (subst (λ (f : ℕ). IsFileAmong (λ n. n) runs disk f) called
-          (answer_among workers size (length parts) disk k all run runs low same ((counts disk low).within k (at_within (answers_of all disk) k run answer)) answer is)))
-      | inr high ↦ subst (λ (p : Option (Post D C)). SameAt (files_of files (slice_get posts disk)) (files_of files p) file) (sym (so_far.others disk high)) (same_at_self (files_of files (slice_get posts disk)) file)
     ]

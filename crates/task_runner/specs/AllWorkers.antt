@@ -1,19 +1,18 @@
 -- What the workers of a pass make of their posts and of their own entries, worker by worker.
 -- This project's own.
-use Rattle.std.specs.Prelude.{◌≡◌, ℕ, ◌<◌, ◌≤◌, List, [], Option, length, map, slice_get, slice_index_or}
+use Rattle.std.specs.Prelude.{◌≡◌, ℕ, ◌*◌, ◌<◌, ◌≤◌, List, [], Option, length, map, slice_get, slice_index_or}
 use Rattle.std.specs.Option.{option_and_then, option_map, option_map_or}
 use Rattle.spill_disk.specs.Files.{Files}
 use Rattle.run_file.specs.declared.run.Run.{Run}
-use Rattle.run_file.specs.Several.{run_at}
 use Rattle.task_memory.specs.Disks.{LeavesDisk}
 use Rattle.turn_lock.specs.Passes.{PassState}
 use Rattle.memory_lock.specs.Workers.{IsFree, KeepsPin, SeesMore}
 use Rattle.consumer_trait.specs.States.{State}
-use Rattle.job_plan.specs.Plans.{form_in, kind_at}
-use Rattle.job_plan.specs.declared.query_plan.Plan.{Plan}
-use Rattle.task_runner.specs.Consumers.{FeedsOne, KeepsConsumers, place_for}
-use Rattle.task_runner.specs.Parts.{HoldsRows}
-use Rattle.task_runner.specs.Workers.{AreMade, DoesSome, DoesTasks, IsCount, LeavesOnlyAnswers, AnswerParts, part_at, rows_to}
+use Rattle.task_runner.specs.Consumers.{KeepsConsumers}
+use Rattle.task_runner.specs.PartAnswers.{AnswerParts, HoldsOwn}
+use Rattle.task_runner.specs.PassViews.{PassView, parts_of, queries_of}
+use Rattle.task_runner.specs.Queries.{FeedsAll}
+use Rattle.task_runner.specs.Workers.{AreMade, DoesSome, DoesTasks, IsCount, LeavesOnlyAnswers, rows_to}
 use Rattle.task_runner.specs.declared.post.Post.{Post}
 use Rattle.task_runner.specs.declared.work_fault.WorkFault.{WorkFault}
 use Rattle.task_runner.specs.declared.work_fault.WorkFault.TheVariants.{NoRoom, DiskFault, Damaged, NoMemory}
@@ -41,15 +40,9 @@ faults_of faults post = option_map_or faults (option_map (λ post. post.disk) po
 
 -- ---- one worker
 
--- the rows of a worker's partitions, as they stand on a disk
-abbrev pub HoldsOwn : Option Files → Plan → List Run → ℕ → ℕ → (ℕ → List (List (List ℕ))) → Type 0
-HoldsOwn files plan parts workers worker rows =
-    (k : ℕ) → part_at workers worker k < length parts
-    → HoldsRows files (form_in plan) (run_at parts (part_at workers worker k)) (rows (part_at workers worker k))
-
 -- what a worker leaves, whether it did all of its tasks or not
-pub record Leaves {D C : Type 0} (state : C → State) (files : D → Option Files) (faults : D → ℕ) (workers partitions : ℕ) (before after : PassState) (post post' : Option (Post D C)) : Type 0 where
-  pub may_work : DoesSome workers partitions before after
+pub record Leaves {D C : Type 0} (state : C → State) (files : D → Option Files) (faults : D → ℕ) (workers : ℕ) (pass : PassView) (before after : PassState) (post post' : Option (Post D C)) : Type 0 where
+  pub may_work : DoesSome pass.first workers (parts_of pass) before after
   pub free : IsFree after
   pub pin : KeepsPin before after
   pub sees : SeesMore before after
@@ -57,21 +50,23 @@ pub record Leaves {D C : Type 0} (state : C → State) (files : D → Option Fil
   pub disk : LeavesDisk (files_of files post) (files_of files post') (faults_of faults post) (faults_of faults post')
 
 -- a worker did all of its tasks, with these answers
-pub record Finishes {D C : Type 0} (state : C → State) (files : D → Option Files) (workers : ℕ) (plan : Plan) (parts : List Run) (before after : PassState) (post post' : Option (Post D C)) (answers : List (Option Run)) : Type 0 where
-  pub count : IsCount workers before.number (length parts) (length answers)
-  pub feeds : FeedsOne (states_of state post) (states_of state post') (place_for (kind_at plan 0)) (rows_to parts workers before.number (length answers))
-  pub does : DoesTasks workers (length answers) before after
+pub record Finishes {D C : Type 0} (state : C → State) (files : D → Option Files) (workers : ℕ) (pass : PassView) (before after : PassState) (post post' : Option (Post D C)) (answers : List (Option Run)) : Type 0 where
+  pub tasks : ℕ
+  pub count : IsCount workers before.number (parts_of pass) tasks
+  pub many : length answers ≡ tasks * queries_of pass
+  pub feeds : FeedsAll (states_of state post) (states_of state post') pass.plan pass.queries (λ _. rows_to pass.parts workers before.number tasks)
+  pub does : DoesTasks pass.first workers tasks before after
   pub made : AreMade (files_of files post) answers
   pub only : LeavesOnlyAnswers (files_of files post) (files_of files post') answers
-  pub tells : (rows : ℕ → List (List (List ℕ))) → HoldsOwn (files_of files post) plan parts workers before.number rows
-      → AnswerParts (files_of files post') (kind_at plan 0) plan workers before.number rows answers
+  pub tells : (rows : ℕ → List (List (List ℕ))) → HoldsOwn (files_of files post) pass workers before.number rows
+      → AnswerParts (files_of files post') pass workers before.number rows answers
 
 -- ---- all workers
 
 -- the workers below `n` left their posts and entries; the others are as they were
-pub record Reached {D C : Type 0} (state : C → State) (files : D → Option Files) (faults : D → ℕ) (workers partitions n : ℕ) (olds news : List PassState) (posts posts' : List (Post D C)) : Type 0 where
+pub record Reached {D C : Type 0} (state : C → State) (files : D → Option Files) (faults : D → ℕ) (workers n : ℕ) (pass : PassView) (olds news : List PassState) (posts posts' : List (Post D C)) : Type 0 where
   pub each : (w : ℕ) (any : PassState) → w < n
-      → Leaves state files faults workers partitions (slice_index_or olds w any) (slice_index_or news w any) (slice_get posts w) (slice_get posts' w)
+      → Leaves state files faults workers pass (slice_index_or olds w any) (slice_index_or news w any) (slice_get posts w) (slice_get posts' w)
   pub still : (w : ℕ) (any : PassState) → n ≤ w → slice_index_or news w any ≡ slice_index_or olds w any
   pub others : (place : ℕ) → n ≤ place → slice_get posts' place ≡ slice_get posts place
   pub count : length posts' ≡ length posts
@@ -81,7 +76,7 @@ abbrev pub answers_of : List (List (Option Run)) → ℕ → List (Option Run)
 answers_of all worker = slice_index_or all worker []
 
 -- the workers below `n` did all of their tasks, with these answers, a list for each worker
-pub record Finished {D C : Type 0} (state : C → State) (files : D → Option Files) (workers n : ℕ) (plan : Plan) (parts : List Run) (olds news : List PassState) (posts posts' : List (Post D C)) (all : List (List (Option Run))) : Type 0 where
+pub record Finished {D C : Type 0} (state : C → State) (files : D → Option Files) (workers n : ℕ) (pass : PassView) (olds news : List PassState) (posts posts' : List (Post D C)) (all : List (List (Option Run))) : Type 0 where
   pub count : length all ≡ n
   pub each : (w : ℕ) (any : PassState) → w < n
-      → Finishes state files workers plan parts (slice_index_or olds w any) (slice_index_or news w any) (slice_get posts w) (slice_get posts' w) (answers_of all w)
+      → Finishes state files workers pass (slice_index_or olds w any) (slice_index_or news w any) (slice_get posts w) (slice_get posts' w) (answers_of all w)

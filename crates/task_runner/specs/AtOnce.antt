@@ -1,6 +1,6 @@
 -- The workers of a pass at the same time: what each may do at its post, what it did there, and what all of them answered.
 -- This project's own.
-use Rattle.std.specs.Prelude.{◌≡◌, ℕ, ◌+◌, ◌*◌, ◌^◌, ◌<◌, ◌≤◌, ◌⊎◌, All, List, Option, Some, None, Result, Ok, Err, IfOk, false, length, map, slice_get, slice_index_or, ⊤}
+use Rattle.std.specs.Prelude.{◌≡◌, ℕ, ◌+◌, ◌*◌, ◌%◌, ◌^◌, ◌<◌, ◌≤◌, ◌⊎◌, All, List, Option, Some, None, Result, Ok, Err, IfOk, false, length, map, slice_get, slice_index_or, ⊤}
 use Rattle.std.specs.Global.{Vec}
 use Rattle.consumer_trait.specs.States.{State}
 use Rattle.pool_ledger.specs.History.{was_begun}
@@ -10,11 +10,13 @@ use Rattle.run_file.specs.declared.run.Run.{Run}
 use Rattle.turn_lock.specs.Passes.{LockId, PassState}
 use Rattle.memory_lock.specs.Workers.{IsFree, own_of}
 use Rattle.job_plan.specs.Planning.{columns_of}
-use Rattle.job_plan.specs.Plans.{form_in, kept_in}
-use Rattle.job_plan.specs.declared.query_plan.Plan.{Plan}
-use Rattle.task_runner.specs.AllWorkers.{Finishes, HoldsOwn, Leaves, answers_of}
+use Rattle.job_plan.specs.Plans.{form_in}
+use Rattle.task_runner.specs.AllWorkers.{Finishes, Leaves, answers_of}
 use Rattle.task_runner.specs.Answers.{HasCauseAmong, NamesPost}
 use Rattle.task_runner.specs.Consumers.{HasConsumers}
+use Rattle.task_runner.specs.PartAnswers.{HoldsOwn}
+use Rattle.task_runner.specs.PassViews.{PassView, parts_of, task_for}
+use Rattle.task_runner.specs.Queries.{AreQueries}
 use Rattle.task_runner.specs.Workers.{IfSound, part_at}
 use Rattle.task_runner.specs.Works.{IfNoRoom, ShowsNoRoom}
 use Rattle.task_runner.specs.declared.post.Post.{Post}
@@ -23,25 +25,32 @@ use Rattle.task_runner.specs.declared.work_fault.WorkFault.TheVariants.{NoMemory
 
 -- ---- one worker at its post
 
+-- the queries, the partitions and the tasks of a pass are those of its plan
+pub record IsPass (pass : PassView) : Type 0 where
+  pub queries : AreQueries pass.plan pass.queries
+  pub few : parts_of pass ≤ 10000000
+  pub numbered : task_for pass (parts_of pass) < 2 ^ 32
+  pub short : All (λ run. run.greatest ≤ 36 + 4 * columns_of (form_in pass.plan) + 65536) pass.parts
+
 -- the worker of this place may do its tasks at this post: it has no task, owns those of its partitions, and began none of them
-pub record MayRun {D C : Type 0} (state : C → State) (lock : LockId) (owner : ℕ → Option ℕ) (workers : ℕ) (plan : Plan) (parts : List Run) (place : ℕ) (worker : PassState) (post : Post D C) : Type 0 where
+pub record MayRun {D C : Type 0} (state : C → State) (lock : LockId) (owner : ℕ → Option ℕ) (workers : ℕ) (pass : PassView) (place : ℕ) (worker : PassState) (post : Post D C) : Type 0 where
   pub lock_is : worker.lock ≡ lock
   pub number_is : worker.number ≡ place
   pub known : place < workers
   pub narrow : place < 2 ^ 32
   pub free : IsFree worker
-  pub owns : (k : ℕ) → part_at workers worker.number k < length parts → owner (part_at workers worker.number k) ≡ Some worker.number
-  pub fresh : (k : ℕ) → part_at workers worker.number k < length parts → was_begun (own_of worker) (part_at workers worker.number k) ≡ false
+  pub owns : (k : ℕ) → part_at workers worker.number k < parts_of pass
+      → owner (task_for pass (part_at workers worker.number k)) ≡ Some worker.number
+  pub fresh : (k : ℕ) → part_at workers worker.number k < parts_of pass
+      → was_begun (own_of worker) (task_for pass (part_at workers worker.number k)) ≡ false
   pub consumers : HasConsumers (map state post.consumers.items)
-  pub few : length parts ≤ 10000000
-  pub short : All (λ run. run.greatest ≤ 36 + 4 * columns_of (form_in plan) + 65536) parts
-  pub one : length (kept_in plan) ≡ 1
+  pub pass_is : IsPass pass
 
 -- what the worker of this place leaves there, and what it answers
-pub record Ran {D C : Type 0} (state : C → State) (files : D → Option Files) (faults : D → ℕ) (sizes : Sizes) (workers : ℕ) (plan : Plan) (parts : List Run) (place : ℕ) (before after : PassState) (post post' : Post D C) (answer : Result (Vec (Option Run)) WorkFault) : Type 0 where
-  pub finishes : IfOk answer (λ answers. Finishes state files workers plan parts before after (Some post) (Some post') answers.items)
-  pub leaves : Leaves state files faults workers (length parts) before after (Some post) (Some post')
-  pub sound : (rows : ℕ → List (List (List ℕ))) → HoldsOwn (files post.disk) plan parts workers before.number rows → IfSound (λ _. ⊤) answer
+pub record Ran {D C : Type 0} (state : C → State) (files : D → Option Files) (faults : D → ℕ) (sizes : Sizes) (workers : ℕ) (pass : PassView) (place : ℕ) (before after : PassState) (post post' : Post D C) (answer : Result (Vec (Option Run)) WorkFault) : Type 0 where
+  pub finishes : IfOk answer (λ answers. Finishes state files workers pass before after (Some post) (Some post') answers.items)
+  pub leaves : Leaves state files faults workers pass before after (Some post) (Some post')
+  pub sound : (rows : ℕ → List (List (List ℕ))) → HoldsOwn (files post.disk) pass workers before.number rows → IfSound (λ _. ⊤) answer
   pub no_room : IfNoRoom answer (λ asked held floor. (task : ℕ) × ShowsNoRoom sizes (own_of after) task asked held floor)
   pub names : NamesPost place answer
   pub rests : after.base ≡ None
@@ -49,11 +58,18 @@ pub record Ran {D C : Type 0} (state : C → State) (files : D → Option Files)
 
 -- ---- all of them
 
+-- the workers have no task, own those of their partitions, and began none of them
+pub record MayDoAll (owner : ℕ → Option ℕ) (count : ℕ) (pass : PassView) (workers : List PassState) : Type 0 where
+  pub free : (worker : ℕ) (any : PassState) → worker < count → IsFree (slice_index_or workers worker any)
+  pub owns : (part : ℕ) → part < parts_of pass → owner (task_for pass part) ≡ Some (part % count)
+  pub fresh : (worker part : ℕ) (any : PassState) → worker < count → part < parts_of pass
+      → was_begun (own_of (slice_index_or workers worker any)) (task_for pass part) ≡ false
+
 -- the worker of each place may do its tasks there
-abbrev pub AllMayRun : {D C : Type 0} → (C → State) → LockId → (ℕ → Option ℕ) → ℕ → Plan → List Run → List PassState → List (Post D C) → Type 0
-AllMayRun {D = D} {C = C} state lock owner count plan parts workers posts =
+abbrev pub AllMayRun : {D C : Type 0} → (C → State) → LockId → (ℕ → Option ℕ) → ℕ → PassView → List PassState → List (Post D C) → Type 0
+AllMayRun {D = D} {C = C} state lock owner count pass workers posts =
     (place : ℕ) (worker : PassState) (post : Post D C) → place < length workers
-    → MayRun state lock owner count plan parts place (slice_index_or workers place worker) (slice_index_or posts place post)
+    → MayRun state lock owner count pass place (slice_index_or workers place worker) (slice_index_or posts place post)
 
 -- each worker answered its list of these
 pub record AreAnswers (told : List (Result (Vec (Option Run)) WorkFault)) (all : List (List (Option Run))) : Type 0 where

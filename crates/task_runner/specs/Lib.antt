@@ -1,3 +1,4 @@
+pub mod PassViews
 pub mod Works
 pub mod Answers
 pub mod AtOnce
@@ -8,7 +9,10 @@ pub mod Reading
 pub mod Spilling
 pub mod Workers
 pub mod Queries
+pub mod PartAnswers
 pub mod OneWorker
+pub mod RunsApart
 pub mod Pass
 pub mod AllWorkers
 pub mod Gathered
+pub mod Finals

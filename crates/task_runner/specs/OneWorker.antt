@@ -1,19 +1,19 @@
 -- How far a worker has come with its tasks in a pass.
 -- This project's own.
-use Rattle.std.specs.Prelude.{◌≡◌, ℕ, ◌<◌, List, [], ◌∷◌, ◌++◌, Option, IfSome, length}
+use Rattle.std.specs.Prelude.{◌≡◌, ℕ, ◌*◌, ◌<◌, List, ◌++◌, Option, length}
 use Rattle.spill_disk.specs.Files.{Files}
-use Rattle.run_file.specs.declared.form.Form.{Form}
 use Rattle.run_file.specs.declared.run.Run.{Run}
-use Rattle.run_file.specs.Several.{run_at}
 use Rattle.turn_lock.specs.Passes.{PassState}
 use Rattle.memory_lock.specs.Workers.{IsFree, KeepsPin, SeesMore}
 use Rattle.consumer_trait.specs.States.{State}
 use Rattle.task_memory.specs.Disks.{LeavesDisk}
-use Rattle.job_plan.specs.Plans.{form_in, kind_at}
-use Rattle.job_plan.specs.declared.query_plan.Plan.{Plan}
-use Rattle.task_runner.specs.Consumers.{FeedsOne, KeepsConsumers, place_for}
-use Rattle.task_runner.specs.Parts.{HoldsRows, IsMade, LeavesOnlyAnswer, entries_in}
-use Rattle.task_runner.specs.Workers.{AreMade, DoesTasks, HasAnswer, LeavesOnlyAnswers, AnswerParts, part_at, rows_to}
+use Rattle.job_plan.specs.Plans.{form_in}
+use Rattle.task_runner.specs.Consumers.{KeepsConsumers}
+use Rattle.task_runner.specs.PartAnswers.{AnswerParts, HoldsOwn}
+use Rattle.task_runner.specs.Parts.{HoldsRows}
+use Rattle.task_runner.specs.PassViews.{PassView, parts_of, queries_of, task_for}
+use Rattle.task_runner.specs.Queries.{FeedsAll, HaveAnswers, made_in}
+use Rattle.task_runner.specs.Workers.{AreMade, DoesTasks, LeavesOnlyAnswers, part_at, rows_to}
 use Rattle.task_runner.specs.Works.{Works}
 
 -- a worker, the consumers of its post, and the files and the count of faults of its post's disk
@@ -35,34 +35,30 @@ pub record Stays (before after : Scene) : Type 0 where
   pub sees : SeesMore before.worker after.worker
   pub disk : LeavesDisk before.files after.files before.faults after.faults
 
--- the landed runs of a worker's partitions stand on its disk with these rows
-abbrev pub HoldParts : Option Files → Form → List Run → ℕ → ℕ → (ℕ → List (List (List ℕ))) → Type 0
-HoldParts files form parts workers worker rows =
-    (k : ℕ) → part_at workers worker k < length parts
-    → HoldsRows files form (run_at parts (part_at workers worker k)) (rows (part_at workers worker k))
-
--- one task was done, of this partition with this landed run
-pub record DoesOne (plan : Plan) (landed : Run) (part : ℕ) (before after : Scene) (answer : Option Run) : Type 0 where
+-- one task was done, of this partition with this landed run: its answers are one for each query
+pub record DoesOne (pass : PassView) (landed : Run) (part : ℕ) (before after : Scene) (found : List (Option Run)) : Type 0 where
   pub stays : Stays before after
-  pub tells : (rows : List (List (List ℕ))) → HoldsRows before.files (form_in plan) landed rows
-      → HasAnswer after.files (kind_at plan 0) answer (entries_in plan 0 rows)
-  pub made : IfSome answer (IsMade before.files)
-  pub only : LeavesOnlyAnswer before.files after.files answer
-  pub fed : FeedsOne before.states after.states (place_for (kind_at plan 0)) landed.count
-  pub works : Works part before.worker after.worker
+  pub count : length found ≡ queries_of pass
+  pub tells : (rows : List (List (List ℕ))) → HoldsRows before.files (form_in pass.plan) landed rows
+      → HaveAnswers after.files pass.plan pass.queries (made_in pass.plan pass.queries rows) found
+  pub made : AreMade before.files found
+  pub only : LeavesOnlyAnswers before.files after.files found
+  pub fed : FeedsAll before.states after.states pass.plan pass.queries (λ _. landed.count)
+  pub works : Works (task_for pass part) before.worker after.worker
 
--- one task was done, and its answer stands behind the others
-abbrev pub AddsOne : Plan → Run → ℕ → Scene → Scene → List (Option Run) → List (Option Run) → Type 0
-AddsOne plan landed part before after answers answers' =
-    (answer : Option Run) × DoesOne plan landed part before after answer × (answers' ≡ answers ++ answer ∷ [])
+-- one task was done, and its answers stand behind the others
+abbrev pub AddsOne : PassView → Run → ℕ → Scene → Scene → List (Option Run) → List (Option Run) → Type 0
+AddsOne pass landed part before after answers answers' =
+    (found : List (Option Run)) × DoesOne pass landed part before after found × (answers' ≡ answers ++ found)
 
 -- so many tasks were done, with these answers
-pub record DoesFirst (plan : Plan) (parts : List Run) (workers : ℕ) (start now : Scene) (answers : List (Option Run)) : Type 0 where
+pub record DoesFirst (pass : PassView) (workers : ℕ) (start now : Scene) (tasks : ℕ) (answers : List (Option Run)) : Type 0 where
   pub stays : Stays start now
-  pub within : (k : ℕ) → k < length answers → part_at workers start.worker.number k < length parts
-  pub tells : (rows : ℕ → List (List (List ℕ))) → HoldParts start.files (form_in plan) parts workers start.worker.number rows
-      → AnswerParts now.files (kind_at plan 0) plan workers start.worker.number rows answers
+  pub many : length answers ≡ tasks * queries_of pass
+  pub within : (k : ℕ) → k < tasks → part_at workers start.worker.number k < parts_of pass
+  pub tells : (rows : ℕ → List (List (List ℕ))) → HoldsOwn start.files pass workers start.worker.number rows
+      → AnswerParts now.files pass workers start.worker.number rows answers
   pub made : AreMade start.files answers
   pub only : LeavesOnlyAnswers start.files now.files answers
-  pub fed : FeedsOne start.states now.states (place_for (kind_at plan 0)) (rows_to parts workers start.worker.number (length answers))
-  pub works : DoesTasks workers (length answers) start.worker now.worker
+  pub fed : FeedsAll start.states now.states pass.plan pass.queries (λ _. rows_to pass.parts workers start.worker.number tasks)
+  pub works : DoesTasks pass.first workers tasks start.worker now.worker

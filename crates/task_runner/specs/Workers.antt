@@ -1,6 +1,6 @@
 -- A worker's tasks in a pass: with so many workers, those of worker `w` are for the partitions w, w + workers and so on.
 -- This project's own.
-use Rattle.std.specs.Prelude.{◌≡◌, ◌≢◌, ℕ, zero, suc, ◌+◌, ◌*◌, ◌<◌, List, [], ◌++◌, Option, Some, None, Result, Ok, Err, IfSome, length, slice_index_or, ⊤}
+use Rattle.std.specs.Prelude.{◌≡◌, ◌≢◌, ℕ, zero, suc, ◌+◌, ◌*◌, ◌<◌, List, [], ◌++◌, Option, Some, None, Result, Ok, Err, IfSome, slice_index_or, ⊤}
 use Rattle.aggregate.specs.Totals.{Entry, total}
 use Rattle.aggregate.specs.declared.kind.Kind.{Kind}
 use Rattle.pool_ledger.specs.declared.entry.Entry.{Entry as JournalEntry}
@@ -10,8 +10,7 @@ use Rattle.run_file.specs.Several.{HasEntries, run_at}
 use Rattle.task_memory.specs.Disks.{SameAt}
 use Rattle.turn_lock.specs.Passes.{PassState}
 use Rattle.memory_lock.specs.Workers.{own_entries}
-use Rattle.job_plan.specs.declared.query_plan.Plan.{Plan}
-use Rattle.task_runner.specs.Parts.{IsMade, entries_in}
+use Rattle.task_runner.specs.Parts.{IsMade}
 use Rattle.task_runner.specs.Works.{IsTaskOf}
 use Rattle.task_runner.specs.declared.work_fault.WorkFault.{WorkFault}
 use Rattle.task_runner.specs.declared.work_fault.WorkFault.TheVariants.{NoRoom, DiskFault, Damaged, NoMemory}
@@ -32,28 +31,29 @@ rows_to parts workers worker (suc k) = rows_to parts workers worker k + (run_at 
 
 -- ---- journal entries
 
--- entries of a worker: those of its first tasks, one behind the other
-unfoldable pub AreTasks : ℕ → ℕ → ℕ → List JournalEntry → Type 0
-AreTasks workers worker zero entries = entries ≡ []
-AreTasks workers worker (suc k) entries =
-    (before last : List JournalEntry) × AreTasks workers worker k before × IsTaskOf worker (part_at workers worker k) last × (entries ≡ before ++ last)
+-- entries of a worker: those of its first tasks, one behind the other, of which that for partition `p` has the number `p + first`
+unfoldable pub AreTasks : ℕ → ℕ → ℕ → ℕ → List JournalEntry → Type 0
+AreTasks first workers worker zero entries = entries ≡ []
+AreTasks first workers worker (suc k) entries =
+    (before last : List JournalEntry) × AreTasks first workers worker k before
+    × IsTaskOf worker (part_at workers worker k + first) last × (entries ≡ before ++ last)
 
 -- the worker began and ended its first tasks, one behind the other
-abbrev pub DoesTasks : ℕ → ℕ → PassState → PassState → Type 0
-DoesTasks workers count before after =
-    (added : List JournalEntry) × AreTasks workers before.number count added × (own_entries after ≡ own_entries before ++ added)
+abbrev pub DoesTasks : ℕ → ℕ → ℕ → PassState → PassState → Type 0
+DoesTasks first workers count before after =
+    (added : List JournalEntry) × AreTasks first workers before.number count added × (own_entries after ≡ own_entries before ++ added)
 
 -- the same of some number of them
-pub record DoesSome (workers partitions : ℕ) (before after : PassState) : Type 0 where
+pub record DoesSome (first workers partitions : ℕ) (before after : PassState) : Type 0 where
   pub count : ℕ
   pub within : (k : ℕ) → k < count → part_at workers before.number k < partitions
-  pub does : DoesTasks workers count before after
+  pub does : DoesTasks first workers count before after
 
 -- the same of all of them
-pub record DoesAll (workers partitions : ℕ) (before after : PassState) : Type 0 where
+pub record DoesAll (first workers partitions : ℕ) (before after : PassState) : Type 0 where
   pub count : ℕ
   pub all : IsCount workers before.number partitions count
-  pub does : DoesTasks workers count before after
+  pub does : DoesTasks first workers count before after
 
 -- ---- runs
 
@@ -79,11 +79,6 @@ AreMade before answers = (k : ℕ) → IfSome (answer_at answers k) (IsMade befo
 abbrev pub LeavesOnlyAnswers : Option Files → Option Files → List (Option Run) → Type 0
 LeavesOnlyAnswers before after answers =
     (file : ℕ) → ((k : ℕ) (run : Run) → answer_at answers k ≡ Some run → run.file ≢ file) → SameAt before after file
-
--- a worker's answers tell what the rows of its partitions come to, in files of their own; and no damage is found
-pub record AnswerParts (files : Option Files) (kind : Kind) (plan : Plan) (workers worker : ℕ) (rows : ℕ → List (List (List ℕ))) (answers : List (Option Run)) : Type 0 where
-  pub each : (k : ℕ) → k < length answers → HasAnswer files kind (answer_at answers k) (entries_in plan 0 (rows (part_at workers worker k)))
-  pub apart : AnswersApart answers
 
 -- what holds of an answer, where no fault is told; and damage isn't
 abbrev pub IfSound : {T : Type 0} → (T → Type 0) → Result T WorkFault → Type 0

@@ -3,13 +3,14 @@
 ghost use Rattle.std.specs.Prelude.{◌≡◌, ◌≤◌, length};
 ghost use Rattle.worker_threads.specs.Places.{AtEachPlace};
 ghost use Rattle.task_runner.specs.AtOnce.{AllMayRun, MayRun, Ran};
+ghost use Rattle.task_runner.specs.PassViews.{pass_with};
 
 use crate::executor::Executor;
 use crate::one_worker::run_as;
+use crate::pass::Pass;
 use crate::post::Post;
 use crate::work_fault::WorkFault;
 use consumer_trait::Consumer;
-use job_plan::Plan;
 use memory_lock::{Basis, Worker};
 use run_file::Run;
 use spill_disk::Disk;
@@ -29,25 +30,36 @@ pub(crate) fn run_at_once<
     executor: &Executor<'_, R, K, B>,
     count: usize,
     workers: &mut Vec<Worker<B>>,
-    plan: &Plan,
-    parts: &[Run],
+    pass: &Pass<'_>,
     posts: &mut Vec<Post<D, C>>,
     answers: &mut Vec<Result<Vec<Option<Run>>, WorkFault>>,
 )
-    requires may { AllMayRun C.state executor.now.manager.now B.owner count plan.now parts.now workers.old.items
+    requires may { AllMayRun C.state executor.now.manager.now B.owner count pass.now workers.old.items
         posts.old.items }
     requires posts { length workers.old.items ≤ length posts.old.items }
     requires answers { length answers.old.items ≡ length workers.old.items }
-    ensures ran { AtEachPlace (Ran C.state D.files D.faults B.sizes count plan.now parts.now) 0 workers.old.items
+    ensures ran { AtEachPlace (Ran C.state D.files D.faults B.sizes count pass.now) 0 workers.old.items
         workers.new.items posts.old.items posts.new.items answers.new.items }
 {
+    // What the threads share: a pass with a model isn't known to be shared by them.
+    let (plan, queries, parts, first) = (pass.plan, pass.queries, pass.parts, pass.first);
     let run = |place: usize, worker: &mut Worker<B>, post: &mut Post<D, C>| -> Result<
         Vec<Option<Run>>,
         WorkFault,
     >
-        requires { MayRun C.state executor.now.manager.now B.owner count plan.now parts.now place worker.old post.old }
-        ensures { Ran C.state D.files D.faults B.sizes count plan.entry.now parts.entry.now place worker.old worker.new post.old post.new result }
-    { run_as(executor, worker, plan, parts, count, post, place as u32) };
+        requires { MayRun C.state executor.now.manager.now B.owner count
+            (pass_with plan.now queries.now parts.now first) place worker.old post.old }
+        ensures { Ran C.state D.files D.faults B.sizes count
+            (pass_with plan.entry.now queries.entry.now parts.entry.now first) place worker.old worker.new post.old post.new result }
+    {
+        let pass = Pass {
+            plan,
+            queries,
+            parts,
+            first,
+        };
+        run_as(executor, worker, &pass, count, post, place as u32)
+    };
     each_place(
         executor.rt,
         &run,

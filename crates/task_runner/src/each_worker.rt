@@ -1,29 +1,26 @@
 //! The workers of a pass, and what they come to.
 
-ghost use Rattle.std.specs.Prelude.{◌≡◌, ◌≤◌, ◌<◌, ◌+◌, ◌*◌, ◌%◌, ◌^◌, All, List, ℕ, Some, false, IfOk, ⊤, length, map, slice_index_or};
-ghost use Rattle.pool_ledger.specs.History.{was_begun};
+ghost use Rattle.std.specs.Prelude.{◌≤◌, ◌<◌, ◌^◌, All, List, ℕ, IfOk, ⊤, length, map, slice_index_or};
 ghost use Rattle.memory_lock.specs.Crew.{AreWorkers};
-ghost use Rattle.memory_lock.specs.Workers.{IsFree, own_of};
+ghost use Rattle.memory_lock.specs.Workers.{own_of};
 ghost use Rattle.run_file.specs.Shelved.{faults_on, files_on};
-ghost use Rattle.run_file.specs.Several.{run_at};
 ghost use Rattle.spill_disk.specs.Shelves.{disk_at};
 ghost use Rattle.turn_lock.specs.Passes.{PassState};
-ghost use Rattle.job_plan.specs.Planning.{columns_of};
-ghost use Rattle.job_plan.specs.Plans.{form_in, kept_in};
 ghost use Rattle.task_runner.specs.AllWorkers.{Finished, Reached};
 ghost use Rattle.task_runner.specs.Answers.{HasCauseAmong, NamesSomePost};
+ghost use Rattle.task_runner.specs.AtOnce.{IsPass, MayDoAll};
 ghost use Rattle.task_runner.specs.Consumers.{HasConsumers};
-ghost use Rattle.task_runner.specs.Parts.{HoldsRows};
+ghost use Rattle.task_runner.specs.PartAnswers.{HoldsAll};
 ghost use Rattle.task_runner.specs.Workers.{IfSound};
 ghost use Rattle.task_runner.specs.Works.{IfNoRoom, ShowsNoRoom};
 
 use crate::answers::{all_of, no_answers};
 use crate::at_once::run_at_once;
 use crate::executor::Executor;
+use crate::pass::Pass;
 use crate::post::Post;
 use crate::work_fault::WorkFault;
 use consumer_trait::Consumer;
-use job_plan::Plan;
 use memory_lock::{Basis, Worker};
 use run_file::Run;
 use spill_disk::Disk;
@@ -41,31 +38,22 @@ pub(crate) fn run_each<
 >(
     executor: &Executor<'_, R, K, B>,
     workers: &mut Vec<Worker<B>>,
-    plan: &Plan,
-    parts: &[Run],
+    pass: &Pass<'_>,
     posts: &mut Vec<Post<D, C>>,
 ) -> Result<Vec<Vec<Option<Run>>>, WorkFault>
     requires workers { AreWorkers executor.now.manager.now B.sizes.workers workers.old.items }
-    requires free { (worker : ℕ) (any : PassState) → worker < B.sizes.workers
-        → IsFree (slice_index_or workers.old.items worker any) }
-    requires owner { (part : ℕ) → part < length parts.now → B.owner part ≡ Some (part % B.sizes.workers) }
-    requires fresh { (worker part : ℕ) (any : PassState) → worker < B.sizes.workers → part < length parts.now
-        → was_begun (own_of (slice_index_or workers.old.items worker any)) part ≡ false }
+    requires pass { IsPass pass.now }
+    requires may { MayDoAll B.owner B.sizes.workers pass.now workers.old.items }
     requires posts { B.sizes.workers ≤ length posts.old.items }
     requires few_posts { length posts.old.items < 2 ^ 32 }
-    requires few { length parts.now ≤ 10000000 }
-    requires short { All (λ run. run.greatest ≤ 36 + 4 * columns_of (form_in plan.now) + 65536) parts.now }
-    requires one { length (kept_in plan.now) ≡ 1 }
     requires consumers { All (λ post. HasConsumers (map C.state post.consumers.items)) posts.old.items }
-    ensures finished { IfOk result (λ all. Finished C.state D.files B.sizes.workers B.sizes.workers plan.now parts.now
+    ensures finished { IfOk result (λ all. Finished C.state D.files B.sizes.workers B.sizes.workers pass.now
         workers.old.items workers.new.items posts.old.items posts.new.items (map (λ answers.
         answers.items) all.items)) }
-    ensures reached { Reached C.state D.files D.faults B.sizes.workers (length parts.now) B.sizes.workers
+    ensures reached { Reached C.state D.files D.faults B.sizes.workers B.sizes.workers pass.now
         workers.old.items workers.new.items posts.old.items posts.new.items }
     ensures sound { (rows : ℕ → List (List (List ℕ))) →
-        ((part : ℕ) → part < length parts.now → HoldsRows
-        (files_on (disk_at (λ post. post.disk)) D.files posts.old (part % B.sizes.workers)) (form_in plan.now)
-        (run_at parts.now part) (rows part)) →
+        HoldsAll (files_on (disk_at (λ post. post.disk)) D.files posts.old) pass.now B.sizes.workers rows →
         IfSound (λ _. ⊤) result }
     ensures no_room { IfNoRoom result (λ asked held floor. (worker task : ℕ) × (worker < B.sizes.workers)
         × ((any : PassState) → ShowsNoRoom B.sizes (own_of (slice_index_or workers.new.items worker any)) task
@@ -79,6 +67,6 @@ pub(crate) fn run_each<
     let Ok(mut answers) = no_answers(executor.alloc, count) else {
         return Err(WorkFault::NoMemory);
     };
-    run_at_once(executor, count, workers, plan, parts, posts, &mut answers);
+    run_at_once(executor, count, workers, pass, posts, &mut answers);
     all_of(executor.alloc, answers)
 }

@@ -127,7 +127,7 @@ fn merge_lists<C: Consumer, P: Pool, D: Disk>(
 }
 
 // Takes the list at a place, where an empty one is left.
-fn take_list(alloc: Global, lists: &mut Vec<Vec<Run>>, i: usize) -> Vec<Run>
+pub(crate) fn take_list(alloc: Global, lists: &mut Vec<Vec<Run>>, i: usize) -> Vec<Run>
     requires within { i < length lists.old.items }
     ensures taken { result.items ≡ runs_at (lists_of lists.old.items) i }
     ensures left { lists_of lists.new.items ≡ slice_set (lists_of lists.old.items) i [] }

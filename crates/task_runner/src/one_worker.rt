@@ -5,11 +5,11 @@ ghost use Rattle.task_runner.specs.AllWorkers.{named_as};
 ghost use Rattle.task_runner.specs.AtOnce.{MayRun, Ran};
 
 use crate::executor::Executor;
+use crate::pass::Pass;
 use crate::post::Post;
 use crate::work_fault::WorkFault;
 use crate::worker::run_worker;
 use consumer_trait::Consumer;
-use job_plan::Plan;
 use memory_lock::{Basis, Worker};
 use run_file::{Damage, Run};
 use spill_disk::Disk;
@@ -20,18 +20,17 @@ use std::sync::Wait;
 pub(crate) fn run_as<K: Disk, D: Disk, C: Consumer, B: Basis, R: Wait>(
     executor: &Executor<'_, R, K, B>,
     worker: &mut Worker<B>,
-    plan: &Plan,
-    parts: &[Run],
+    pass: &Pass<'_>,
     workers: usize,
     post: &mut Post<D, C>,
     place: u32,
 ) -> Result<Vec<Option<Run>>, WorkFault>
-    requires may { MayRun C.state executor.now.manager.now B.owner workers plan.now parts.now place
+    requires may { MayRun C.state executor.now.manager.now B.owner workers pass.now place
         worker.old post.old }
-    ensures ran { Ran C.state D.files D.faults B.sizes workers plan.now parts.now place worker.old worker.new
+    ensures ran { Ran C.state D.files D.faults B.sizes workers pass.now place worker.old worker.new
         post.old post.new result }
 {
-    let answer = run_worker(executor, worker, plan, parts, workers, post);
+    let answer = run_worker(executor, worker, pass, workers, post);
     // For the proof: that the worker rests is known with its number.
     let _number = worker.number();
     match answer {

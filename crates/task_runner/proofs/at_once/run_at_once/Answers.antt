@@ -1,6 +1,8 @@
 use Rattle.std.proofs.Common.{◌≡◌, ◌∙◌, ◌+◌, ℕ, rules, sym, ap, subst, length, slice_index_or, arith}
 use Rattle.worker_threads.proofs.Steps.{places_by, places_in_lists}
 use Rattle.task_runner.specs.AtOnce.{MayRun, Ran}
+use Rattle.task_runner.specs.PassViews.{PassView, pass_with}
+use Rattle.task_runner.proofs.AllAtOnce.{ran_alike}
 use Rattle.task_runner.proofs.at_once.run_at_once.Goals as goal
 
 pub each_place-requires-clause-accepts : goal.each_place-requires-clause-accepts
@@ -11,15 +13,20 @@ each_place-requires-clause-accepts g c κs within = λ k w p below one other is_
     let other_is : other.now ≡ slice_index_or c.args.posts.now.items k p = is_other ∙ ap (λ xs. slice_index_or xs k p) ps in
     let may = c.requires.may k w p (omega (arith, below, ap length ws)) in
     let place : k ≡ 0 + k = omega arith in
-    rw (one_is, other_is) (subst (λ (j : ℕ). MayRun g.C.Consumer.state c.args.executor.now.manager.now g.B.Basis.owner c.args.count c.args.plan.now c.args.parts.now j
-    (slice_index_or c.args.workers.now.items k w) (slice_index_or c.args.posts.now.items k p)) place may)
+    rw (one_is, other_is) (subst (λ (view : PassView). MayRun g.C.Consumer.state c.args.executor.now.manager.now g.B.Basis.owner c.args.count view (0 + k)
+    (slice_index_or c.args.workers.now.items k w) (slice_index_or c.args.posts.now.items k p)) (sym c.pass.view_is)
+    (subst (λ (j : ℕ). MayRun g.C.Consumer.state c.args.executor.now.manager.now g.B.Basis.owner c.args.count c.args.pass.now j
+    (slice_index_or c.args.workers.now.items k w) (slice_index_or c.args.posts.now.items k p)) place may))
 
 pub returns : goal.returns
-returns g c = record {
-  ran = places_in_lists (Ran g.C.Consumer.state g.D.Disk.files g.D.Disk.faults g.B.Basis.sizes c.args.count c.args.plan.now c.args.parts.now) 0
-      c.args.workers.now.len c.args.posts.now.len c.args.answers.now.len
-      _ c.args.workers.now.items _ _ c.args.posts.now.items _ c.args.answers.now.items _
-      (search rules) (search rules) (search rules) (search rules) (search rules) (search rules)
-      (places_by _ (Ran g.C.Consumer.state g.D.Disk.files g.D.Disk.faults g.B.Basis.sizes c.args.count c.args.plan.now c.args.parts.now) _ _ _ _ _ _
-      (λ k w w' p p' a seat. rw (sym seat.one_is, sym seat.other_is, sym seat.one_left, sym seat.other_left) seat.call) c.each_place.ensures);
-}
+returns g c =
+    let inner : PassView = pass_with c.pass.inside.plan.now c.pass.inside.queries.now c.pass.inside.parts.now c.pass.inside.first in
+    record {
+      ran = ran_alike g.C.Consumer.state g.D.Disk.files g.D.Disk.faults g.B.Basis.sizes c.args.count inner c.args.pass.now c.pass.view_is _ _ _ _ _
+          (places_in_lists (Ran g.C.Consumer.state g.D.Disk.files g.D.Disk.faults g.B.Basis.sizes c.args.count inner) 0
+          c.args.workers.now.len c.args.posts.now.len c.args.answers.now.len
+          _ c.args.workers.now.items _ _ c.args.posts.now.items _ c.args.answers.now.items _
+          (search rules) (search rules) (search rules) (search rules) (search rules) (search rules)
+          (places_by _ (Ran g.C.Consumer.state g.D.Disk.files g.D.Disk.faults g.B.Basis.sizes c.args.count inner) _ _ _ _ _ _
+          (λ k w w' p p' a seat. rw (sym seat.one_is, sym seat.other_is, sym seat.one_left, sym seat.other_left) seat.call) c.each_place.ensures));
+    }

@@ -1,31 +1,27 @@
-use Rattle.std.proofs.Common.{◌≡◌, ◌∙◌, List, Option, None, map, length, arith}
-use Rattle.std.proofs.lemmas.List.{get_or_default}
-use Rattle.run_file.specs.declared.run.Run.{Run}
-use Rattle.task_runner.specs.Workers.{answer_at}
-use Rattle.task_runner.proofs.OneQuery.{alone, answer_alone, feeds_alone, made_alone, only_alone}
+use Rattle.std.proofs.Common.{map, subst}
+use Rattle.run_file.specs.Several.{run_at}
+use Rattle.task_runner.specs.OneWorker.{DoesOne, Scene, scene_of}
+use Rattle.task_runner.specs.PassViews.{PassView}
 use Rattle.task_runner.proofs.worker.next_task.Goals as goal
-
-pub run_task-requires-clause-queries : goal.run_task-requires-clause-queries
-run_task-requires-clause-queries g c = alone c.args.plan.now c.requires.one
 
 pub returns-in-Ok-clause-adds : goal.returns-in-Ok-clause-adds
 returns-in-Ok-clause-adds g c =
-    let plan = c.args.plan.now in
-    let before = g.D.Disk.files c.args.post.now.disk in
-    let after = g.D.Disk.files c.run_task.new.post.disk in
-    let found : List (Option Run) = c.in_ok-found.found.items in
-    let answer : Option Run = c.index.result.now in
     let done = c.in_ok-found.ensures in
-    let count : length found ≡ 1 = done.count in
-    let is : answer ≡ answer_at found 0 = c.index.ensures ∙ get_or_default found 0 answer None (omega (arith, count)) in (
-      answer,
-      record {
+    let found = c.in_ok-found.found.items in
+    let post = c.args.post.now in
+    let before : Scene = scene_of c.args.worker.now (map g.C.Consumer.state post.consumers.items) (g.D.Disk.files post.disk) (g.D.Disk.faults post.disk) in
+    let new = c.run_task.new.post in
+    let after : Scene = scene_of c.run_task.new.worker (map g.C.Consumer.state new.consumers.items) (g.D.Disk.files new.disk) (g.D.Disk.faults new.disk) in
+    let inner : PassView = record { plan = c.pass.inside.plan.now; queries = c.pass.inside.queries.now; parts = c.pass.inside.parts.now; first = c.pass.inside.first } in (
+      found,
+      subst (λ (view : PassView). DoesOne view (run_at view.parts c.args.part) c.args.part before after found) c.pass.view_is (record {
         stays = record { consumers = done.consumers; free = done.free; pin = done.pin; sees = done.sees; disk = done.disk };
-        tells = λ rows hold. answer_alone after plan rows found answer is (done.answer rows hold);
-        made = made_alone before found answer is done.made;
-        only = only_alone before after found answer done.count is done.only;
-        fed = feeds_alone plan (map g.C.Consumer.state c.args.post.now.consumers.items) (map g.C.Consumer.state c.run_task.new.post.consumers.items) c.args.landed.now.count done.fed;
+        count = done.count;
+        tells = λ rows hold. done.answer rows hold;
+        made = done.made;
+        only = done.only;
+        fed = done.fed;
         works = done.works;
-      },
+      }),
       c.in-Ok.ensures.items,
     )
