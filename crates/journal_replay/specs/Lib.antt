@@ -1,0 +1,4 @@
+pub mod Tables
+pub mod Replays
+pub mod Checks
+pub mod Verdicts
