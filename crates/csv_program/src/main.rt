@@ -15,6 +15,7 @@ mod table;
 mod tests;
 mod top;
 
+use audit_program::{AuditStatus, audit_call};
 use byte_io::{StdSink, StdSource};
 use outcome::Status;
 use plan::plan_call;
@@ -57,6 +58,20 @@ fn end_with(rt: &impl Eprint, number: u8, text: &impl Display) -> ExitCode {
     ExitCode::from(number)
 }
 
+// The process' end after an audit. The line of a verdict says all; any other end has its text.
+fn end_audit(rt: &impl Eprint, ended: AuditStatus) -> ExitCode {
+    let number = ended.number();
+    match ended {
+        AuditStatus::BadWords => end_with(rt, number, &Status::BadWords),
+        AuditStatus::ReadFault => end_with(rt, number, &Status::ReadFault),
+        AuditStatus::WriteFault => end_with(rt, number, &Status::WriteFault),
+        AuditStatus::NoMemory => end_with(rt, number, &Status::NoMemory),
+        AuditStatus::Yes { .. } | AuditStatus::No { .. } | AuditStatus::BadLine { .. } => {
+            ExitCode::from(number)
+        }
+    }
+}
+
 fn main(rt: HostRuntime) -> ExitCode {
     let words = match words_of_call(&rt) {
         Ok(words) => words,
@@ -71,6 +86,12 @@ fn main(rt: HostRuntime) -> ExitCode {
         let mut output = StdSink::new(io::writer(&rt));
         let status = plan_call(rt.alloc(), &texts, &mut input, &mut output);
         return end_with(&rt, status.number(), &status);
+    }
+    if begins_with(&texts, "audit") {
+        let mut input = StdSource::new(rt.reader());
+        let mut output = StdSink::new(io::writer(&rt));
+        let ended = audit_call(rt.alloc(), &texts, &mut input, &mut output);
+        return end_audit(&rt, ended);
     }
     // The folder is this process' own until its end.
     let (mut posts, store, _lock) = match prepare(&rt, &texts) {
