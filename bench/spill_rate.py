@@ -3,11 +3,11 @@
 beside plain Rust.
 
 Run it at the top of the repository, after `rt run` in crates/spill_rate has built the program. Each entry has a key of
-8 bytes and a value of 32, two numbers of 128 bits. Where cargo is at hand, a Rust program puts as many entries through a
-map of the crate `indexmap`, with the hash of ours, that is sorted at the end and written to pages; through a stable sort;
-and through a heap over eight sorted lists, in the same run. Its keys are drawn as ours are, its values are the same, and
-its map adds both numbers of each. What a spill writes is let go; the runs of a merge are in memory. All times are
-processor time, without that of a run with no entry.
+8 bytes, or of 12 of which the first four are the same in all, and a value of 32, two numbers of 128 bits. Where cargo is
+at hand, a Rust program puts as many entries through a map of the crate `indexmap`, with the hash of ours, that is sorted
+at the end and written to pages; through a stable sort; and through a heap over eight sorted lists, in the same run. Its
+keys are drawn as ours are, its values are the same, and its map adds both numbers of each. What a spill writes is let go;
+the runs of a merge are in memory. All times are processor time, without that of a run with no entry.
 
 The sources of `indexmap` are Debian's: `apt-get install librust-indexmap-dev`. Without them the map is std's, counts
 alone, and the lines of maps say so.
@@ -50,10 +50,11 @@ INDEXED = (
             value[31] = (keys % 256) as u8;
             let mut groups: IndexMap<Vec<u8>, [i128; 2], BuildHasherDefault<Fold>> = IndexMap::default();
             for _ in 0..entries {
-                let key = drawn.key(keys);
+                key[4..].copy_from_slice(&drawn.key(keys));
+                let key = &key[from..];
                 let (first, second) = value.split_at(16);
                 let numbers = [first, second].map(|bytes| i128::from_be_bytes(bytes.try_into().unwrap()));
-                match groups.get_mut(&key[..]) {
+                match groups.get_mut(key) {
                     Some(sums) => for (sum, number) in sums.iter_mut().zip(numbers) { *sum = sum.wrapping_add(number); },
                     None => { groups.insert(key.to_vec(), numbers); }
                 }
@@ -74,8 +75,9 @@ HASHED = (
             let mut places: HashMap<Vec<u8>, usize, BuildHasherDefault<Fold>> = HashMap::default();
             let mut sums: Vec<[i128; 2]> = Vec::new();
             for _ in 0..entries {
-                let key = drawn.key(keys);
-                match places.get(&key[..]) {
+                key[4..].copy_from_slice(&drawn.key(keys));
+                let key = &key[from..];
+                match places.get(key) {
                     Some(&place) => sums[place][0] += 1,
                     None => { places.insert(key.to_vec(), sums.len()); sums.push([1, 0]); }
                 }
@@ -155,7 +157,9 @@ fn main() {
     let words: Vec<String> = std::env::args().collect();
     let keys: u64 = words[2].parse().unwrap();
     let entries: u64 = words[3].parse().unwrap();
+    let from: usize = 12 - words.get(5).map_or(8, |bytes| bytes.parse().unwrap());
     let mut drawn = Drawn(1);
+    let mut key = [0u8; 12];
     let rows = match words[1].as_str() {
         "map" => {@MAP@        }
         "sort" => {
@@ -192,18 +196,26 @@ fn main() {
 
 
 def spent(words):
-    """The least processor seconds of some runs of a command, and what it printed."""
-    times = []
+    """The processor seconds of a run of a command, and what it printed."""
+    run = subprocess.Popen([str(word) for word in words], stdout=subprocess.PIPE)
+    told = run.stdout.read().decode().strip()
+    _, status, use = os.wait4(run.pid, 0)
+    run.returncode = os.waitstatus_to_exitcode(status)
+    run.stdout.close()
+    if run.returncode:
+        sys.exit(f"{words[0]} ended with {run.returncode}")
+    return use.ru_utime + use.ru_stime, told
+
+
+def least(commands):
+    """The least processor seconds of some runs of each command, which take turns so that other work on the machine meets all
+    alike, and what each printed last."""
+    times = [[] for _ in commands]
     for _ in range(REPS):
-        run = subprocess.Popen([str(word) for word in words], stdout=subprocess.PIPE)
-        told = run.stdout.read().decode().strip()
-        _, status, use = os.wait4(run.pid, 0)
-        run.returncode = os.waitstatus_to_exitcode(status)
-        run.stdout.close()
-        if run.returncode:
-            sys.exit(f"{words[0]} ended with {run.returncode}")
-        times.append(use.ru_utime + use.ru_stime)
-    return min(times), told
+        runs = [spent(words) for words in commands]
+        for taken, (took, _) in zip(times, runs):
+            taken.append(took)
+    return [min(taken) for taken in times], [told for _, told in runs]
 
 
 def indexed_program(folder):
@@ -233,36 +245,38 @@ def plain_text(shape):
 
 
 def main():
-    start, _ = spent([PROGRAM, "map", 1, 0, 1 << 20])
     with tempfile.TemporaryDirectory() as folder:
         plain = indexed_program(folder)
         note = ""
         if not plain:
             plain, note = plain_program(folder, plain_text(HASHED)), " (std's map, which counts alone)"
-        plain_start = spent([plain, "map", 1, 0])[0] if plain else 0
-        for name, kind, keys, most in (
-            ("map, 1,000 keys", "map", 1000, 1 << 30),
-            ("map, half as many keys as entries", "map", ENTRIES // 2, 1 << 34),
-            ("map, the same, 16 MiB", "map", ENTRIES // 2, 16 << 20),
-            ("map, the same, 1 MiB", "map", ENTRIES // 2, 1 << 20),
-            ("sorter", "sort", 1 << 40, 1 << 34),
-            ("sorter, 16 MiB", "sort", 1 << 40, 16 << 20),
-            ("sorter, 1 MiB", "sort", 1 << 40, 1 << 20),
+        programs = [[PROGRAM], [plain]] if plain else [[PROGRAM]]
+        starts, _ = least([program + ["map", 1, 0, 1 << 20] for program in programs])
+        for name, kind, keys, most, key_bytes in (
+            ("map, 1,000 keys", "map", 1000, 1 << 30, 8),
+            ("map, half as many keys as entries", "map", ENTRIES // 2, 1 << 34, 8),
+            ("map, 1,000 keys of 12 bytes", "map", 1000, 1 << 30, 12),
+            ("map, half as many of 12 bytes", "map", ENTRIES // 2, 1 << 34, 12),
+            ("map, half as many, 16 MiB", "map", ENTRIES // 2, 16 << 20, 8),
+            ("map, half as many, 1 MiB", "map", ENTRIES // 2, 1 << 20, 8),
+            ("sorter", "sort", 1 << 40, 1 << 34, 8),
+            ("sorter, 16 MiB", "sort", 1 << 40, 16 << 20, 8),
+            ("sorter, 1 MiB", "sort", 1 << 40, 1 << 20, 8),
         ):
-            took, told = spent([PROGRAM, kind, keys, ENTRIES, most])
-            line = f"{name:36} {ENTRIES / (took - start) / 1e6:7.3f} million entries/s  {told}"
-            if plain:
-                theirs, _ = spent([plain, kind, keys, ENTRIES])
-                times = (took - start) / (theirs - plain_start)
-                line += f"  plain {ENTRIES / (theirs - plain_start) / 1e6:7.3f}, {times:.2f} of its time"
-                line += note if kind == "map" else ""
-            print(line)
-        took = spent([PROGRAM, "merge", 1 << 40, ENTRIES, 1 << 34])[0] - spent([PROGRAM, "runs", 1 << 40, ENTRIES, 1 << 34])[0]
-        line = f"{'merge of 8 runs':36} {ENTRIES / took / 1e6:7.3f} million entries/s"
-        if plain:
-            theirs = spent([plain, "merge", 1 << 40, ENTRIES])[0] - spent([plain, "runs", 1 << 40, ENTRIES])[0]
-            line += f"  plain {ENTRIES / theirs / 1e6:7.3f}, {took / theirs:.2f} of its time"
-        print(line)
+            words = [kind, keys, ENTRIES, most, key_bytes]
+            took, told = least([program + words for program in programs])
+            print_line(name, [all - start for all, start in zip(took, starts)], told[0], note if kind == "map" else "")
+        words = [1 << 40, ENTRIES, 1 << 34, 8]
+        took, _ = least([program + [kind] + words for program in programs for kind in ("merge", "runs")])
+        print_line("merge of 8 runs", [merge - runs for merge, runs in zip(took[::2], took[1::2])], "", "")
+
+
+def print_line(name, seconds, told, note):
+    """Prints the rate of our program, what it printed, and the rate of plain Rust where that ran."""
+    line = f"{name:36} {ENTRIES / seconds[0] / 1e6:7.3f} million entries/s  {told}"
+    for theirs in seconds[1:]:
+        line += f"  plain {ENTRIES / theirs / 1e6:7.3f}, {seconds[0] / theirs:.2f} of its time{note}"
+    print(line)
 
 
 main()

@@ -89,21 +89,6 @@ parts_of front len rest key bytes is_front is_len is_rest =
       rest_is = is_rest ∙ sym (ap (drop 8) made);
     }
 
--- ---- the key without a byte
-
-no_bytes : AreBytes []
-no_bytes k = omega arith
-
-front_none : 0 ≡ front_of []
-unfolding front_of
-front_none = omega arith
-
-pub none_made : (rest : List ℕ) → rest ≡ [] → bytes_by 0 0 rest ≡ []
-none_made rest none = none
-
-pub parts_none : (rest : List ℕ) → rest ≡ [] → AreParts 0 0 rest
-parts_none rest none = parts_of 0 0 rest [] no_bytes front_none refl none
-
 -- ---- keys are compared by their parts
 
 same_is : (a b : List ℕ) → a ≡ b → pointwise nat_eq a b ≡ true

@@ -10,74 +10,56 @@ ghost use Rattle.group_map.specs.Keys.{rest_input};
 
 use aggregate::front;
 use std::alloc::{AllocError, Global};
+use std::borrow::CowSlice;
 use std::hash::{Hash, Hasher};
 use std::marker::Model;
 
-/// A key's bytes. The first 8 are kept as one number, which is hashed and compared at once, so a key that has no
-/// more has no memory of its own.
+/// A key's bytes. The first 8 are kept as one number, which is hashed and compared at once; those behind them are its
+/// own, or lent by who looks a key up. A key that has no more than 8 has no memory of its own.
 #[derive(Drop)]
-pub struct GroupKey {
+pub struct GroupKey<'a> {
     front: u64,
     len: usize,
-    rest: Vec<u8>,
+    rest: CowSlice<'a, u8>,
 }
 
-impl Model for GroupKey {
+impl<'a> Model for GroupKey<'a> {
+    ghost use Rattle.std.specs.Cow.{cow_slice_items};
     ghost use Rattle.std.specs.Prelude.{List, ℕ};
     ghost use Rattle.group_map.specs.Keys.{bytes_by, AreParts};
 
     ghost Value = { List ℕ };
 
-    ghost view = { λ key. bytes_by key.front key.len key.rest.items };
+    ghost view = { λ key. bytes_by key.front key.len (cow_slice_items key.rest) };
 
-    ghost invariant = { λ key. AreParts key.front key.len key.rest.items };
+    ghost invariant = { λ key. AreParts key.front key.len (cow_slice_items key.rest) };
 }
 
-impl GroupKey {
-    /// The key without a byte.
-    pub fn new(alloc: Global) -> GroupKey
-        ensures { result ≡ [] }
+impl GroupKey<'static> {
+    /// The key with a copy of these bytes.
+    pub fn owned(alloc: Global, bytes: &[u8]) -> Result<GroupKey<'static>, AllocError>
+        ensures { IfOk result (λ key. key ≡ bytes.now) }
     {
-        GroupKey {
-            front: 0,
-            len: 0,
-            rest: Vec::new(alloc),
-        }
+        let mut rest = Vec::new(alloc);
+        rest.extend_from_slice(behind(bytes))?;
+        Ok(GroupKey {
+            front: front(bytes),
+            len: bytes.len(),
+            rest: CowSlice::Owned(rest),
+        })
     }
+}
 
-    /// The key with these bytes, at most 8. It takes no memory.
-    pub fn short(alloc: Global, bytes: &[u8]) -> GroupKey
-        requires { length bytes.now ≤ 8 }
+impl<'a> GroupKey<'a> {
+    /// The key with these very bytes. It takes no memory.
+    pub fn lent(bytes: &'a [u8]) -> GroupKey<'a>
         ensures { result ≡ bytes.now }
     {
         GroupKey {
             front: front(bytes),
             len: bytes.len(),
-            rest: Vec::new(alloc),
+            rest: CowSlice::Borrowed(behind(bytes)),
         }
-    }
-
-    /// The key with these bytes.
-    pub fn of(alloc: Global, bytes: &[u8]) -> Result<GroupKey, AllocError>
-        ensures { IfOk result (λ key. key ≡ bytes.now) }
-    {
-        let mut key = GroupKey::new(alloc);
-        key.set(bytes)?;
-        Ok(key)
-    }
-
-    /// Makes it the key with these bytes, in the memory that it has where this is enough. After an `Err` it is another.
-    pub fn set(&mut self, bytes: &[u8]) -> Result<(), AllocError>
-        ensures { OnOk result (self.new ≡ bytes.now) }
-    {
-        if let Err(refused) = keep_rest(&mut self.rest, bytes) {
-            self.front = 0;
-            self.len = 0;
-            return Err(refused);
-        }
-        self.front = front(bytes);
-        self.len = bytes.len();
-        Ok(())
     }
 
     /// Puts its bytes behind others.
@@ -86,48 +68,45 @@ impl GroupKey {
     {
         let first = self.front.to_be_bytes();
         into.extend_from_slice(&first[..self.len.min(8)])?;
-        into.extend_from_slice(&self.rest)
+        into.extend_from_slice(self.rest.as_slice())
     }
 }
 
-/// Keeps the bytes behind the first 8 alone. After an `Err` there are none.
-fn keep_rest(rest: &mut Vec<u8>, bytes: &[u8]) -> Result<(), AllocError>
-    ensures ok { OnOk result (rest.new.items ≡ drop 8 bytes.now) }
-    ensures err { OnErr result (rest.new.items ≡ []) }
+/// The bytes behind the first 8.
+fn behind(bytes: &[u8]) -> &[u8]
+    ensures { result.now ≡ drop 8 bytes.now }
 {
-    rest.clear();
-    if bytes.len() > 8 {
-        rest.extend_from_slice(&bytes[8..])?;
-    }
-    Ok(())
+    &bytes[bytes.len().min(8)..]
 }
 
-impl PartialEq for GroupKey {
+impl<'a> PartialEq for GroupKey<'a> {
     ghost eq = { pointwise nat_eq };
 
     ghost laws = { partial_equiv_from_equiv nat_list_eq_equiv };
 
-    fn eq(&self, other: &GroupKey) -> bool {
+    fn eq(&self, other: &GroupKey<'a>) -> bool {
         self.front == other.front
             && self.len == other.len
-            && (self.len <= 8 || self.rest == other.rest)
+            && (self.len <= 8 || self.rest.as_slice() == other.rest.as_slice())
     }
 }
 
-impl Eq for GroupKey {
+impl<'a> Eq for GroupKey<'a> {
     ghost laws = { nat_list_eq_equiv };
 }
 
-impl Hash for GroupKey {
-    ghost hash_input = { λ key. fed.u64 (front_of key) ++ rest_input (drop 8 key) };
+impl<'a> Hash for GroupKey<'a> {
+    ghost hash_input = { λ key. rest_input (drop 8 key) ++ fed.u64 (front_of key) };
 
     ghost respects_eq = { λ x y same.
-        ap (λ key. fed.u64 (front_of key) ++ rest_input (drop 8 key)) ((bytes_decides x y).0 same) };
+        ap (λ key. rest_input (drop 8 key) ++ fed.u64 (front_of key)) ((bytes_decides x y).0 same) };
 
+    // The front comes last: of four bytes alone std's hasher makes numbers whose low bits are often the same.
     fn hash<H: Hasher>(&self, state: &mut H) {
-        state.write_u64(self.front);
-        if !self.rest.is_empty() {
-            state.write(&self.rest);
+        let rest = self.rest.as_slice();
+        if !rest.is_empty() {
+            state.write(rest);
         }
+        state.write_u64(self.front);
     }
 }

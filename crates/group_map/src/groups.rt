@@ -15,10 +15,8 @@ use std::alloc::{AllocError, Global};
 #[derive(Drop)]
 pub struct Groups {
     pub width: usize,
-    keys: IndexSet<GroupKey>,
+    keys: IndexSet<GroupKey<'static>>,
     values: Vec<u8>,
-    // the key that was looked up last, whose memory serves the next
-    asked: GroupKey,
     ghost whole: { length values.items ≡ width * length keys.keys },
     ghost narrow: { width ≤ 128 },
     ghost short: { All (λ key. length key ≤ 131152) keys.keys },
@@ -41,7 +39,6 @@ impl Groups {
             width,
             keys: IndexSet::new(alloc),
             values: Vec::new(alloc),
-            asked: GroupKey::new(alloc),
         }
     }
 
@@ -59,36 +56,27 @@ impl Groups {
         self.keys.is_empty()
     }
 
-    /// Combines the value into that of its key, and says whether the key was there. After an `Err`, which is want of
-    /// memory for a key of more than 8 bytes, nothing changed.
-    pub fn combine_known(
-        &mut self,
-        alloc: Global,
-        aggs: &AggList,
-        key: &[u8],
-        value: &[u8],
-    ) -> Result<bool, AllocError>
+    /// Combines the value into that of its key, and says whether the key was there. If it wasn't, nothing changed.
+    pub fn combine_known(&mut self, aggs: &AggList, key: &[u8], value: &[u8]) -> bool
         requires value { length value.now ≡ 16 * length aggs.now }
         requires width { self.old.width ≡ 16 * length aggs.now }
         requires apart { AreApart (entries_of_groups self.old) }
-        ensures known { IfOk result (λ known. known ≡ has_key key.now (entries_of_groups self.old)) }
-        ensures takes { IfOk result (λ known. known ≡ true → TakesIn aggs.now
+        ensures known { result ≡ has_key key.now (entries_of_groups self.old) }
+        ensures takes { result ≡ true → TakesIn aggs.now
             (entries_of_groups self.old) (entries_of_groups self.new)
-            (record { key = key.now; value = value.now }) 0) }
-        ensures enough { IfOk result (λ known. known ≡ true
-            → cost (record { key = key.now; value = value.now }) ≤ costs (entries_of_groups self.old)) }
-        ensures same { IfOk result (λ known. known ≡ false
-            → entries_of_groups self.new ≡ entries_of_groups self.old) }
-        ensures err { OnErr result (entries_of_groups self.new ≡ entries_of_groups self.old) }
+            (record { key = key.now; value = value.now }) 0 }
+        ensures enough { result ≡ true
+            → cost (record { key = key.now; value = value.now }) ≤ costs (entries_of_groups self.old) }
+        ensures same { result ≡ false → entries_of_groups self.new ≡ entries_of_groups self.old }
         ensures width { self.new.width ≡ self.old.width }
     {
         combine_is_associative();
-        let Some(place) = place_of(alloc, &self.keys, &mut self.asked, key)? else {
-            return Ok(false);
+        let Some(place) = place_of(&self.keys, key) else {
+            return false;
         };
         let at = self.width * place;
         combine(aggs, &mut self.values[at..at + self.width], value);
-        Ok(true)
+        true
     }
 
     /// Puts a copy of an entry behind the others. After an `Err` nothing changed.
@@ -101,7 +89,7 @@ impl Groups {
         ensures err { OnErr result (entries_of_groups self.new ≡ entries_of_groups self.old) }
         ensures width { self.new.width ≡ self.old.width }
     {
-        let copy = GroupKey::of(alloc, key)?;
+        let copy = GroupKey::owned(alloc, key)?;
         let count = self.values.len();
         self.values.extend_from_slice(value)?;
         let Ok(_) = self.keys.insert(copy) else {
@@ -137,20 +125,11 @@ impl Groups {
     }
 }
 
-// The place of a key, if it is there. A short key is made on the way; a long one takes the memory of the one before.
-fn place_of(
-    alloc: Global,
-    keys: &IndexSet<GroupKey>,
-    asked: &mut GroupKey,
-    key: &[u8],
-) -> Result<Option<usize>, AllocError>
-    ensures place { IfOk result (λ place. place ≡ position (pointwise nat_eq key.now) keys.now.keys) }
-    ensures known { IfOk result (λ place. is_some place ≡ list_any (pointwise nat_eq key.now) keys.now.keys) }
-    ensures within { IfOk result (λ place. IfSome place (λ i. i < length keys.now.keys)) }
+// The place of a key, if it is there. Keys that own their bytes may stand for keys that are lent theirs.
+fn place_of(keys: &IndexSet<GroupKey<'static>>, key: &[u8]) -> Option<usize>
+    ensures place { result ≡ position (pointwise nat_eq key.now) keys.now.keys }
+    ensures known { is_some result ≡ list_any (pointwise nat_eq key.now) keys.now.keys }
+    ensures within { IfSome result (λ i. i < length keys.now.keys) }
 {
-    if key.len() <= 8 {
-        return Ok(keys.get_index_of(&GroupKey::short(alloc, key)));
-    }
-    asked.set(key)?;
-    Ok(keys.get_index_of(&*asked))
+    keys.get_index_of(&GroupKey::lent(key))
 }

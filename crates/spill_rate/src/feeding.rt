@@ -71,9 +71,9 @@ pub fn feed_one<C: Consumer>(
     Err(AllocError)
 }
 
-/// Feeds a new consumer so many drawn entries, each with a value of 32 bytes, and grants it at most `most` bytes: where
-/// that isn't enough it is spilled. Answers how many spills there were, the last one at the end, and how many rows they
-/// wrote.
+/// Feeds a new consumer so many drawn entries, each with a key of 8 to 12 bytes and a value of 32, and grants it at most
+/// `most` bytes: where that isn't enough it is spilled. Answers how many spills there were, the last one at the end, and
+/// how many rows they wrote.
 pub fn feed_all<C: Consumer>(
     alloc: Global,
     consumer: &mut C,
@@ -81,6 +81,7 @@ pub fn feed_all<C: Consumer>(
     keys: u64,
     entries: u64,
     most: u64,
+    key_bytes: usize,
 ) -> Result<(u64, u64), AllocError>
     requires serves { (C.state consumer.old).serves kind.now ≡ true }
     requires fresh { C.state consumer.old ≡ as_reset (C.state consumer.old) }
@@ -95,9 +96,12 @@ pub fn feed_all<C: Consumer>(
     let mut value = [0; 32];
     // It is known only when the program runs, as a row's value is.
     value[31] = (keys % 256) as u8;
+    // Of its bytes the last ones are the number that was drawn: keys that are longer begin alike.
+    let mut key = [0; 12];
+    let first = 12 - key_bytes.clamp(8, 12);
     for _entry in 0..entries {
-        let key = drawn.key(keys);
-        let (more, written) = feed_one(consumer, &mut page, &key, &value, most)?;
+        key[4..].copy_from_slice(&drawn.key(keys));
+        let (more, written) = feed_one(consumer, &mut page, &key[first..], &value, most)?;
         spills = spills.saturating_add(more);
         rows = rows.saturating_add(written);
     }

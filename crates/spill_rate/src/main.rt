@@ -22,30 +22,36 @@ enum Way {
     Runs { merges: bool },
 }
 
-/// What the words ask for: the way, of how many keys the entries' keys are, how many entries there are, and how many bytes
-/// the consumer is granted at most.
+/// What the words ask for: the way, of how many keys the entries' keys are, how many entries there are, how many bytes
+/// the consumer is granted at most, and how many a key has, if not 8.
 #[derive(Clone, Copy)]
 struct Wish {
     way: Way,
     keys: u64,
     entries: u64,
     most: u64,
+    key_bytes: usize,
 }
 
 // Without words a thousand entries of a hundred keys go to a map of 4,000 bytes.
-fn wish_of(words: [Option<String>; 4]) -> Option<Wish> {
-    let [kind, keys, entries, most] = words;
+fn wish_of(words: [Option<String>; 5]) -> Option<Wish> {
+    let [kind, keys, entries, most, key_bytes] = words;
     let Some(kind) = kind else {
         return Some(Wish {
             way: Way::Map,
             keys: 100,
             entries: 1000,
             most: 4000,
+            key_bytes: 8,
         });
     };
     let keys = keys?.as_str().parse::<u64>().ok()?;
     let entries = entries?.as_str().parse::<u64>().ok()?;
     let most = most?.as_str().parse::<u64>().ok()?;
+    let key_bytes = match key_bytes {
+        Some(bytes) => bytes.as_str().parse::<usize>().ok()?,
+        None => 8,
+    };
     let way = match kind.as_str() {
         "map" => Way::Map,
         "sort" => Way::Sorter,
@@ -58,6 +64,7 @@ fn wish_of(words: [Option<String>; 4]) -> Option<Wish> {
         keys,
         entries,
         most,
+        key_bytes,
     })
 }
 
@@ -68,16 +75,25 @@ fn work(alloc: Global, wish: Wish) -> Result<(u64, u64), AllocError> {
         keys,
         entries,
         most,
+        key_bytes,
     } = wish;
     match way {
         Way::Map => {
             let kind = Kind::Group(AggList::of(alloc, &[Agg::Count, Agg::Sum])?);
             let mut groups = GroupMap::new(alloc);
-            feed_all(alloc, &mut groups, &kind, keys, entries, most)
+            feed_all(alloc, &mut groups, &kind, keys, entries, most, key_bytes)
         }
         Way::Sorter => {
             let mut sorter = RowSorter::new(alloc);
-            feed_all(alloc, &mut sorter, &Kind::Order, keys, entries, most)
+            feed_all(
+                alloc,
+                &mut sorter,
+                &Kind::Order,
+                keys,
+                entries,
+                most,
+                key_bytes,
+            )
         }
         Way::Runs { merges } => match merge_drawn(alloc, keys, entries, merges) {
             Ok(rows) => Ok((0, rows)),
@@ -89,9 +105,17 @@ fn work(alloc: Global, wish: Wish) -> Result<(u64, u64), AllocError> {
 fn main(rt: HostRuntime) -> io::Result<()> {
     let mut words = env::args(&rt)?;
     let _name = words.next();
-    let words = [words.next(), words.next(), words.next(), words.next()];
+    let words = [
+        words.next(),
+        words.next(),
+        words.next(),
+        words.next(),
+        words.next(),
+    ];
     let Some(wish) = wish_of(words) else {
-        return println!(rt; "usage: spill_rate [map|sort|runs|merge KEYS ENTRIES BYTES]");
+        return println!(rt;
+            "usage: spill_rate [map|sort|runs|merge KEYS ENTRIES BYTES [KEY_BYTES]]"
+        );
     };
     match work(rt.alloc(), wish) {
         Ok((spills, rows)) => println!(rt; "spills {spills} rows {rows}"),

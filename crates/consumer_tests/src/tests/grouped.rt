@@ -108,6 +108,18 @@ fn feed_or_spill<C: Consumer>(
     Ok(true)
 }
 
+/// Makes it the key of this number: 8 bytes, or 9 to 40 of which 16 keys have the first 8, and four of these the length.
+fn name(key: &mut Vec<u8>, number: u64, long: bool) -> Result<(), AllocError> {
+    key.clear();
+    if !long {
+        return key.extend_from_slice(&number.to_be_bytes());
+    }
+    let front = number / 16;
+    key.extend_from_slice(&front.to_be_bytes())?;
+    let more = 1 + number % 4 * 8 + front % 8;
+    key.extend_from_slice(&[(number % 16) as u8; 32][..more as usize])
+}
+
 /// Feeds rows with pseudo-random keys, at most `distinct`, to a consumer that is granted the next of
 /// `grants` whenever it spilled, and adds them to `plain` as well. What was spilled is added to
 /// `spilled`, and the answer is how often.
@@ -115,21 +127,23 @@ fn feed_beside<C: Consumer>(
     alloc: Global,
     mut task: Task<C>,
     distinct: u64,
+    long: bool,
     grants: [u64; 4],
     plain: &mut Totals,
     spilled: &mut Totals,
 ) -> Result<usize, Fail> {
     let mut draw = 1u64;
     let mut spills = 0usize;
+    let mut key = Vec::new(alloc);
     for _number in 0..100000 {
         draw = draw
             .wrapping_mul(6364136223846793005)
             .wrapping_add(1442695040888963407);
-        let name = (draw / 4294967296 % distinct.max(1)).to_be_bytes();
+        name(&mut key, draw / 4294967296 % distinct.max(1), long)?;
         let number = (draw / 65536 % 1000) as i64 - 500;
-        add(alloc, plain, &name, 1, number)?;
+        add(alloc, plain, &key, 1, number)?;
         let grant = grants[spills % 4];
-        if feed_or_spill(alloc, &mut task, spilled, grant, &name, number)? {
+        if feed_or_spill(alloc, &mut task, spilled, grant, &key, number)? {
             spills = spills.saturating_add(1);
         }
     }
@@ -140,15 +154,24 @@ fn feed_beside<C: Consumer>(
 #[test]
 fn spills_come_to_what_an_ordered_map_has(rt: HostRuntime) -> Result<(), Fail> {
     let alloc = rt.alloc();
-    for (distinct, grants, least) in [
-        (100, [80, 200, 1000, 5000], 4),
-        (60000, [100, 5000, 80000, 1048576], 12),
+    for (distinct, long, grants, least) in [
+        (100, false, [80, 200, 1000, 5000], 4),
+        (60000, false, [100, 5000, 80000, 1048576], 12),
+        (5000, true, [110, 5000, 80000, 1048576], 4),
     ] {
         let mut plain = BTreeMap::new(alloc);
         let mut spilled = BTreeMap::new(alloc);
         let kind = groups_of(alloc, &[Agg::Count, Agg::Sum])?;
         let task = Task::begun(alloc, GroupMap::new(alloc), kind)?;
-        let spills = feed_beside(alloc, task, distinct, grants, &mut plain, &mut spilled)?;
+        let spills = feed_beside(
+            alloc,
+            task,
+            distinct,
+            long,
+            grants,
+            &mut plain,
+            &mut spilled,
+        )?;
         assert!(rt; plain == spilled, "{distinct} keys");
         assert!(rt; spills >= least, "{distinct} keys: {spills} spills");
     }

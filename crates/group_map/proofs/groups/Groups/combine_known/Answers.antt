@@ -10,27 +10,27 @@ use borrow.Rule.Slice.PartMut.{put_mid, same_len_mid}
 pub returns-in_default-clause-known : goal.returns-in_default-clause-known
 returns-in_default-clause-known c =
     let groups = c.args.self.now in
-    ap is_some (sym c.in_default.is) ∙ c.in_ok-place.ensures.known ∙ sym (known_is c.args.key.now groups.width groups.keys.keys groups.values.items)
+    ap is_some (sym c.in_default.is) ∙ c.place_of.ensures.known ∙ sym (known_is c.args.key.now groups.width groups.keys.keys groups.values.items)
 
 pub returns-clause-known : goal.returns-clause-known
 returns-clause-known c =
     let groups = c.args.self.now in
-    ap is_some (sym c.in-Some.is) ∙ c.in_ok-place.ensures.known ∙ sym (known_is c.args.key.now groups.width groups.keys.keys groups.values.items)
+    ap is_some (sym c.in-Some.is) ∙ c.place_of.ensures.known ∙ sym (known_is c.args.key.now groups.width groups.keys.keys groups.values.items)
 
 pub returns-clause-takes : goal.returns-clause-takes
-returns-clause-takes c = λ h.
+returns-clause-takes c = λ known.
     let groups = c.args.self.now in
     let at = groups.width * c.in-Some.place in
     let n = at + groups.width - at in
     let bytes = put_mid at n c.deref_mut.result.now c.combine.new.into in
     let long : length bytes ≡ length groups.values.items = same_len_mid at n c.deref_mut.result.now c.combine.new.into c.combine.auto.into ∙ ap length c.deref_mut.ensures.value in
-    let found : position (is_key c.args.key.now) groups.keys.keys ≡ Some c.in-Some.place = sym c.in_ok-place.ensures.place ∙ c.in-Some.is in
+    let found : position (is_key c.args.key.now) groups.keys.keys ≡ Some c.in-Some.place = sym c.place_of.ensures.place ∙ c.in-Some.is in
     combined_known c.combine_is_associative.ensures c.args.aggs.now groups.width groups.keys.keys groups.values.items c.deref_mut.result.now _ c.args.key.now c.args.value.now c.combine.new.into c.in-Some.place n []
     found c.requires.apart groups.whole c.requires.width c.deref_mut.ensures.value (omega arith)
     (with_items_is groups.values bytes (long ∙ sym groups.values.ok.0)) c.combine.ensures
 
 pub returns-clause-enough : goal.returns-clause-enough
-returns-clause-enough c = λ h.
+returns-clause-enough c = λ known.
     let groups = c.args.self.now in
-    let found : position (is_key c.args.key.now) groups.keys.keys ≡ Some c.in-Some.place = sym c.in_ok-place.ensures.place ∙ c.in-Some.is in
+    let found : position (is_key c.args.key.now) groups.keys.keys ≡ Some c.in-Some.place = sym c.place_of.ensures.place ∙ c.in-Some.is in
     found_charged groups.width groups.keys.keys groups.values.items c.args.key.now c.args.value.now c.in-Some.place [] found groups.whole (c.requires.value ∙ sym c.requires.width)
