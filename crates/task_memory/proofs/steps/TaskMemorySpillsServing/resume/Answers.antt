@@ -86,3 +86,42 @@ index_mut-requires g c =
     let within : c.index-top.result.now.place < length states = rw top at (c.requires.stands.stack.within (length asks.items - 1) (omega (arith, c.requires.nested)) (omega (arith, c.requires.nested))) in
     let flags : length resting.items ≡ length states = ap (λ (each : List Bool). length each) c.requires.stands.stack.rests ∙ length-map states (λ (each : State). is_rest each.stage) in
     omega (arith, within, flags, resting.ok)
+
+pub returns-in_err-spill_at-clause-goes : goal.returns-in_err-spill_at-clause-goes
+returns-in_err-spill_at-clause-goes g c =
+    let states : List State = map g.C.Consumer.state c.args.self.now.consumers.now in
+    let asks = c.args.self.now.spills.asks in
+    let count : c.len.result ≡ length asks.items = omega (arith, c.len.ensures, asks.ok) in
+    let below : c.len.result - 1 < length asks.items = omega (arith, c.requires.nested) in
+    let top : top_of asks.items ≡ c.index-top.result.now = ap (λ k. ask_at asks.items (k - 1)) (sym count) ∙ get_or_default asks.items (c.len.result - 1) no_ask c.index-top.result.now below ∙ sym c.index-top.ensures in
+    let within : c.index-top.result.now.place < length states = rw top at (c.requires.stands.stack.within (length asks.items - 1) (omega (arith, c.requires.nested)) (omega (arith, c.requires.nested))) in
+    let told : AllSame states (map g.C.Consumer.state c.grant_at.new.members) = subst (λ (after : List State). AllSame states after) (sym c.grant_at.ensures) (all_same_set states c.index-top.result.now.place _ within (record { kind = refl; fed = refl; least = refl; serves = refl })) in
+    record {
+      same = all_same_trans _ _ _ told c.spill_at.ensures.same;
+      disk = c.spill_at.ensures.disk;
+      pool = c.pools_go_on.ensures.none _ c.requires.stands.at_work;
+      stays = record { lent = refl; leasts = refl; roomed = refl };
+      deeper = record { grows = omega arith; counts = λ counted. counted };
+    }
+
+pub returns-in-Err-clause-goes : goal.returns-in-Err-clause-goes
+returns-in-Err-clause-goes g c =
+    let states : List State = map g.C.Consumer.state c.args.self.now.consumers.now in
+    let asks = c.args.self.now.spills.asks in
+    let count : c.len.result ≡ length asks.items = omega (arith, c.len.ensures, asks.ok) in
+    let below : c.len.result - 1 < length asks.items = omega (arith, c.requires.nested) in
+    let top : top_of asks.items ≡ c.index-top.result.now = ap (λ k. ask_at asks.items (k - 1)) (sym count) ∙ get_or_default asks.items (c.len.result - 1) no_ask c.index-top.result.now below ∙ sym c.index-top.ensures in
+    let within : c.index-top.result.now.place < length states = rw top at (c.requires.stands.stack.within (length asks.items - 1) (omega (arith, c.requires.nested)) (omega (arith, c.requires.nested))) in
+    let count_then : c.len-in-Ended.result ≡ length asks.items = omega (arith, c.len-in-Ended.ensures, asks.ok) in
+    let front : c.truncate.new.self.items ≡ take (length asks.items - 1) asks.items = c.truncate.ensures.items ∙ ap (λ k. take (k - 1) asks.items) count_then in
+    let told : AllSame states (map g.C.Consumer.state c.grant_at.new.members) = subst (λ (after : List State). AllSame states after) (sym c.grant_at.ensures) (all_same_set states c.index-top.result.now.place _ within (record { kind = refl; fed = refl; least = refl; serves = refl })) in
+    record {
+      same = all_same_trans _ _ _ told c.spill_at.ensures.same;
+      disk = c.spill_at.ensures.disk;
+      pool = c.settle.ensures.goes;
+      stays = record { lent = refl; leasts = refl; roomed = refl };
+      deeper = record {
+        grows = omega arith;
+        counts = λ counted. let fewer = length-take (length asks.items - 1) asks.items in let as_many = ap (λ (list : List Ask). length list) front in let kept = c.settle.ensures.kept in omega arith;
+      };
+    }
