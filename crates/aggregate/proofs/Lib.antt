@@ -9,3 +9,4 @@ pub mod NumberKeys
 pub mod NumberOrder
 pub mod Ascending
 pub mod Fronts
+pub mod Rests

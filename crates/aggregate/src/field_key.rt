@@ -8,6 +8,7 @@ use std::alloc::AllocError;
 /// Appends the spelling of a field, each byte turned round where `down`. An `Err` changes nothing.
 ///
 /// A zero byte is spelled 0 1, any other as it is, and 0 0 stands at the end.
+#[inline(always)]
 pub fn put_field(into: &mut Vec<u8>, field: &[u8], down: bool) -> Result<(), AllocError>
     ensures ok { OnOk result (into.new.items ≡ into.old.items ++ spelling field.now down) }
     ensures err { OnErr result (into.new.items ≡ into.old.items) }
@@ -25,6 +26,7 @@ pub fn put_field(into: &mut Vec<u8>, field: &[u8], down: bool) -> Result<(), All
 }
 
 // Appends the spelling of a field that has no zero byte, or some first bytes of it.
+#[inline(always)]
 fn put_plain(into: &mut Vec<u8>, field: &[u8]) -> Result<(), AllocError>
     requires { All (λ byte. byte ≢ 0) field.now }
     ensures ok { OnOk result (into.new.items ≡ into.old.items ++ spelled field.now) }
