@@ -1,6 +1,6 @@
 -- Keys in their order.
 use Rattle.std.proofs.Common.{◌≡◌, ℕ, true, false, List, refl, ap, ◌∙◌, sym, inl, inr, arith}
-use Rattle.std.specs.Ordering.{nat_cmp, ordering_reverse, is_gt, is_lt}
+use Rattle.std.specs.Ordering.{nat_cmp, ordering_reverse, is_eq, is_gt, is_lt}
 use Rattle.std.specs.Prelude.{nat_lt}
 use Rattle.std.specs.Cmp.{nat_cmp_is}
 use Rattle.std.specs.declared.cmp.Ordering.{Ordering}
@@ -23,6 +23,11 @@ pub lt_less : (o : Ordering) → is_lt o ≡ true → o ≡ Less
 lt_less Less e = refl
 lt_less Equal e = absurd cc
 lt_less Greater e = absurd cc
+
+pub eq_equal : (o : Ordering) → is_eq o ≡ true → o ≡ Equal
+eq_equal Less e = absurd cc
+eq_equal Equal e = refl
+eq_equal Greater e = absurd cc
 
 -- whether a number is below another, as they compare
 pub lt_numbers : (m n : ℕ) → nat_lt m n ≡ is_lt (nat_cmp m n)

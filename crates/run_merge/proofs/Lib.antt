@@ -1,5 +1,5 @@
 pub mod KeyOrders
-pub mod KeyRests
+pub mod Queues
 pub mod Places
 pub mod Firsts
 pub mod Inserting

@@ -15,6 +15,7 @@ ghost use Rattle.run_merge.specs.Heads.{AreAtEntries, AreFronts, IsFirst, IsLent
 ghost use Rattle.run_merge.specs.Orders.{BeginsApart, IsOrder};
 
 use crate::order::has_key;
+use crate::queue::Queue;
 use aggregate::{AggList, combine, combine_is_associative};
 use row_page::RowBuf;
 use run_file::RunReader;
@@ -37,41 +38,37 @@ fn put_row(row: &mut RowBuf, key: &[u8], value: &[u8]) -> Result<(), AllocError>
 
 /// Takes the first reader out of the order: its row is given.
 #[inline(always)]
-fn take_first(readers: &[RunReader], heads: &mut Vec<bool>, order: &mut Vec<usize>) -> usize
+fn take_first(readers: &[RunReader], heads: &mut Vec<bool>, order: &mut Queue) -> usize
     requires heads { length heads.old.items ≡ length readers.now }
-    requires order { IsOrder readers.now heads.old.items order.old.items }
-    requires some { 0 < length order.old.items }
+    requires order { IsOrder readers.now heads.old.items order.old }
+    requires some { 0 < length order.old }
     ensures first { IsFirst readers.now heads.old.items result }
-    ensures was { result ≡ slice_index_or order.old.items 0 result }
+    ensures was { result ≡ slice_index_or order.old 0 result }
     ensures heads { heads.new.items ≡ slice_set heads.old.items result false }
-    ensures order { IsOrder readers.now heads.new.items order.new.items }
-    ensures fewer { length order.new.items < length order.old.items }
+    ensures order { IsOrder readers.now heads.new.items order.new }
+    ensures fewer { length order.new < length order.old }
     ensures falls { OnlyFalls heads.old.items heads.new.items }
     ensures one { sum_by one_if heads.new.items + 1 ≡ sum_by one_if heads.old.items }
 {
-    let first = order.remove(0);
+    let first = order.leave();
     heads[first] = false;
     first
 }
 
 /// Gives the entry of the first reader as it is, whose place is answered: its own row is lent.
 #[inline(always)]
-pub(crate) fn give_alone(
-    readers: &[RunReader],
-    heads: &mut Vec<bool>,
-    order: &mut Vec<usize>,
-) -> usize
+pub(crate) fn give_alone(readers: &[RunReader], heads: &mut Vec<bool>, order: &mut Queue) -> usize
     requires heads { length heads.old.items ≡ length readers.now }
     requires stand { AreAtEntries Order readers.now heads.old.items }
-    requires order { IsOrder readers.now heads.old.items order.old.items }
-    requires some { 0 < length order.old.items }
+    requires order { IsOrder readers.now heads.old.items order.old }
+    requires some { 0 < length order.old }
     ensures gives { (row : List (List ℕ)) (files : ℕ → Option Files) (entries : List Entry) →
         AreComing files true Order readers.now heads.old.items entries →
         Gives files Order readers.now heads.new.items (row_lent readers.now (Some result) row) entries }
     ensures formed { (row : List (List ℕ)) →
         IsWellFormed (Entries Order) (greatest_of (map run_of readers.now)) (row_lent readers.now (Some result) row) }
     ensures lent { IsLent Order readers.now (Some result) }
-    ensures order { IsOrder readers.now heads.new.items order.new.items }
+    ensures order { IsOrder readers.now heads.new.items order.new }
     ensures heads { OnlyFalls heads.old.items heads.new.items }
     ensures one { sum_by one_if heads.new.items + 1 ≡ sum_by one_if heads.old.items }
 {
@@ -85,7 +82,7 @@ pub(crate) fn give_joined(
     readers: &[RunReader],
     heads: &mut Vec<bool>,
     fronts: &[u64],
-    order: &mut Vec<usize>,
+    order: &mut Queue,
     value: &mut Vec<u8>,
     row: &mut RowBuf,
 ) -> Result<Option<usize>, AllocError>
@@ -93,15 +90,15 @@ pub(crate) fn give_joined(
     requires as_many { length fronts.now ≡ length readers.now }
     requires stand { AreAtEntries (Group aggs.now) readers.now heads.old.items }
     requires fronts { AreFronts readers.now heads.old.items fronts.now }
-    requires order { IsOrder readers.now heads.old.items order.old.items }
-    requires some { 0 < length order.old.items }
+    requires order { IsOrder readers.now heads.old.items order.old }
+    requires some { 0 < length order.old }
     ensures gives { IfOk result (λ given. (files : ℕ → Option Files) (entries : List Entry) →
         AreComing files true (Group aggs.now) readers.now heads.old.items entries →
         Gives files (Group aggs.now) readers.now heads.new.items (row_lent readers.now given row.new) entries) }
     ensures formed { IfOk result (λ given.
         IsWellFormed (Entries (Group aggs.now)) (greatest_of (map run_of readers.now)) (row_lent readers.now given row.new)) }
     ensures lent { IfOk result (IsLent (Group aggs.now) readers.now) }
-    ensures order { IsOrder readers.now heads.new.items order.new.items }
+    ensures order { IsOrder readers.now heads.new.items order.new }
     ensures heads { OnlyFalls heads.old.items heads.new.items }
     ensures fewer { OnOk result (sum_by one_if heads.new.items < sum_by one_if heads.old.items) }
 {
@@ -125,7 +122,7 @@ fn join_others(
     readers: &[RunReader],
     heads: &mut Vec<bool>,
     fronts: &[u64],
-    order: &mut Vec<usize>,
+    order: &mut Queue,
     key: &[u8],
     front: u64,
     value: &mut [u8],
@@ -135,16 +132,16 @@ fn join_others(
     requires front { front ≡ front_of key.now }
     requires stand { AreAtEntries (Group aggs.now) readers.now heads.old.items }
     requires fronts { AreFronts readers.now heads.old.items fronts.now }
-    requires order { IsOrder readers.now heads.old.items order.old.items }
+    requires order { IsOrder readers.now heads.old.items order.old }
     requires value { length value.old ≡ width aggs.now }
     ensures joins { (files : ℕ → Option Files) (entries : List Entry) →
         IsTaken files (Group aggs.now) readers.now heads.old.items
         (record { key = key.now; value = value.old }) entries →
         IsTaken files (Group aggs.now) readers.now heads.new.items
         (record { key = key.now; value = value.new }) entries }
-    ensures apart { BeginsApart readers.now order.new.items key.now }
+    ensures apart { BeginsApart readers.now order.new key.now }
     ensures none { result ≡ false → value.new ≡ value.old }
-    ensures order { IsOrder readers.now heads.new.items order.new.items }
+    ensures order { IsOrder readers.now heads.new.items order.new }
     ensures heads { OnlyFalls heads.old.items heads.new.items }
 {
     let mut joined = false;
@@ -160,7 +157,7 @@ fn join_next(
     readers: &[RunReader],
     heads: &mut Vec<bool>,
     fronts: &[u64],
-    order: &mut Vec<usize>,
+    order: &mut Queue,
     key: &[u8],
     front: u64,
     value: &mut [u8],
@@ -170,24 +167,24 @@ fn join_next(
     requires front { front ≡ front_of key.now }
     requires stand { AreAtEntries (Group aggs.now) readers.now heads.old.items }
     requires fronts { AreFronts readers.now heads.old.items fronts.now }
-    requires order { IsOrder readers.now heads.old.items order.old.items }
+    requires order { IsOrder readers.now heads.old.items order.old }
     requires value { length value.old ≡ width aggs.now }
     ensures joins { (files : ℕ → Option Files) (entries : List Entry) →
         IsTaken files (Group aggs.now) readers.now heads.old.items
         (record { key = key.now; value = value.old }) entries →
         IsTaken files (Group aggs.now) readers.now heads.new.items
         (record { key = key.now; value = value.new }) entries }
-    ensures apart { result ≡ false → BeginsApart readers.now order.new.items key.now }
+    ensures apart { result ≡ false → BeginsApart readers.now order.new key.now }
     ensures none { result ≡ false → value.new ≡ value.old }
-    ensures fewer { result ≡ true → length order.new.items < length order.old.items }
-    ensures order { IsOrder readers.now heads.new.items order.new.items }
+    ensures fewer { result ≡ true → length order.new < length order.old }
+    ensures order { IsOrder readers.now heads.new.items order.new }
     ensures heads { OnlyFalls heads.old.items heads.new.items }
 {
     combine_is_associative();
     if order.is_empty() {
         return false;
     }
-    let next = order[0];
+    let next = order.first();
     let reader = &readers[next];
     if !has_key(reader, fronts[next], key, front) {
         return false;

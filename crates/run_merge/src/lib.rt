@@ -7,6 +7,7 @@ mod merge;
 mod one_group;
 mod one_run;
 mod order;
+mod queue;
 mod rounds;
 
 pub use merge::Merge;

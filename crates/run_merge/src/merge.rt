@@ -6,6 +6,7 @@ ghost use Rattle.run_merge.specs.Orders.{IsOrder};
 
 use crate::giving::{give_alone, give_joined};
 use crate::heads::{buffered_by, let_all_on};
+use crate::queue::Queue;
 use aggregate::Kind;
 use row_page::{RowBuf, RowView};
 use run_file::{Form, Run, RunFault, RunReader};
@@ -25,7 +26,7 @@ pub struct Merge {
     // the fronts of the keys of those
     fronts: Vec<u64>,
     // the places of those, the least key first, and of equal keys the first reader
-    order: Vec<usize>,
+    order: Queue,
     kind: Kind,
     value: Vec<u8>,
     // an entry that was put together, and the reader whose own row was given, if one's was
@@ -37,7 +38,7 @@ pub struct Merge {
     ghost stand: { AreAtEntries kind readers.items heads.items },
     ghost lent: { IsLent kind readers.items given },
     ghost fronts_are: { AreFronts readers.items heads.items fronts.items },
-    ghost in_order: { IsOrder readers.items heads.items order.items },
+    ghost in_order: { IsOrder readers.items heads.items order },
 }
 
 impl Merge {
@@ -75,7 +76,7 @@ impl Merge {
             readers,
             heads,
             fronts,
-            order: Vec::new(alloc),
+            order: Queue::new(alloc),
             kind: kind.copy()?,
             value: Vec::new(alloc),
             row: RowBuf::new(alloc),
@@ -178,7 +179,7 @@ impl Merge {
     /// Gives the entry of the first reader in the order, which has the least key.
     #[inline(always)]
     fn give(&mut self) -> Result<(), AllocError>
-        requires some { 0 < length self.old.order.items }
+        requires some { 0 < length self.old.order }
         ensures gives { OnOk result ((files : ℕ → Option Files) (entries : List Entry) →
             AreComing files true self.old.kind self.old.readers.items self.old.heads.items entries →
             GoesOn files self.new entries (Ok true)) }

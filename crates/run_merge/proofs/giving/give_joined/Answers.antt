@@ -36,7 +36,7 @@ returns-then-not-join_others-clause-gives c files entries coming =
     let row_is : row_lent readers (Some place) c.args.row.now ≡ c.key-key.result.now ∷ (c.join_others.new.value ∷ []) =
     own_row (Group c.args.aggs.now) readers place reader c.args.row.now first.within c.index-readers-first.is at ∙ rw (own, put, c.key-key.ensures) refl in
     let count = c.join_others.ensures.heads.count ∙ c.take_first-first.ensures.falls.count ∙ c.requires.heads in
-    group_given files c.args.aggs.now readers c.join_others.new.heads.items c.join_others.new.order.items (row_lent readers (Some place) c.args.row.now) (record { key = c.key-key.result.now; value = c.join_others.new.value }) entries row_is count c.join_others.ensures.order c.join_others.ensures.apart joined
+    group_given files c.args.aggs.now readers c.join_others.new.heads.items c.join_others.new.order (row_lent readers (Some place) c.args.row.now) (record { key = c.key-key.result.now; value = c.join_others.new.value }) entries row_is count c.join_others.ensures.order c.join_others.ensures.apart joined
 
 pub returns-then-not-join_others-clause-formed : goal.returns-then-not-join_others-clause-formed
 returns-then-not-join_others-clause-formed c =
@@ -62,7 +62,7 @@ returns-clause-gives c files entries coming =
     let joined = c.join_others.ensures.joins files entries read in
     let row_is : c.put_row.new.row ≡ c.key-key.result.now ∷ (c.join_others.new.value ∷ []) = c.in_ok-put_row.ensures ∙ rw whole refl in
     let count = c.join_others.ensures.heads.count ∙ c.take_first-first.ensures.falls.count ∙ c.requires.heads in
-    group_given files c.args.aggs.now readers c.join_others.new.heads.items c.join_others.new.order.items c.put_row.new.row (record { key = c.key-key.result.now; value = c.join_others.new.value }) entries row_is count c.join_others.ensures.order c.join_others.ensures.apart joined
+    group_given files c.args.aggs.now readers c.join_others.new.heads.items c.join_others.new.order c.put_row.new.row (record { key = c.key-key.result.now; value = c.join_others.new.value }) entries row_is count c.join_others.ensures.order c.join_others.ensures.apart joined
 
 pub returns-clause-formed : goal.returns-clause-formed
 returns-clause-formed c =

@@ -10,7 +10,7 @@ use Rattle.run_merge.proofs.giving.join_others.Given as goal
 
 abbrev pub invariant-others : goal.invariant-others
 invariant-others l = record {
-  order : IsOrder l.readers l.heads.items l.order.items;
+  order : IsOrder l.readers l.heads.items l.order;
   joins : (files : ℕ → Option Files) (entries : List Entry) →
       IsTaken files (Group l.aggs) l.readers l.fn.heads.items (record { key = l.key; value = l.fn.value }) entries →
       IsTaken files (Group l.aggs) l.readers l.heads.items (record { key = l.key; value = l.value }) entries;
@@ -19,4 +19,4 @@ invariant-others l = record {
 }
 
 abbrev pub decreases-others : goal.decreases-others
-decreases-others l = length l.order.items
+decreases-others l = length l.order

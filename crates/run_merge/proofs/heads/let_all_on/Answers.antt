@@ -30,7 +30,7 @@ pub returns-in_err-stands-clause-order : goal.returns-in_err-stands-clause-order
 returns-in_err-stands-clause-order g c =
     let lt : c.loop-i.i < length c.loop-i.readers.items = search rules in
     let head = head_read c.loop-i.heads.items c.loop-i.i c.index-head.result.now (omega (arith, lt, c.loop-i.invariant.heads)) c.index-head.ensures in
-    order_let_on c.loop-i.readers.items c.loop-i.heads.items c.loop-i.order.items c.loop-i.i c.index_mut.result.now c.let_on.new.reader c.index_mut.ensures.value (λ stood. c.let_on.ensures.keeps (sym head ∙ stood)) c.loop-i.invariant.order
+    order_let_on c.loop-i.readers.items c.loop-i.heads.items c.loop-i.order c.loop-i.i c.index_mut.result.now c.let_on.new.reader c.index_mut.ensures.value (λ stood. c.let_on.ensures.keeps (sym head ∙ stood)) c.loop-i.invariant.order
 
 pub returns-in_err-stands-clause-damaged : goal.returns-in_err-stands-clause-damaged
 returns-in_err-stands-clause-damaged g c =
@@ -76,7 +76,7 @@ pub put_in_order-requires-clause-order : goal.put_in_order-requires-clause-order
 put_in_order-requires-clause-order g c =
     let lt : c.loop-i.i < length c.loop-i.readers.items = search rules in
     let head = head_read c.loop-i.heads.items c.loop-i.i c.index-head.result.now (omega (arith, lt, c.loop-i.invariant.heads)) c.index-head.ensures in
-    rw c.deref.ensures.value (order_let_on c.loop-i.readers.items c.loop-i.heads.items c.loop-i.order.items c.loop-i.i c.index_mut.result.now c.let_on.new.reader c.index_mut.ensures.value (λ stood. c.let_on.ensures.keeps (sym head ∙ stood)) c.loop-i.invariant.order)
+    rw c.deref.ensures.value (order_let_on c.loop-i.readers.items c.loop-i.heads.items c.loop-i.order c.loop-i.i c.index_mut.result.now c.let_on.new.reader c.index_mut.ensures.value (λ stood. c.let_on.ensures.keeps (sym head ∙ stood)) c.loop-i.invariant.order)
 
 pub returns-in_default-clause-fronts : goal.returns-in_default-clause-fronts
 returns-in_default-clause-fronts g c =

@@ -15,7 +15,7 @@ invariant-loop-i g l = record {
   there : AreOn (g.H.Shelf.count_of l.shelf) (map run_of l.readers.items);
   as_many : length l.fronts.items ≡ length l.readers.items;
   fronts : AreFronts l.readers.items l.heads.items l.fronts.items;
-  order : IsOrder l.readers.items l.heads.items l.order.items;
+  order : IsOrder l.readers.items l.heads.items l.order;
   gives : (lists : List (List (List (List ℕ)))) →
       AreLeft (files_on g.H.Shelf.disk_of g.D.Disk.files l.fn.shelf) false l.fn.readers.items l.fn.heads.items lists →
       AreLeft (files_on g.H.Shelf.disk_of g.D.Disk.files l.shelf) false l.readers.items l.heads.items lists
