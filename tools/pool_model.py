@@ -2,9 +2,11 @@
 `crates/pool_tests/src/tests` are answered. Run it at the top of the repository.
 
     python3 tools/pool_model.py check     do the scripts without blocks, in asks.rt, have the answers that the model gives, and
-                                          do the tables of scripts.rt and faults.rt stand there as it prints them?
+                                          do the tables of scripts.rt and faults.rt, and the journal of docs/JOURNAL.md, stand
+                                          there as it prints them?
     python3 tools/pool_model.py table     scripts.rt: the scripts with blocks, with answers, journals, blocks and files
     python3 tools/pool_model.py faults    faults.rt: the script with a store disk that fails at one call, and what each call changes
+    python3 tools/pool_model.py journal   the journal of docs/JOURNAL.md and examples/journal.csv
 """
 import re
 import sys
@@ -375,6 +377,12 @@ FAULTS = (600, 500, 1, 1,
           'admit:0:4.0:300:disk pin:0:1.0 pin:0:1.0 admit:0:5.0:151:disk pin:0:4.0 pin:0:4.0 pin:0:2.0 remove:0:1 pin:0:1.0 '
           'remove:0:5 end:0 pin:0:2.0 pin:0:4.0')
 
+# What docs/JOURNAL.md goes through.
+JOURNAL = (1_000, 400, 2, 2,
+           'ask:0:300 admit:1:1.0:200:disk admit:1:1.1:100:disk ask:0:400 ask:1:200 ask:0:50 release:0:100 ask:1:200 release:0:120 '
+           'ask:1:200 ask:1:100 release:0:280 admit:0:2.0:200:memory pin:0:1.0 ask:0:100 pin:1:1.1 admit:1:1.1:100:disk release:1:10 '
+           'admit:1:1.2:200:disk unpin:0 end:0 ask:1:490 remove:0:1 end:1')
+
 
 # The tables, each with what it is about and its scripts.
 TABLES = {
@@ -474,6 +482,10 @@ def check():
         for text in texts:
             assert text in source, text
         print(len(texts), 'tables of', name, 'agree')
+    for name in 'docs/JOURNAL.md', 'examples/journal.csv':
+        with open(name, encoding='utf-8') as file:
+            assert journal_text() in file.read(), name
+    print('the journal of docs/JOURNAL.md agrees')
 
 
 def storage_script(name, maximum, storage, workers, tasks, script):
@@ -502,6 +514,16 @@ def tables():
 
 def table():
     print('\n\n'.join(tables()))
+
+
+def journal_text():
+    """The text of the journal of docs/JOURNAL.md: a line of the sizes, and one for each entry."""
+    _, model = run(*JOURNAL)
+    return '\n'.join([f'memory journal 1,{model.maximum},{model.region},{model.workers}', *model.journal, ''])
+
+
+def journal():
+    print(journal_text(), end='')
 
 
 def fates(model):
@@ -538,4 +560,4 @@ def faults():
 
 
 if __name__ == '__main__':
-    {'check': check, 'table': table, 'faults': faults}[sys.argv[1]]()
+    {'check': check, 'table': table, 'faults': faults, 'journal': journal}[sys.argv[1]]()
