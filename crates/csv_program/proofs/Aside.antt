@@ -9,7 +9,12 @@ use Rattle.aggregate.specs.declared.kind.Kind.{Kind}
 use Rattle.spill_disk.specs.Files.{Files}
 use Rattle.run_file.specs.declared.run.Run.{Run}
 use Rattle.run_file.specs.Several.{HasEntries, HaveEntries, concatenated}
-use Rattle.task_runner.specs.Answers.{HasCauseAmong, MergesTotal}
+use Rattle.task_memory.specs.RunLists.{runs_at}
+use Rattle.task_runner.specs.Answers.{HasCauseAmong}
+use Rattle.task_runner.specs.Finals.{HasMerged, HaveLists, MergeTotals}
+use Rattle.task_runner.specs.PassViews.{PassView}
+use Rattle.task_runner.specs.Queries.{kind_in}
+use Rattle.task_runner.specs.Workers.{answer_at}
 use Rattle.task_runner.specs.declared.post.Post.{Post}
 use Rattle.task_runner.specs.declared.work_fault.WorkFault.{WorkFault}
 use Rattle.task_runner.specs.declared.work_fault.WorkFault.TheVariants.{NoRoom, DiskFault, Damaged, NoMemory}
@@ -34,13 +39,19 @@ have_alike files files' kind (run ∷ runs) (entries ∷ lists) same have =
 have_alike files files' kind [] (entries ∷ lists) same have = absurd have
 have_alike files files' kind (run ∷ runs) [] same have = absurd have
 
-pub merges_alike : (files files' : ℕ → Option Files) (kind : Kind) (lists : List (List Entry)) (answer : Result (Option Run) WorkFault) → ((i : ℕ) → files' i ≡ files i) → MergesTotal files kind lists answer → MergesTotal files' kind lists answer
-merges_alike files files' kind lists (Ok None) same merges = merges
-merges_alike files files' kind lists (Ok (Some run)) same merges = subst (λ (f : Option Files). HasEntries f kind run (total kind (concatenated lists))) (sym (same run.disk)) merges
-merges_alike files files' kind lists (Err (NoRoom asked held floor)) same merges = tt
-merges_alike files files' kind lists (Err (DiskFault post)) same merges = tt
-merges_alike files files' kind lists (Err (Damaged damage)) same merges = merges
-merges_alike files files' kind lists (Err NoMemory) same merges = tt
+pub lists_alike : (files files' : ℕ → Option Files) (pass : PassView) (lists : List (List Run)) (entries : ℕ → List (List Entry)) → ((i : ℕ) → files' i ≡ files i) → HaveLists files pass lists entries → HaveLists files' pass lists entries
+lists_alike files files' pass lists entries same have i query = have_alike files files' (kind_in pass.plan pass.queries i) (runs_at lists i) (entries i) same (have i query)
+
+merged_alike : (files files' : ℕ → Option Files) (kind : Kind) (lists : List (List Entry)) (answer : Option Run) → ((i : ℕ) → files' i ≡ files i) → HasMerged files kind lists answer → HasMerged files' kind lists answer
+merged_alike files files' kind lists None same merges = merges
+merged_alike files files' kind lists (Some run) same merges = subst (λ (f : Option Files). HasEntries f kind run (total kind (concatenated lists))) (sym (same run.disk)) merges
+
+pub merges_alike : (files files' : ℕ → Option Files) (pass : PassView) (entries : ℕ → List (List Entry)) (result : Result (Vec (Option Run)) WorkFault) → ((i : ℕ) → files' i ≡ files i) → MergeTotals files pass entries result → MergeTotals files' pass entries result
+merges_alike files files' pass entries (Ok answers) same merges = λ i query. merged_alike files files' (kind_in pass.plan pass.queries i) (entries i) (answer_at answers.items i) same (merges i query)
+merges_alike files files' pass entries (Err (NoRoom asked held floor)) same merges = tt
+merges_alike files files' pass entries (Err (DiskFault post)) same merges = tt
+merges_alike files files' pass entries (Err (Damaged damage)) same merges = merges
+merges_alike files files' pass entries (Err NoMemory) same merges = tt
 
 -- ---- why a call gave up
 

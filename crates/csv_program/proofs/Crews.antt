@@ -1,12 +1,12 @@
 -- What the workers of a run did, the first tasks of each and then the final one.
-use Rattle.std.proofs.Common.{◌≡◌, ◌≢◌, ◌∙◌, ℕ, zero, suc, ◌<◌, ◌≤◌, ◌++◌, ◌%◌, ◌/◌, Bool, false, cond, List, [], ◌∷◌, Some, None, get_or, length, set, refl, sym, ap, subst, inl, inr, arith, append-nil}
+use Rattle.std.proofs.Common.{◌≡◌, ◌≢◌, ◌∙◌, ℕ, zero, suc, ◌<◌, ◌≤◌, ◌++◌, ◌%◌, ◌/◌, Bool, false, cond, List, [], ◌∷◌, Option, Some, None, get_or, length, set, refl, sym, ap, subst, inl, inr, arith, append-nil}
 use Rattle.std.specs.Prelude.{◌==◌, if◌then◌else◌}
 use Rattle.std.specs.List.{list_any}
 use Rattle.std.proofs.Math.Nat.{mod-add-div'}
 use Rattle.std.proofs.lemmas.Bool.{cases_eq, cases_lt, eq-eqb, ne_eqb, lt-ltb}
 use Rattle.std.proofs.lemmas.Bool.Decides.{nat_tests}
 use Rattle.std.proofs.lemmas.List.{get_or-set_same, get_or_default}
-use Rattle.pool_ledger.specs.History.{History, begin_of, begins, begun, begun_after, total, was_begun}
+use Rattle.pool_ledger.specs.History.{History, begin_of, begins, begun, begun_after, open_task, total, was_begun}
 use Rattle.pool_ledger.specs.Journal.{history_of}
 use Rattle.pool_ledger.specs.Workers.{entries_of}
 use Rattle.pool_ledger.specs.declared.entry.Entry.{Entry}
@@ -15,16 +15,29 @@ use Rattle.pool_ledger.specs.declared.entry.Event.TheVariants.{Begin}
 use Rattle.turn_lock.specs.Passes.{LockId, PassState}
 use Rattle.memory_lock.specs.Crew.{AreNew, AreWorkers}
 use Rattle.memory_lock.specs.Workers.{own_entries}
+use Rattle.task_runner.specs.AtOnce.{MayDoAll}
+use Rattle.task_runner.specs.PassViews.{PassView, parts_of, task_for}
 use Rattle.task_runner.specs.Workers.{AreTasks, DoesAll, DoesSome, IsCount, part_at}
 use Rattle.task_runner.specs.Works.{IsTaskOf, MayWork, Works}
 use Rattle.csv_program.specs.Doing.{BeginsOwn, HasDone}
 use Rattle.csv_program.specs.Tasks.{owner_of}
 use Rattle.csv_program.proofs.Journals.{total_append, total_reverse}
-use Rattle.csv_program.proofs.Deeds.{final_begins, tasks_begin, tasks_begin_none}
+use Rattle.csv_program.proofs.Deeds.{final_begins, owner_of_part, tasks_begin, tasks_begin_none}
 
 -- a new worker has no entries
 pub own_none : (lock : LockId) (workers : ℕ) (olds : List PassState) → AreWorkers lock workers olds → AreNew olds → (w : ℕ) (any : PassState) → w < workers → own_entries (get_or olds w any) ≡ []
 own_none lock workers olds are new w any below = ap (λ (es : List Entry). entries_of (get_or olds w any).number es) (new w any (omega (arith, below, are.0)))
+
+-- new workers may do all tasks of a pass that are theirs
+pub new_may_do : (owner : ℕ → Option ℕ) (lock : LockId) (workers : ℕ) (pass : PassView) (olds : List PassState) → pass.first ≡ 0 → ((task : ℕ) → owner task ≡ owner_of workers (parts_of pass) task) → AreWorkers lock workers olds → AreNew olds
+    → MayDoAll owner workers pass olds
+new_may_do owner lock workers pass olds first owns are new = record {
+  free = λ w any below. ap (λ (es : List Entry). open_task (history_of es) (get_or olds w any).number) (own_none lock workers olds are new w any below);
+  owns = λ part inside.
+      let task : task_for pass part ≡ part = omega (arith, first) in
+      owns (task_for pass part) ∙ ap (owner_of workers (parts_of pass)) task ∙ owner_of_part workers (parts_of pass) part inside;
+  fresh = λ w part any below inside. ap (λ (es : List Entry). was_begun (history_of es) (task_for pass part)) (own_none lock workers olds are new w any below);
+}
 
 -- ---- the first tasks
 
@@ -32,26 +45,26 @@ own_none lock workers olds are new w any below = ap (λ (es : List Entry). entri
 pub record Firsts (workers partitions w : ℕ) (entries : List Entry) : Type 0 where
   pub count : ℕ
   pub within : (k : ℕ) → k < count → part_at workers w k < partitions
-  pub are : AreTasks workers w count entries
+  pub are : AreTasks 0 workers w count entries
 
 pub firsts_none : (workers partitions w : ℕ) (entries : List Entry) → entries ≡ [] → Firsts workers partitions w entries
 unfolding AreTasks
 firsts_none workers partitions w entries none = record { count = 0; within = λ k below. absurd (omega (arith, below)); are = none }
 
-pub firsts_of : (workers partitions w : ℕ) (before after : PassState) → before.number ≡ w → own_entries before ≡ [] → DoesSome workers partitions before after → Firsts workers partitions w (own_entries after)
+pub firsts_of : (workers partitions w : ℕ) (before after : PassState) → before.number ≡ w → own_entries before ≡ [] → DoesSome 0 workers partitions before after → Firsts workers partitions w (own_entries after)
 firsts_of workers partitions w before after number none some =
     let is : own_entries after ≡ some.does.0 = some.does.2 ∙ ap (λ (es : List Entry). es ++ some.does.0) none in
     record {
       count = some.count;
       within = λ k below. subst (λ (n : ℕ). part_at workers n k < partitions) number (some.within k below);
-      are = subst (AreTasks workers w some.count) (sym is) (subst (λ (n : ℕ). AreTasks workers n some.count some.does.0) number some.does.1);
+      are = subst (AreTasks 0 workers w some.count) (sym is) (subst (λ (n : ℕ). AreTasks 0 workers n some.count some.does.0) number some.does.1);
     }
 
 -- and of all of them
 pub record AllFirsts (workers partitions w : ℕ) (entries : List Entry) : Type 0 where
   pub count : ℕ
   pub all : IsCount workers w partitions count
-  pub are : AreTasks workers w count entries
+  pub are : AreTasks 0 workers w count entries
 
 pub all_firsts_none : (workers w : ℕ) (entries : List Entry) → entries ≡ [] → AllFirsts workers 0 w entries
 unfolding AreTasks
@@ -61,24 +74,24 @@ all_firsts_none workers w entries none = record {
   are = none;
 }
 
-pub all_firsts_of : (workers partitions w : ℕ) (before after : PassState) → before.number ≡ w → own_entries before ≡ [] → DoesAll workers partitions before after → AllFirsts workers partitions w (own_entries after)
+pub all_firsts_of : (workers partitions w : ℕ) (before after : PassState) → before.number ≡ w → own_entries before ≡ [] → DoesAll 0 workers partitions before after → AllFirsts workers partitions w (own_entries after)
 all_firsts_of workers partitions w before after number none all =
     let is : own_entries after ≡ all.does.0 = all.does.2 ∙ ap (λ (es : List Entry). es ++ all.does.0) none in
     record {
       count = all.count;
       all = subst (λ (n : ℕ). IsCount workers n partitions all.count) number all.all;
-      are = subst (AreTasks workers w all.count) (sym is) (subst (λ (n : ℕ). AreTasks workers n all.count all.does.0) number all.does.1);
+      are = subst (AreTasks 0 workers w all.count) (sym is) (subst (λ (n : ℕ). AreTasks 0 workers n all.count all.does.0) number all.does.1);
     }
 
 -- the same of each worker
 pub each_some : (lock : LockId) (workers partitions : ℕ) (olds news : List PassState) → AreWorkers lock workers olds → AreNew olds
-    → ((w : ℕ) (any : PassState) → w < workers → DoesSome workers partitions (get_or olds w any) (get_or news w any))
+    → ((w : ℕ) (any : PassState) → w < workers → DoesSome 0 workers partitions (get_or olds w any) (get_or news w any))
     → (w : ℕ) (any : PassState) → w < workers → Firsts workers partitions w (own_entries (get_or news w any))
 each_some lock workers partitions olds news are new some w any below =
     firsts_of workers partitions w (get_or olds w any) (get_or news w any) (are.1 w any below).number_is (own_none lock workers olds are new w any below) (some w any below)
 
 pub each_all : (lock : LockId) (workers partitions : ℕ) (olds news : List PassState) → AreWorkers lock workers olds → AreNew olds
-    → ((w : ℕ) (any : PassState) → w < workers → DoesAll workers partitions (get_or olds w any) (get_or news w any))
+    → ((w : ℕ) (any : PassState) → w < workers → DoesAll 0 workers partitions (get_or olds w any) (get_or news w any))
     → (w : ℕ) (any : PassState) → w < workers → AllFirsts workers partitions w (own_entries (get_or news w any))
 each_all lock workers partitions olds news are new all w any below =
     all_firsts_of workers partitions w (get_or olds w any) (get_or news w any) (are.1 w any below).number_is (own_none lock workers olds are new w any below) (all w any below)

@@ -2,7 +2,7 @@
 use Rattle.std.proofs.Common.{◌≡◌, ◌≢◌, ◌∙◌, ℕ, zero, suc, ◌+◌, ◌*◌, ◌<◌, ◌≤◌, ◌++◌, ◌%◌, Bool, List, [], ◌∷◌, Option, Some, None, length, refl, sym, ap, subst, inl, inr, arith, append-nil}
 use Rattle.std.specs.Prelude.{◌==◌, AllPairs, slice_index_or, if◌then◌else◌}
 use Rattle.std.specs.List.{AllByRecursion}
-use Rattle.std.proofs.Math.Nat.{mul-lt-mul_of_pos_right, add-mul-mod_self_right, mod-eq_of_lt}
+use Rattle.std.proofs.Math.Nat.{add-zero, mul-lt-mul_of_pos_right, add-mul-mod_self_right, mod-eq_of_lt}
 use Rattle.std.proofs.lemmas.Bool.{cases_lt, eq-eqb, ne_eqb, lt-ltb}
 use Rattle.std.proofs.lemmas.Bool.Decides.{nat_tests}
 use Rattle.pool_ledger.specs.History.{begin_of, begins, end_of, ends, total}
@@ -101,6 +101,10 @@ task_begun worker task entries is =
 
 -- ---- the first tasks of a worker
 
+-- those of the first pass have their partitions' numbers
+task_is : (worker task : ℕ) (entries : List Entry) → IsTaskOf worker (task + 0) entries → IsTaskOf worker task entries
+task_is worker task entries is = subst (λ (n : ℕ). IsTaskOf worker n entries) (add-zero task) is
+
 parts_rise : (workers worker j k : ℕ) → 0 < workers → j < k → part_at workers worker j < part_at workers worker k
 parts_rise workers worker j k some below =
     let less : j * workers < k * workers = mul-lt-mul_of_pos_right below some in
@@ -109,7 +113,7 @@ parts_rise workers worker j k some below =
 worker_of : (workers worker k : ℕ) → worker < workers → part_at workers worker k % workers ≡ worker
 worker_of workers worker k below = add-mul-mod_self_right worker k workers ∙ mod-eq_of_lt below
 
-tasks_balanced : (workers worker k t : ℕ) (entries : List Entry) → AreTasks workers worker k entries → total (end_of t) entries ≡ total (begin_of t) entries
+tasks_balanced : (workers worker k t : ℕ) (entries : List Entry) → AreTasks 0 workers worker k entries → total (end_of t) entries ≡ total (begin_of t) entries
 unfolding AreTasks
 tasks_balanced workers worker zero t entries are = ap (total (end_of t)) are ∙ sym (ap (total (begin_of t)) are)
 tasks_balanced workers worker (suc k) t entries are =
@@ -117,15 +121,15 @@ tasks_balanced workers worker (suc k) t entries are =
     let began : total (begin_of t) entries ≡ total (begin_of t) (are.0 ++ are.1) = ap (total (begin_of t)) are.4 in
     let one = total_append (end_of t) are.0 are.1 in
     let other = total_append (begin_of t) are.0 are.1 in
-    let last = task_ends worker (part_at workers worker k) t are.1 are.3 in
-    let first = task_begins worker (part_at workers worker k) t are.1 are.3 in
+    let last = task_ends worker (part_at workers worker k) t are.1 (task_is worker (part_at workers worker k) are.1 are.3) in
+    let first = task_begins worker (part_at workers worker k) t are.1 (task_is worker (part_at workers worker k) are.1 are.3) in
     let before = tasks_balanced workers worker k t are.0 are.2 in
     omega (arith, ended, began, one, other, last, first, before)
 
 marked : (task : ℕ) → mark task task ≡ 1
 marked task = rw (eq-eqb task task refl) refl
 
-pub tasks_begin : (workers worker k j : ℕ) (entries : List Entry) → AreTasks workers worker k entries → j < k → 1 ≤ total (begin_of (part_at workers worker j)) entries
+pub tasks_begin : (workers worker k j : ℕ) (entries : List Entry) → AreTasks 0 workers worker k entries → j < k → 1 ≤ total (begin_of (part_at workers worker j)) entries
 unfolding AreTasks
 tasks_begin workers worker zero j entries are below = absurd (omega (arith, below))
 tasks_begin workers worker (suc k) j entries are below =
@@ -136,7 +140,7 @@ tasks_begin workers worker (suc k) j entries are below =
       | inl low ↦ let before = tasks_begin workers worker k j are.0 are.2 low in omega (arith, began, split, before)
       | inr high ↦
           let same : j ≡ k = omega (arith, below, high) in
-          let first = task_begins worker (part_at workers worker k) t are.1 are.3 in
+          let first = task_begins worker (part_at workers worker k) t are.1 (task_is worker (part_at workers worker k) are.1 are.3) in
           let one : mark (part_at workers worker k) t ≡ 1 = ap (λ (i : ℕ). mark (part_at workers worker k) (part_at workers worker i)) same ∙ marked (part_at workers worker k) in
           omega (arith, began, split, first, one)
     ]
@@ -145,25 +149,25 @@ pub final_begins : (worker task : ℕ) (entries : List Entry) → IsTaskOf worke
 final_begins worker task entries is = let first = task_begins worker task task entries is in let one = marked task in omega (arith, first, one)
 
 -- a task that is none of them isn't begun
-pub tasks_begin_none : (workers worker k t : ℕ) (entries : List Entry) → AreTasks workers worker k entries → ((j : ℕ) → j < k → part_at workers worker j ≢ t) → total (begin_of t) entries ≡ 0
+pub tasks_begin_none : (workers worker k t : ℕ) (entries : List Entry) → AreTasks 0 workers worker k entries → ((j : ℕ) → j < k → part_at workers worker j ≢ t) → total (begin_of t) entries ≡ 0
 unfolding AreTasks
 tasks_begin_none workers worker zero t entries are differs = ap (total (begin_of t)) are
 tasks_begin_none workers worker (suc k) t entries are differs =
     let began : total (begin_of t) entries ≡ total (begin_of t) (are.0 ++ are.1) = ap (total (begin_of t)) are.4 in
     let split = total_append (begin_of t) are.0 are.1 in
-    let last = task_begins worker (part_at workers worker k) t are.1 are.3 in
+    let last = task_begins worker (part_at workers worker k) t are.1 (task_is worker (part_at workers worker k) are.1 are.3) in
     let none : mark (part_at workers worker k) t ≡ 0 = ap (λ (b : Bool). if b then 1 else 0) (ne_eqb (part_at workers worker k) t (differs k (omega arith))) in
     let before = tasks_begin_none workers worker k t are.0 are.2 (λ j below. differs j (omega (arith, below))) in
     omega (arith, began, split, last, none, before)
 
-tasks_owned : (owner : ℕ → Option ℕ) (workers worker k : ℕ) (entries : List Entry) → AreTasks workers worker k entries → ((j : ℕ) → j < k → owner (part_at workers worker j) ≡ Some worker) → AllByRecursion (λ entry. IsByOwner owner worker entry.event) entries
+tasks_owned : (owner : ℕ → Option ℕ) (workers worker k : ℕ) (entries : List Entry) → AreTasks 0 workers worker k entries → ((j : ℕ) → j < k → owner (part_at workers worker j) ≡ Some worker) → AllByRecursion (λ entry. IsByOwner owner worker entry.event) entries
 unfolding AreTasks
 tasks_owned owner workers worker zero entries are owns = subst (AllByRecursion (λ entry. IsByOwner owner worker entry.event)) (sym are) tt
 tasks_owned owner workers worker (suc k) entries are owns =
     subst (AllByRecursion (λ entry. IsByOwner owner worker entry.event)) (sym are.4)
     (all_append (λ entry. IsByOwner owner worker entry.event) are.0 are.1
     (tasks_owned owner workers worker k are.0 are.2 (λ j below. owns j (omega (arith, below))))
-    (task_owned owner worker (part_at workers worker k) are.1 are.3 (owns k (omega arith))))
+    (task_owned owner worker (part_at workers worker k) are.1 (task_is worker (part_at workers worker k) are.1 are.3) (owns k (omega arith))))
 
 -- ---- lists that rise
 
@@ -192,20 +196,20 @@ pairs_of (x ∷ xs) rises i zero d below within = absurd (omega (arith, below))
 pairs_of (x ∷ xs) rises zero (suc j) d below within = at_place (λ y. x < y) xs j d rises.0 (omega (arith, within))
 pairs_of (x ∷ xs) rises (suc i) (suc j) d below within = pairs_of xs rises.1 i j d (omega (arith, below)) (omega (arith, within))
 
-tasks_within : (workers worker k bound : ℕ) (entries : List Entry) → AreTasks workers worker k entries → ((j : ℕ) → j < k → part_at workers worker j < bound) → AllByRecursion (λ t. t < bound) (begun_in entries)
+tasks_within : (workers worker k bound : ℕ) (entries : List Entry) → AreTasks 0 workers worker k entries → ((j : ℕ) → j < k → part_at workers worker j < bound) → AllByRecursion (λ t. t < bound) (begun_in entries)
 unfolding AreTasks begun_in
 tasks_within workers worker zero bound entries are within = subst (λ (es : List Entry). AllByRecursion (λ t. t < bound) (begun_in es)) (sym are) tt
 tasks_within workers worker (suc k) bound entries are within =
-    let is : begun_in entries ≡ begun_in are.0 ++ part_at workers worker k ∷ [] = ap begun_in are.4 ∙ begun_append are.0 are.1 ∙ ap (λ (ts : List ℕ). begun_in are.0 ++ ts) (task_begun worker (part_at workers worker k) are.1 are.3) in
+    let is : begun_in entries ≡ begun_in are.0 ++ part_at workers worker k ∷ [] = ap begun_in are.4 ∙ begun_append are.0 are.1 ∙ ap (λ (ts : List ℕ). begun_in are.0 ++ ts) (task_begun worker (part_at workers worker k) are.1 (task_is worker (part_at workers worker k) are.1 are.3)) in
     subst (AllByRecursion (λ t. t < bound)) (sym is)
     (every_append (λ t. t < bound) (begun_in are.0) (part_at workers worker k ∷ [])
     (tasks_within workers worker k bound are.0 are.2 (λ j below. within j (omega (arith, below)))) (within k (omega arith), tt))
 
-tasks_rise : (workers worker k : ℕ) (entries : List Entry) → 0 < workers → AreTasks workers worker k entries → Rises (begun_in entries)
+tasks_rise : (workers worker k : ℕ) (entries : List Entry) → 0 < workers → AreTasks 0 workers worker k entries → Rises (begun_in entries)
 unfolding AreTasks begun_in Rises
 tasks_rise workers worker zero entries some are = subst (λ (es : List Entry). Rises (begun_in es)) (sym are) tt
 tasks_rise workers worker (suc k) entries some are =
-    let is : begun_in entries ≡ begun_in are.0 ++ part_at workers worker k ∷ [] = ap begun_in are.4 ∙ begun_append are.0 are.1 ∙ ap (λ (ts : List ℕ). begun_in are.0 ++ ts) (task_begun worker (part_at workers worker k) are.1 are.3) in
+    let is : begun_in entries ≡ begun_in are.0 ++ part_at workers worker k ∷ [] = ap begun_in are.4 ∙ begun_append are.0 are.1 ∙ ap (λ (ts : List ℕ). begun_in are.0 ++ ts) (task_begun worker (part_at workers worker k) are.1 (task_is worker (part_at workers worker k) are.1 are.3)) in
     subst Rises (sym is)
     (rises_snoc (begun_in are.0) (part_at workers worker k) (tasks_rise workers worker k are.0 some are.2)
     (tasks_within workers worker k (part_at workers worker k) are.0 are.2 (λ j below. parts_rise workers worker j k some below)))
@@ -234,6 +238,10 @@ owner_part : (workers partitions worker j : ℕ) → worker < workers → part_a
 owner_part workers partitions worker j below within =
     ap (λ (b : Bool). if b then Some (part_at workers worker j % workers) else (if part_at workers worker j == partitions then Some 0 else None)) (lt-ltb (part_at workers worker j) partitions within)
     ∙ ap Some (worker_of workers worker j below)
+
+pub owner_of_part : (workers partitions part : ℕ) → part < partitions → owner_of workers partitions part ≡ Some (part % workers)
+owner_of_part workers partitions part within =
+    ap (λ (b : Bool). if b then Some (part % workers) else (if part == partitions then Some 0 else None)) (lt-ltb part partitions within)
 
 pub owner_final : (workers partitions : ℕ) → owner_of workers partitions partitions ≡ Some 0
 owner_final workers partitions = grind (arith, nat_tests)

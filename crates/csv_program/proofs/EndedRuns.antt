@@ -47,6 +47,13 @@ not_done NoMemory e = cc e
 pub fault_not_done : (fault : WorkFault) (ended : Status) → ended ≡ status_of_work fault → ended ≡ status.Done → ⊥
 fault_not_done fault ended tells done = not_done fault (sym tells ∙ done)
 
+pub sound_more : {T : Type 0} (P Q : T → Type 0) → ((x : T) → P x → Q x) → (result : Result T WorkFault) → IfSound P result → IfSound Q result
+sound_more P Q more (Ok x) holds = more x holds
+sound_more P Q more (Err (NoRoom asked held floor)) holds = tt
+sound_more P Q more (Err (DiskFault post)) holds = tt
+sound_more P Q more (Err (Damaged damage)) holds = holds
+sound_more P Q more (Err NoMemory) holds = tt
+
 pub sound_ok : {T : Type 0} (says : T → Type 0) (result : Result T WorkFault) (x : T) → result ≡ Ok x → IfSound says result → says x
 sound_ok says result x is sound = subst (IfSound says) is sound
 

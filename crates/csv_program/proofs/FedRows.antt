@@ -1,5 +1,5 @@
 -- How many rows a worker's partitions have, and the consumer that they are fed to.
-use Rattle.std.proofs.Common.{◌≡◌, ◌-◌, ◌*◌, ◌%◌, ◌≤◌, ◌<◌, ◌∷◌, ◌∙◌, [], ℕ, zero, suc, min, List, Option, Some, None, length, map, take, drop, refl, sym, ap, subst, arith, length-drop}
+use Rattle.std.proofs.Common.{◌≡◌, ◌≢◌, ◌-◌, ◌*◌, ◌%◌, ◌≤◌, ◌<◌, ◌∷◌, ◌∙◌, [], ℕ, zero, suc, min, List, Option, Some, None, length, map, take, drop, refl, sym, ap, subst, arith, length-drop}
 use Rattle.std.specs.Prelude.{slice_index_or}
 use Rattle.std.proofs.lemmas.List.{length-take}
 use Rattle.std.proofs.Math.Nat.{mod-lt}
@@ -19,7 +19,9 @@ use Rattle.job_text.specs.declared.job.Shape.TheVariants.{Group, Order}
 use Rattle.landing.specs.Landed.{AreLanded, partition_count, partition_of}
 use Rattle.task_runner.specs.Consumers.{FeedsOne, place_for}
 use Rattle.task_runner.specs.Pass.{FeedsParts}
+use Rattle.task_runner.specs.Queries.{FeedsAll, place_at}
 use Rattle.task_runner.specs.Workers.{IsCount, part_at, rows_to}
+use Rattle.csv_program.specs.QueryResults.{alone_over}
 use Rattle.csv_program.specs.Posts.{AllTell, FeedsRows, place_in, place_of_first, place_of_shape, rows_in}
 
 -- ---- the consumer
@@ -54,13 +56,24 @@ rows_same files part_rows workers worker parts landed rows some tell are same (s
     let length_is = same_length part_rows (part * part_rows) landed rows same in
     omega (arith, before, here, length_is)
 
-pub feeds_rows : (states states' : List State) (place place' : ℕ) (files : ℕ → Option Files) (part_rows workers worker : ℕ) (parts : List Run) (landed rows : List Fields) → 1 ≤ workers → AllTell workers files → AreLanded files part_rows workers parts landed
-    → length landed ≡ length rows → place ≡ place' → FeedsParts states states' place parts workers worker → FeedsRows states states' place' part_rows rows workers worker
-feeds_rows states states' place place' files part_rows workers worker parts landed rows some tell are same there feeds =
+-- the consumer of the one query of a pass was fed, and no other was
+feeds_alone : (plan : Plan) (states states' : List State) (count : ℕ) → FeedsAll states states' plan (0 ∷ []) (λ _. count) → FeedsOne states states' (place_for (kind_at plan 0)) count
+feeds_alone plan states states' count feeds = record {
+  fed = feeds.fed 0 (omega arith);
+  others = λ place other. feeds.others place (λ i below. apart place other i below);
+}
+  where
+    apart : (place : ℕ) → place ≢ place_for (kind_at plan 0) → (i : ℕ) → i < 1 → place_at plan (0 ∷ []) i ≢ place
+    apart place other zero below same = other (sym same)
+    apart place other (suc i) below same = omega (arith, below)
+
+pub feeds_rows : (states states' : List State) (plan : Plan) (place' : ℕ) (files : ℕ → Option Files) (part_rows workers worker : ℕ) (parts : List Run) (landed rows : List Fields) → 1 ≤ workers → AllTell workers files → AreLanded files part_rows workers parts landed
+    → length landed ≡ length rows → place_for (kind_at plan 0) ≡ place' → FeedsParts states states' (alone_over plan parts) workers worker → FeedsRows states states' place' part_rows rows workers worker
+feeds_rows states states' plan place' files part_rows workers worker parts landed rows some tell are same there feeds =
     let partitions : length parts ≡ partition_count (length rows) part_rows = are.count ∙ ap (λ (n : ℕ). partition_count n part_rows) same in
     record {
       count = feeds.count;
       all = subst (λ (n : ℕ). IsCount workers worker n feeds.count) partitions feeds.all;
       feeds = subst (λ (n : ℕ). FeedsOne states states' place' n) (rows_same files part_rows workers worker parts landed rows some tell are same feeds.count feeds.all.within)
-          (subst (λ (p : ℕ). FeedsOne states states' p (rows_to parts workers worker feeds.count)) there feeds.feeds);
+          (subst (λ (p : ℕ). FeedsOne states states' p (rows_to parts workers worker feeds.count)) there (feeds_alone plan states states' (rows_to parts workers worker feeds.count) feeds.feeds));
     }

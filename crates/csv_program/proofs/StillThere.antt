@@ -1,12 +1,13 @@
 -- Files that were there, through the calls of a run.
-use Rattle.std.proofs.Common.{◌≡◌, ◌∙◌, ℕ, List, [], Option, Some, None, refl, sym, ap, subst, arith}
-use Rattle.std.specs.Prelude.{IsSome, is_some}
+use Rattle.std.proofs.Common.{◌≡◌, ◌∙◌, ℕ, List, Option, Some, None, refl, sym, ap, subst}
+use Rattle.std.specs.Prelude.{All, IsSome, is_some}
 use Rattle.std.specs.FinMap as map
 use Rattle.spill_disk.specs.Files.{Files}
 use Rattle.run_file.specs.declared.run.Run.{Run}
-use Rattle.run_file.specs.Several.{IsFileAmong, KeepsFile, KeepsOthers}
-use Rattle.run_file.specs.Several.{no_run, run_at}
+use Rattle.run_file.specs.Several.{IsFileAmong, KeepsFile, no_run, run_at}
+use Rattle.task_memory.specs.RunLists.{runs_at}
 use Rattle.task_memory.specs.Writing.{WasNotThere}
+use Rattle.task_runner.specs.Finals.{KeepsOtherFiles}
 use Rattle.task_runner.specs.Pass.{AreInNewFiles, KeepsAll}
 
 keeps_itself : (files : Option Files) (file : ℕ) → KeepsFile files files file
@@ -36,9 +37,9 @@ keeps_around before taken given after first last kept disk file =
     (subst (λ (files : Option Files). KeepsFile (taken disk) files file) (sym (last disk)) (kept disk file))
 
 -- those but some runs' files, in words of disks that are alike
-pub others_around : (before taken given after : ℕ → Option Files) (runs : List Run) → ((place : ℕ) → taken place ≡ before place) → ((place : ℕ) → after place ≡ given place) → KeepsOthers (λ disk. disk) taken given runs
-    → KeepsOthers (λ disk. disk) before after runs
-others_around before taken given after runs first last kept disk file apart =
+pub others_around : (before taken given after : ℕ → Option Files) (lists : List (List Run)) → ((place : ℕ) → taken place ≡ before place) → ((place : ℕ) → after place ≡ given place) → KeepsOtherFiles (λ disk. disk) taken given lists
+    → KeepsOtherFiles (λ disk. disk) before after lists
+others_around before taken given after lists first last kept disk file apart =
     subst (λ (files : Option Files). KeepsFile files (after disk) file) (first disk)
     (subst (λ (files : Option Files). KeepsFile (taken disk) files file) (sym (last disk)) (kept disk file apart))
 
@@ -52,7 +53,7 @@ tells_around before taken given after first last same place =
 missing : (files : Files) (file : ℕ) → IsSome (map.get files file) → map.get files file ≡ None → ⊥
 missing files file there none = cc (there, none)
 
-not_among : (before : ℕ → Option Files) (files : Files) (runs : List Run) (disk file : ℕ) → before disk ≡ Some files → AreInNewFiles before runs → IsSome (map.get files file) → IsFileAmong (λ disk. disk) runs disk file → ⊥
+not_among : (before : ℕ → Option Files) (files : Files) (runs : List Run) (disk file : ℕ) → before disk ≡ Some files → All (λ run. WasNotThere (before run.disk) run.file) runs → IsSome (map.get files file) → IsFileAmong (λ disk. disk) runs disk file → ⊥
 not_among before files runs disk file is new there among =
     let one = new among.0 no_run among.1 in
     let there_not : WasNotThere (before disk) file = subst (λ (n : ℕ). WasNotThere (before disk) n) among.3 (subst (λ (d : ℕ). WasNotThere (before d) (run_at runs among.0).file) among.2 one) in
@@ -67,11 +68,8 @@ still (Some a) (Some b) None file first tells then = absurd (cc tells)
 still (Some a) (Some b) (Some c) file first tells then = λ there. keeps_both (Some a) (Some b) (Some c) file first (then a refl there) there
 
 -- a call that keeps all but the files of some runs keeps what was there before the files of those were made
-pub others_kept : (before mid after : ℕ → Option Files) (runs : List Run) → KeepsAll before mid → AreInNewFiles before runs → ((place : ℕ) → is_some (after place) ≡ is_some (mid place)) → KeepsOthers (λ disk. disk) mid after runs → KeepsAll before after
-others_kept before mid after runs first new tells second disk file =
+pub others_kept : (before mid after : ℕ → Option Files) (lists : List (List Run)) → KeepsAll before mid → AreInNewFiles before lists → ((place : ℕ) → is_some (after place) ≡ is_some (mid place))
+    → KeepsOtherFiles (λ disk. disk) mid after lists → KeepsAll before after
+others_kept before mid after lists first new tells second disk file =
     still (before disk) (mid disk) (after disk) file (first disk file) (tells disk)
-    (λ files is there. second disk file (not_among before files runs disk file is new there))
-
--- no runs
-pub none_new : (before : ℕ → Option Files) (runs : List Run) → runs ≡ [] → AreInNewFiles before runs
-none_new before runs none = subst (λ (rs : List Run). AreInNewFiles before rs) (sym none) (λ k d below. absurd (omega (arith, below)))
+    (λ files is there. second disk file (λ among. not_among before files (runs_at lists among.0) disk file is (new among.0) there among.1))

@@ -1,30 +1,34 @@
 -- What the posts and the answer of a run tell, where the final task left the consumers as they were.
-use Rattle.std.proofs.Common.{◌≡◌, ◌∙◌, ℕ, ◌<◌, ◌≤◌, ◌↔◌, ◌%◌, List, [], ◌∷◌, Option, Some, None, Result, Ok, Err, length, map, refl, sym, ap, subst, arith}
-use Rattle.std.specs.Prelude.{IfOk, IfSome, IsSome, OnOk, slice_get}
+use Rattle.std.proofs.Common.{◌≡◌, ◌∙◌, ℕ, ◌<◌, ◌≤◌, ◌⊎◌, ◌↔◌, ◌%◌, List, [], ◌∷◌, Option, Some, None, Result, Ok, Err, inl, inr, length, map, refl, sym, ap, subst, arith}
+use Rattle.std.specs.Prelude.{All, IfSome, IsSome, OnOk, slice_get}
 use Rattle.std.specs.Global.{Vec}
 use Rattle.std.specs.List.{range_with_len}
 use Rattle.std.specs.Option.{option_map, option_map_or}
 use Rattle.std.proofs.Math.Nat.{mod-eq_of_lt}
+use Rattle.std.proofs.lemmas.List.{get_or_default}
 use Rattle.aggregate.specs.Totals.{Entry, total}
 use Rattle.aggregate.specs.declared.kind.Kind.{Kind}
 use Rattle.spill_disk.specs.Files.{Files}
 use Rattle.run_file.specs.Runs.{Stands}
 use Rattle.run_file.specs.declared.run.Run.{Run}
-use Rattle.run_file.specs.Several.{KeepsFile}
-use Rattle.run_file.specs.Several.{AreApart, AreOn, HasEntries, HaveEntries, concatenated, run_at}
+use Rattle.run_file.specs.Several.{HasEntries, HaveEntries, KeepsFile, concatenated, run_at}
 use Rattle.consumer_trait.specs.States.{State}
 use Rattle.job_answer.specs.Parts.{PartsTellAll}
-use Rattle.job_plan.specs.Plans.{form_in, kind_at}
-use Rattle.job_plan.specs.declared.query_plan.Plan.{Plan}
 use Rattle.result_table.specs.Results.{HasResult}
-use Rattle.task_runner.specs.Answers.{MergesTotal}
-use Rattle.task_runner.specs.Consumers.{FeedsOne, KeepsConsumers}
-use Rattle.task_runner.specs.Parts.{HoldsRows, entries_in}
-use Rattle.task_runner.specs.Pass.{FeedsParts, KeepsAll, AnswerAllParts, states_at}
-use Rattle.task_runner.specs.Workers.{IfSound, rows_to}
+use Rattle.task_memory.specs.RunLists.{runs_at}
+use Rattle.task_memory.proofs.Places.{less_or_not}
+use Rattle.task_runner.specs.Consumers.{KeepsConsumers}
+use Rattle.task_runner.specs.Finals.{AreMergedTo, HasMerged, HaveLists, MergeTotals}
+use Rattle.task_runner.specs.PartAnswers.{HoldsAll}
+use Rattle.task_runner.specs.Pass.{AnswerAllParts, KeepsAll, states_at}
+use Rattle.task_runner.specs.PassViews.{PassView, parts_of, queries_of}
+use Rattle.task_runner.specs.Queries.{kind_in, made_in}
+use Rattle.task_runner.specs.RunsApart.{AllOfLists, AreAllApart}
+use Rattle.task_runner.specs.Workers.{IfSound, answer_at}
 use Rattle.task_runner.specs.declared.post.Post.{Post}
 use Rattle.task_runner.specs.declared.work_fault.WorkFault.{WorkFault}
 use Rattle.task_runner.specs.declared.work_fault.WorkFault.TheVariants.{NoRoom, DiskFault, Damaged, NoMemory}
+use Rattle.csv_program.specs.QueryResults.{HaveResults, entries_of_parts}
 use Rattle.csv_program.proofs.Aside.{part_alike}
 
 -- ---- consumers
@@ -42,28 +46,25 @@ states_alike {D = D} {C = C} state some other same i =
 pub keeps_alike : (states states' : List State) → states' ≡ states → KeepsConsumers states states'
 keeps_alike states states' same = subst (KeepsConsumers states) (sym same) (record { count = refl; serves = λ i. refl; least = λ i. refl })
 
--- no partition, and nothing fed
-pub feeds_none : (states states' : List State) (place workers worker : ℕ) (parts : List Run) → length parts ≡ 0 → states' ≡ states → FeedsParts states states' place parts workers worker
-unfolding rows_to
-feeds_none states states' place workers worker parts none same = record {
-  count = 0;
-  all = record { within = λ k below. absurd (omega (arith, below)); covers = λ k below. absurd (omega (arith, none, below)) };
-  feeds = subst (λ (s : List State). FeedsOne states s place (rows_to parts workers worker 0)) (sym same) (record { fed = refl; others = λ i apart. refl });
-}
+-- ---- where the answers are
 
--- ---- where the answer is
+pub on_more : (few many : ℕ) (lists : List (List Run)) → few ≤ many → AllOfLists (λ run. run.disk < few) lists → AllOfLists (λ run. run.disk < many) lists
+on_more few many lists least on i k any below = let low = on i k any below in omega (arith, low, least)
 
-pub on_more : (few many : ℕ) (runs : List Run) → few ≤ many → AreOn few runs → AreOn many runs
-on_more few many [] least on = tt
-on_more few many (run ∷ runs) least on = (let low = on.0 in omega (arith, low, least), on_more few many runs least on.1)
+-- the answer to a query is on a disk of the workers
+one_there : (workers : ℕ) (runs : List Run) (answer : Option Run) → 1 ≤ workers → All (λ run. run.disk < workers) runs → (answer ≡ None) ↔ (runs ≡ []) → ((run : Run) → runs ≡ run ∷ [] → answer ≡ Some run)
+    → IfSome answer (λ run. 2 ≤ length runs → run.disk ≡ 0) → IfSome answer (λ run. run.disk < workers)
+one_there workers runs None some on none alone first = tt
+one_there workers [] (Some run) some on none alone first = absurd (let no = none.1 refl in cc no)
+one_there workers (only ∷ []) (Some run) some on none alone first =
+    let same : Some run ≡ Some only = alone only refl in let is : run ≡ only = cc same in subst (λ (r : Run). r.disk < workers) (sym is) (on 0 only (omega arith))
+one_there workers (one ∷ (two ∷ more)) (Some run) some on none alone first = let low = first (omega arith) in omega (arith, low, some)
 
-pub there_of : (workers : ℕ) (runs : List Run) (answer : Result (Option Run) WorkFault) → 1 ≤ workers → AreOn workers runs → IfOk answer (λ a. (a ≡ None) ↔ (runs ≡ []))
-    → ((run : Run) → runs ≡ run ∷ [] → IfOk answer (λ a. a ≡ Some run)) → IfOk answer (λ a. IfSome a (λ run. 2 ≤ length runs → run.disk ≡ 0)) → IfOk answer (λ a. IfSome a (λ run. run.disk < workers))
-there_of workers runs (Err e) some on none alone first = tt
-there_of workers runs (Ok None) some on none alone first = tt
-there_of workers [] (Ok (Some run)) some on none alone first = absurd (let no = none.1 refl in cc no)
-there_of workers (only ∷ []) (Ok (Some run)) some on none alone first = let same : Some run ≡ Some only = alone only refl in let is : run ≡ only = cc same in subst (λ (r : Run). r.disk < workers) (sym is) on.0
-there_of workers (one ∷ (two ∷ more)) (Ok (Some run)) some on none alone first = let low = first (omega arith) in omega (arith, low, some)
+pub there_of : (workers : ℕ) (lists : List (List Run)) (answers : List (Option Run)) → 1 ≤ workers → AllOfLists (λ run. run.disk < workers) lists → AreMergedTo lists answers
+    → All (λ answer. IfSome answer (λ run. run.disk < workers)) answers
+there_of workers lists answers some on merged i any below =
+    subst (λ (answer : Option Run). IfSome answer (λ run. run.disk < workers)) (sym (get_or_default answers i any None below))
+    (one_there workers (runs_at lists i) (answer_at answers i) some (on i) (merged.none i) (merged.alone i) (merged.on i))
 
 -- ---- what the answer is
 
@@ -77,11 +78,10 @@ still_tells (Some before) None kept tells = absurd kept
 still_tells (Some before) (Some after) kept tells = refl
 
 -- the first worker's disk tells, where it has the rows of a partition
-pub first_tells : (plan : Plan) (parts : List Run) (workers : ℕ) (rows : ℕ → List (List (List ℕ))) (before after : ℕ → Option Files) → 0 < workers → 0 < length parts → KeepsAll before after
-    → ((part : ℕ) → part < length parts → HoldsRows (before (part % workers)) (form_in plan) (run_at parts part) (rows part)) → IsSome (after 0)
-first_tells plan parts workers rows before after some any kept holds =
+pub first_tells : (pass : PassView) (workers : ℕ) (rows : ℕ → List (List (List ℕ))) (before after : ℕ → Option Files) → 0 < workers → 0 < parts_of pass → KeepsAll before after → HoldsAll before pass workers rows → IsSome (after 0)
+first_tells pass workers rows before after some any kept holds =
     let one = holds 0 any in
-    let tells = stands_tells (before (0 % workers)) (run_at parts 0) (rows 0) one.stands in
+    let tells = stands_tells (before (0 % workers)) (run_at pass.parts 0) (rows 0) one.stands in
     still_tells (before 0) (after 0) (kept 0 0) (subst (λ (i : ℕ). IsSome (before i)) (mod-eq_of_lt some) tells)
 
 totals_each : {X : Type 0} (kind : Kind) (entries : X → List Entry) (xs : List X) → map (λ x. total kind (entries x)) xs ≡ map (total kind) (map entries xs)
@@ -92,34 +92,63 @@ nothing : (kind : Kind) → total kind [] ≡ []
 unfolding total
 nothing kind = refl
 
-result_by : (files : ℕ → Option Files) (kind : Kind) (lists : List (List Entry)) (all : List Entry) (answer : Result (Option Run) WorkFault) → total kind (concatenated lists) ≡ total kind all
-    → MergesTotal files kind lists answer → IfSound (λ answer. HasResult files kind answer (total kind all)) answer
-result_by files kind lists all (Ok None) same merges = sym same ∙ ap (λ (ls : List (List Entry)). total kind (concatenated ls)) merges ∙ nothing kind
-result_by files kind lists all (Ok (Some run)) same merges = subst (HasEntries (files run.disk) kind run) same merges
-result_by files kind lists all (Err (NoRoom asked held floor)) same merges = tt
-result_by files kind lists all (Err (DiskFault post)) same merges = tt
-result_by files kind lists all (Err (Damaged damage)) same merges = merges
-result_by files kind lists all (Err NoMemory) same merges = tt
+result_by : (files : ℕ → Option Files) (kind : Kind) (lists : List (List Entry)) (all : List Entry) (answer : Option Run) → total kind (concatenated lists) ≡ total kind all
+    → HasMerged files kind lists answer → HasResult files kind answer (total kind all)
+result_by files kind lists all None same merges = sym same ∙ ap (λ (ls : List (List Entry)). total kind (concatenated ls)) merges ∙ nothing kind
+result_by files kind lists all (Some run) same merges = subst (HasEntries (files run.disk) kind run) same merges
 
--- the merged runs of all partitions are the result of all rows
-pub result_of : (mid after : ℕ → Option Files) (plan : Plan) (partitions : ℕ) (rows : ℕ → List (List (List ℕ))) (runs : List Run) (answer : Result (Option Run) WorkFault) → PartsTellAll
-    → AnswerAllParts mid (kind_at plan 0) plan partitions rows runs
-    → ((lists : List (List Entry)) → HaveEntries mid (kind_at plan 0) runs lists → AreApart (λ disk. disk) runs → MergesTotal after (kind_at plan 0) lists answer)
-    → IfSound (λ answer. HasResult after (kind_at plan 0) answer (total (kind_at plan 0) (concatenated (map (λ part. entries_in plan 0 (rows part)) (range_with_len 0 partitions))))) answer
-result_of mid after plan partitions rows runs answer told tells merges =
-    let kind = kind_at plan 0 in
-    let entries : ℕ → List Entry = λ part. entries_in plan 0 (rows part) in
-    let parts = range_with_len 0 partitions in
-    let same : total kind (concatenated tells.lists) ≡ total kind (concatenated (map entries parts)) =
-    ap (total kind) tells.same ∙ ap (λ (lists : List (List Entry)). total kind (concatenated lists)) (totals_each kind entries parts) ∙ told kind (map entries parts) in
-    result_by after kind tells.lists (concatenated (map entries parts)) answer same (merges tells.lists tells.have tells.apart)
+-- the entries of each query's runs, a list for each run
+module _ (mid : ℕ → Option Files) (pass : PassView) (rows : ℕ → List (List (List ℕ))) (lists : List (List Run)) (tells : AnswerAllParts mid pass rows lists) where
+  abbrev lists_if : (i : ℕ) → (i < queries_of pass) ⊎ (queries_of pass ≤ i) → List (List Entry)
+  lists_if i (inl query) = (tells.each i query).lists
+  lists_if i (inr past) = []
 
--- without a partition there is no run
-pub result_none : (files : ℕ → Option Files) (plan : Plan) (partitions : ℕ) (rows : ℕ → List (List (List ℕ))) (answer : Option Run) → partitions ≡ 0 → answer ≡ None
-    → HasResult files (kind_at plan 0) answer (total (kind_at plan 0) (concatenated (map (λ part. entries_in plan 0 (rows part)) (range_with_len 0 partitions))))
-result_none files plan partitions rows answer none is =
-    subst (λ (a : Option Run). HasResult files (kind_at plan 0) a (total (kind_at plan 0) (concatenated (map (λ part. entries_in plan 0 (rows part)) (range_with_len 0 partitions))))) (sym is)
-    (ap (λ (n : ℕ). total (kind_at plan 0) (concatenated (map (λ part. entries_in plan 0 (rows part)) (range_with_len 0 n)))) none ∙ nothing (kind_at plan 0))
+  abbrev lists_in : ℕ → List (List Entry)
+  lists_in i = lists_if i (less_or_not i (queries_of pass))
+
+  have_if : (i : ℕ) → i < queries_of pass → (found : (i < queries_of pass) ⊎ (queries_of pass ≤ i)) → HaveEntries mid (kind_in pass.plan pass.queries i) (runs_at lists i) (lists_if i found)
+  have_if i below (inl query) = (tells.each i query).have
+  have_if i below (inr past) = absurd (omega (arith, below, past))
+
+  same_if : (i : ℕ) → i < queries_of pass → (found : (i < queries_of pass) ⊎ (queries_of pass ≤ i))
+      → concatenated (lists_if i found) ≡ concatenated (map (λ part. total (kind_in pass.plan pass.queries i) (made_in pass.plan pass.queries (rows part) i)) (range_with_len 0 (parts_of pass)))
+  same_if i below (inl query) = (tells.each i query).same
+  same_if i below (inr past) = absurd (omega (arith, below, past))
+
+  -- the merged runs of all partitions are the results of all rows
+  pub result_of : (after : ℕ → Option Files) (result : Result (Vec (Option Run)) WorkFault) → PartsTellAll
+      → ((entries : ℕ → List (List Entry)) → HaveLists mid pass lists entries → AreAllApart (λ disk. disk) lists → MergeTotals after pass entries result)
+      → IfSound (λ answers. HaveResults after pass rows answers.items) result
+  result_of after result told merges = sound result (merges lists_in (λ i query. have_if i query (less_or_not i (queries_of pass))) tells.apart)
+    where
+      each : (answers : List (Option Run)) → ((i : ℕ) → i < queries_of pass → HasMerged after (kind_in pass.plan pass.queries i) (lists_in i) (answer_at answers i)) → HaveResults after pass rows answers
+      each answers merged i query =
+          let kind = kind_in pass.plan pass.queries i in
+          let entries : ℕ → List Entry = λ part. made_in pass.plan pass.queries (rows part) i in
+          let parts = range_with_len 0 (parts_of pass) in
+          let same : total kind (concatenated (lists_in i)) ≡ total kind (concatenated (map entries parts)) =
+          ap (total kind) (same_if i query (less_or_not i (queries_of pass))) ∙ ap (λ (lists : List (List Entry)). total kind (concatenated lists)) (totals_each kind entries parts) ∙ told kind (map entries parts) in
+          result_by after kind (lists_in i) (concatenated (map entries parts)) (answer_at answers i) same (merged i query)
+
+      sound : (result : Result (Vec (Option Run)) WorkFault) → MergeTotals after pass lists_in result → IfSound (λ answers. HaveResults after pass rows answers.items) result
+      sound (Ok answers) merged = each answers.items merged
+      sound (Err (NoRoom asked held floor)) merged = tt
+      sound (Err (DiskFault post)) merged = tt
+      sound (Err (Damaged damage)) merged = merged
+      sound (Err NoMemory) merged = tt
+
+-- without a partition there is no run, and no answer
+pub result_none : (files : ℕ → Option Files) (pass : PassView) (rows : ℕ → List (List (List ℕ))) (lists : List (List Run)) (answers : List (Option Run)) → parts_of pass ≡ 0 → ((i : ℕ) → length (runs_at lists i) ≤ parts_of pass)
+    → AreMergedTo lists answers → HaveResults files pass rows answers
+result_none files pass rows lists answers none few merged i query =
+    let kind = kind_in pass.plan pass.queries i in
+    let is : answer_at answers i ≡ None = (merged.none i).1 (empty (runs_at lists i) (let most = few i in omega (arith, most, none))) in
+    subst (λ (a : Option Run). HasResult files kind a (total kind (entries_of_parts pass rows i))) (sym is)
+    (ap (λ (n : ℕ). total kind (concatenated (map (λ part. made_in pass.plan pass.queries (rows part) i) (range_with_len 0 n)))) none ∙ nothing kind)
+  where
+    empty : (runs : List Run) → length runs ≡ 0 → runs ≡ []
+    empty [] same = refl
+    empty (run ∷ runs) same = absurd (omega (arith, same))
 
 -- ---- what holds anyway
 

@@ -14,7 +14,7 @@ pub record HasDone (workers partitions worker : ℕ) (entries : List Entry) : Ty
   pub within : (k : ℕ) → k < count → part_at workers worker k < partitions
   pub tasks : List Entry
   pub last : List Entry
-  pub are : AreTasks workers worker count tasks
+  pub are : AreTasks 0 workers worker count tasks
   pub final : (last ≡ []) ⊎ ((worker ≡ 0) × IsTaskOf worker partitions last)
   pub all : entries ≡ tasks ++ last
 

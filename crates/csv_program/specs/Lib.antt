@@ -6,6 +6,7 @@ pub mod Telling
 pub mod Endings
 pub mod Tasks
 pub mod Doing
+pub mod QueryResults
 pub mod Posts
 pub mod Complete
 pub mod Made

@@ -7,12 +7,13 @@ ghost use Rattle.fault_count.specs.Faults.{Rose};
 ghost use Rattle.pool_ledger.specs.Journal.{history_of};
 ghost use Rattle.pool_ledger.specs.Legal.{IsLegal};
 ghost use Rattle.job_plan.specs.Planning.{columns_of};
-ghost use Rattle.job_plan.specs.Plans.{form_in, kept_in, kind_at};
+ghost use Rattle.job_plan.specs.Plans.{form_in, kept_in};
 ghost use Rattle.landing.specs.Landed.{AreChecked, AreLanded};
-ghost use Rattle.task_runner.specs.Consumers.{HasConsumers, KeepsConsumers, place_for};
+ghost use Rattle.task_runner.specs.Consumers.{HasConsumers, KeepsConsumers};
 ghost use Rattle.task_runner.specs.Pass.{FeedsParts, KeepsAll, states_at};
 ghost use Rattle.csv_program.specs.Endings.{MayEndAs, ending_of_totals, printed_in, totals_of};
 ghost use Rattle.csv_program.specs.Posts.{AllTell, post_faults, post_files};
+ghost use Rattle.csv_program.specs.QueryResults.{alone_over};
 ghost use Rattle.csv_program.specs.Statuses.{IsCut, IsDamaged, IsDamagedOn, IsDiskFault, IsNoRoom, IsOfTasks, MakesPool, WritesNothing};
 ghost use Rattle.csv_program.specs.Tasks.{BeginsAll, FollowsPlan, ShowsShort, owner_of};
 ghost use Rattle.csv_program.specs.Telling.{status_of_work};
@@ -31,7 +32,7 @@ use spill_disk::Disk;
 use std::alloc::Global;
 use std::sync::Wait;
 use std::thread::Threads;
-use task_runner::{Post, WorkFault};
+use task_runner::{Pass, Post, WorkFault};
 
 /// Does the tasks of a plan of one query over landed partitions, in a pool of these sizes, checks the sums, and prints the table.
 pub fn run_query<
@@ -97,7 +98,7 @@ pub fn run_query<
 
     // The posts.
     ensures fed { result.status ≡ Status.Done → (worker : ℕ) → worker < pool.workers → FeedsParts (states_at C.state posts.old.items worker)
-        (states_at C.state posts.new.items worker) (place_for (kind_at plan.now 0)) parts.now pool.workers worker }
+        (states_at C.state posts.new.items worker) (alone_over plan.now parts.now) pool.workers worker }
     ensures others { (place : ℕ) → pool.workers ≤ place
         → states_at C.state posts.new.items place ≡ states_at C.state posts.old.items place }
     ensures consumers { (place : ℕ) → KeepsConsumers (states_at C.state posts.old.items place) (states_at C.state posts.new.items place) }
@@ -105,12 +106,19 @@ pub fn run_query<
     ensures later { (place : ℕ) → post_faults D.faults posts.old place ≤ post_faults D.faults posts.new place }
 {
     short_shapes_are_told();
-    let (answer, journal) = run_tasks::<K, D, C, B, R>(rt, alloc, pool, store, plan, parts, posts);
+    // The one query is the first of the one pass.
+    let pass = Pass {
+        plan,
+        queries: &[0],
+        parts,
+        first: 0,
+    };
+    let (told, journal) = run_tasks::<K, D, C, B, R>(rt, alloc, pool, store, &pass, posts);
     let Some(journal) = journal else {
         return unpooled(alloc, Status::NoMemory);
     };
-    let status = match answer {
-        Ok(answer) => print_answer(alloc, posts, plan, answer.as_ref(), output),
+    let status = match told {
+        Ok(answers) => print_answer(alloc, posts, plan, answers[0].as_ref(), output),
         Err(fault) => Status::from(fault),
     };
     Outcome {
