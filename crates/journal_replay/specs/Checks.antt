@@ -2,7 +2,7 @@
 -- This project's own.
 use Rattle.std.specs.Prelude.{ℕ, ◌==◌, Bool, true, false, not, ◌&&◌, if◌then◌else◌, Option, List, [], ◌∷◌, ⊤}
 use Rattle.pool_ledger.specs.declared.entry.Event.{Event}
-use Rattle.pool_ledger.specs.declared.entry.Event.TheVariants.{Begin, Attempt, Release, End}
+use Rattle.pool_ledger.specs.declared.entry.Event.TheVariants.{Begin, Attempt, Release, End, Admit, Refused}
 use Rattle.pool_ledger.specs.Sizes.{Sizes}
 use Rattle.pool_ledger.specs.History.{History}
 use Rattle.pool_ledger.specs.Answers.{growth, answer, admission}
@@ -51,3 +51,9 @@ IsOfBlock (Attempt task asked moved evictions got) = ⊥
 IsOfBlock (Release task freed) = ⊥
 IsOfBlock (End task freed) = ⊥
 IsOfBlock _ = ⊤
+
+-- the event is an admission or a refusal
+abbrev pub IsOfStore : Event → Type 0
+IsOfStore (Admit dataset part size level borrowed evictions) = ⊤
+IsOfStore (Refused dataset part size borrowed evictions) = ⊤
+IsOfStore _ = ⊥

@@ -3,7 +3,7 @@
 ghost use Rattle.std.specs.Prelude.{◌≡◌, ◌<◌, ◌&&◌, not, IfOk};
 ghost use Rattle.pool_ledger.specs.Legal.{is_own_turn};
 ghost use Rattle.journal_audit.specs.Rules.{event_checks, first_broken, first_in, follows_evictions, is_waiting};
-ghost use Rattle.journal_replay.specs.Checks.{IsOfBlock};
+ghost use Rattle.journal_replay.specs.Checks.{IsOfBlock, IsOfStore};
 ghost use Rattle.journal_replay.specs.Replays.{history_of, setup_of, IsReplay};
 
 use crate::ask_rules::check_attempt;
@@ -103,6 +103,29 @@ fn check_block_event(replay: &Replay, worker: u32, event: Event) -> Result<Optio
             size,
             fate,
         } => Ok(check_evict(replay, worker, dataset, part, size, fate)),
+        Event::Pin {
+            dataset,
+            part,
+            copy,
+        } => Ok(check_pin(replay, worker, dataset, part, copy)),
+        Event::Unpin { dataset, part } => Ok(check_unpin(replay, worker, dataset, part)),
+        Event::Remove {
+            dataset,
+            part,
+            size,
+        } => Ok(check_remove(replay, worker, dataset, part, size)),
+        event => check_store_event(replay, worker, event),
+    }
+}
+
+// The first rule that an admission or a refusal breaks.
+fn check_store_event(replay: &Replay, worker: u32, event: Event) -> Result<Option<Rule>, AllocError>
+    requires tells { IsReplay replay.now }
+    requires store { IsOfStore event }
+    ensures { IfOk result (λ rule. rule
+        ≡ first_in (event_checks (setup_of replay.now) (history_of replay.now) worker event)) }
+{
+    match event {
         Event::Admit {
             dataset,
             part,
@@ -138,17 +161,6 @@ fn check_block_event(replay: &Replay, worker: u32, event: Event) -> Result<Optio
                 evictions,
             },
         ),
-        Event::Pin {
-            dataset,
-            part,
-            copy,
-        } => Ok(check_pin(replay, worker, dataset, part, copy)),
-        Event::Unpin { dataset, part } => Ok(check_unpin(replay, worker, dataset, part)),
-        Event::Remove {
-            dataset,
-            part,
-            size,
-        } => Ok(check_remove(replay, worker, dataset, part, size)),
         _ => unreachable!(),
     }
 }
