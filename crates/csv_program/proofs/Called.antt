@@ -1,11 +1,10 @@
 -- What a call is for, where it is of a run and where it isn't.
-use Rattle.std.proofs.Common.{◌≡◌, ◌∙◌, ℕ, List, Option, Some, None, refl, sym, subst, inl, inr}
+use Rattle.std.proofs.Common.{◌≡◌, ◌∙◌, ℕ, Option, None, sym, subst, inl}
 use Rattle.std.specs.Prelude.{◌⊎◌, IfSome}
-use Rattle.byte_io.specs.Sinks.{AppendsPrefix}
 use Rattle.landing.specs.Landed.{IsOfInput}
 use Rattle.landing.specs.declared.fault.LandFault.{LandFault}
 use Rattle.csv_program.specs.Calls.{Call, ForNoRun, ForRun, IsWhyNot, NoCall, NoHeap, NoJob, Runs, TellsCall}
-use Rattle.csv_program.specs.Endings.{Ending, MayEndAs, Refuses, status_of}
+use Rattle.csv_program.specs.Endings.{Ending, MayEndAs, status_of}
 use Rattle.csv_program.specs.Statuses.{IsDamaged, IsDamagedOn, IsJudged, IsUnlanded}
 use Rattle.csv_program.specs.declared.call.RunCall.{RunCall}
 use Rattle.csv_program.specs.declared.outcome.Status.{Status}

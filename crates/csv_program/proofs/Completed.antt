@@ -1,12 +1,11 @@
 -- A valid run with whole grants, in which nothing fails, prints its table.
-use Rattle.std.proofs.Common.{◌≡◌, ◌≤◌, ◌∷◌, ◌∙◌, [], ℕ, List, Option, Some, None, refl, sym, ap, subst, inl, inr, arith}
+use Rattle.std.proofs.Common.{◌≡◌, ◌≤◌, ◌∷◌, [], ℕ, List, Option, Some, None, refl, ap, subst, inl, inr, arith}
 use Rattle.std.specs.Prelude.{◌⊎◌, ◌==◌, IfSome, unwrap_or}
 use Rattle.std.specs.Global.{Vec}
 use Rattle.std.specs.List.{AllByRecursion}
-use Rattle.std.proofs.lemmas.Bool.{cases_Bool, le-ltb}
+use Rattle.std.proofs.lemmas.Bool.{cases_Bool}
 use Rattle.fault_count.specs.Faults.{Rose}
 use Rattle.spill_disk.specs.Files.{Files}
-use Rattle.job_text.specs.declared.job.Job.{Job}
 use Rattle.task_runner.specs.declared.post.Post.{Post}
 use Rattle.pool_ledger.specs.History.{History}
 use Rattle.pool_ledger.specs.Journal.{history_of}

@@ -5,10 +5,10 @@ use Rattle.std.specs.Io.KnownBytes.{Appends, Keeps}
 use Rattle.std.specs.List.{flat_map, range_with_len}
 use Rattle.byte_io.specs.Rows.{rows_of}
 use Rattle.byte_io.specs.Sinks.{AppendsPrefix}
-use Rattle.job_plan.specs.Columns.{Fields, kept, linked}
-use Rattle.job_plan.specs.Passes.{pass_datasets, queries_over, removed_after}
+use Rattle.job_plan.specs.Columns.{Fields, kept}
+use Rattle.job_plan.specs.Passes.{pass_datasets, queries_over}
 use Rattle.job_plan.specs.PlanText.{columns_line, pass_line, plan_text, removal_line}
-use Rattle.job_plan.specs.Plans.{IsPlanOf, column_names_in, dataset_names_in, datasets_of, passes_in, queries_in, removed_in}
+use Rattle.job_plan.specs.Plans.{IsPlanOf, dataset_names_in, datasets_of, passes_in, queries_in, removed_in}
 use Rattle.job_plan.specs.declared.query_plan.Plan.{Plan}
 use Rattle.job_text.specs.declared.job.Job.{Job}
 use Rattle.landing.specs.Checks.{Checked, Refused}

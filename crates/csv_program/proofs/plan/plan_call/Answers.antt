@@ -1,4 +1,4 @@
-use Rattle.std.proofs.Common.{◌≡◌, subst}
+use Rattle.std.proofs.Common.{subst}
 use Rattle.std.specs.Prelude.{IsErrOf, option_map}
 use Rattle.landing.specs.declared.fault.LandFault.{LandFault}
 use Rattle.byte_io.specs.Rows.{rows_of}

@@ -1,10 +1,9 @@
-use Rattle.std.proofs.Common.{◌≤◌, ◌≡◌, ◌∙◌, ℕ, List, Option, None, Ok, get_or, length, ap, subst, inl, sym, arith}
+use Rattle.std.proofs.Common.{◌≤◌, ◌≡◌, ◌∙◌, ℕ, List, Option, None, Ok, get_or, length, ap, subst, sym, arith}
 use Rattle.std.proofs.lemmas.List.{get_or_default}
-use Rattle.std.specs.Prelude.{◌⊎◌, IfOk, IfSome, OnOk, Result}
+use Rattle.std.specs.Prelude.{IfOk, IfSome, OnOk, Result}
 use Rattle.std.specs.Io.KnownBytes.{Appends}
 use Rattle.byte_io.specs.Sinks.{AppendsPrefix}
 use Rattle.pool_ledger.specs.declared.entry.Entry.{Entry as JournalEntry}
-use Rattle.aggregate.specs.Totals.{Entry}
 use Rattle.job_plan.specs.Columns.{Fields}
 use Rattle.job_plan.specs.Plans.{form_in, kept_at, kind_at}
 use Rattle.landing.specs.Landed.{AreChecked, AreLanded, partition_of}
@@ -22,7 +21,7 @@ use Rattle.task_runner.specs.declared.work_fault.WorkFault.{WorkFault}
 use Rattle.csv_program.specs.Endings.{MayEndAs, ending_of_totals, key_of_total, printed_in, totals_of}
 use Rattle.csv_program.specs.Posts.{AllTell, post_files}
 use Rattle.csv_program.specs.QueryResults.{HaveResults, alone_over}
-use Rattle.csv_program.specs.Statuses.{IsCut, IsOutside}
+use Rattle.csv_program.specs.Statuses.{IsCut}
 use Rattle.csv_program.specs.Tasks.{BeginsAll}
 use Rattle.csv_program.specs.declared.outcome.Status.{Status}
 use Rattle.csv_program.proofs.ToldTotals.{holds_parts, told_plan}

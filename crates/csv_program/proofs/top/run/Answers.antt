@@ -1,10 +1,8 @@
 use Rattle.std.proofs.Common.{◌≡◌, ℕ, arith, inr, length, sym, subst, refl}
-use Rattle.byte_io.specs.Sinks.{AppendsPrefix}
 use Rattle.words.specs.Texts.{texts}
-use Rattle.csv_program.specs.Calls.{Call, IsWhyNot, Runs, call_of}
+use Rattle.csv_program.specs.Calls.{IsWhyNot, Runs, call_of}
 use Rattle.csv_program.specs.Endings.{ending_of, printed_in}
 use Rattle.csv_program.specs.Posts.{post_faults}
-use Rattle.csv_program.specs.declared.outcome.Status.{Status}
 use Rattle.csv_program.proofs.Called.{for_no_run, for_none, for_run, no_run_not, none_has, tells_run, tells_why, wanting_before, wanting_calls_nothing, wanting_not_done, wanting_refused, wanting_undamaged, wanting_undamaged_on}
 use Rattle.csv_program.proofs.Completed.{completes_call}
 use Rattle.csv_program.proofs.EndedRuns.{prefix_of_nothing}

@@ -1,16 +1,15 @@
-use Rattle.std.proofs.Common.{◌≡◌, ◌∙◌, ℕ, List, Option, Some, length, map, refl, sym, ap, subst}
-use Rattle.std.specs.Prelude.{◌⊎◌, IfSome, option_map}
+use Rattle.std.proofs.Common.{◌≡◌, ◌∙◌, ℕ, List, Option, length, map, refl, sym, ap, subst}
+use Rattle.std.specs.Prelude.{IfSome, option_map}
 use Rattle.std.specs.Io.KnownBytes.{Appends}
 use Rattle.byte_io.specs.Rows.{rows_of}
 use Rattle.byte_io.specs.Sinks.{AppendsPrefix}
 use Rattle.consumer_trait.specs.States.{State}
 use Rattle.landing.specs.Checks.{Refused, checked}
-use Rattle.landing.specs.Landed.{AreRowsOf, IsOfInput}
+use Rattle.landing.specs.Landed.{AreRowsOf}
 use Rattle.run_file.specs.declared.run.Run.{Run}
 use Rattle.task_runner.specs.Consumers.{HasConsumers, KeepsConsumers}
 use Rattle.task_runner.specs.Pass.{states_at}
-use Rattle.csv_program.specs.Endings.{Ending, MayEndAs, Refuses, ending_of, printed_in, rows_read}
-use Rattle.csv_program.specs.Statuses.{IsUnlanded}
+use Rattle.csv_program.specs.Endings.{Ending, MayEndAs, ending_of, printed_in, rows_read}
 use Rattle.csv_program.specs.Posts.{FeedsRows, place_in, post_files}
 use Rattle.csv_program.proofs.FedRows.{feeds_rows, place_is}
 use Rattle.csv_program.proofs.Judged.{ending_is, if_each, known_is, landed_as, one_query, partitions_are, refusal_called, refusal_ends, refusal_is, refusal_may, rows_are, some_always, tasks_judged, tasks_refuse_nothing}
