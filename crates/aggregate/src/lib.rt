@@ -18,7 +18,7 @@ pub use field_key::{
     keys_in_order, put_field, spellings_are_apart, spellings_are_read_back, take_field,
 };
 pub use key::Key;
-pub use key_front::{compare, front, order};
+pub use key_front::{front, order};
 pub use kind::Kind;
 pub use name::Name;
 pub use number_key::{numbers_in_order, put_number};
