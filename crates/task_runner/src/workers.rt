@@ -31,9 +31,9 @@ use std::sync::Wait;
 use std::thread::Threads;
 
 /// Does the tasks of all partitions of a pass, each worker in a thread of its own. Partition `p` is of worker `p % workers`, on
-/// that worker's post, and its task has its number. Answers, for each query of the pass, the runs of what it makes of the
-/// partitions' rows, in the order of the partitions, each on the disk of its worker; a partition without a row has none. A fault is that of the lowest worker that
-/// failed, and names its post.
+/// that worker's post, and its task has the number `first + p`. Answers, for each query of the pass, the runs of what it makes of
+/// the partitions' rows, in the order of the partitions, each on the disk of its worker; a partition without a row has none. A
+/// fault is that of the lowest worker that failed, and names its post.
 pub fn run_workers<
     K: Disk + Send,
     D: Disk + Send,
