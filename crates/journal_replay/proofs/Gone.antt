@@ -1,21 +1,16 @@
 -- The evictions that wait, beside the first blocks of a list that may go.
-use Rattle.std.proofs.Common.{◌≡◌, ℕ, zero, suc, ◌<◌, ◌≤◌, Bool, true, false, not, cond, ◌&&◌, List, [], ◌∷◌, map, length, take, unwrap_or, Option, Some, None, refl, sym, ap, ◌∙◌, inl, inr, arith}
+use Rattle.std.proofs.Common.{◌≡◌, ℕ, ◌≤◌, Bool, true, false, not, cond, ◌&&◌, List, [], ◌∷◌, map, length, take, Option, refl, sym, ap, ◌∙◌, arith}
 use Rattle.std.specs.Prelude.{nat_eq}
 use Rattle.std.specs.List.{filter}
-use Rattle.std.proofs.lemmas.Bool.{cases_Bool, cond-true, eq-eqb, ne_eqb}
+use Rattle.std.proofs.lemmas.Bool.{eq-eqb, ne_eqb}
 use Rattle.std.proofs.lemmas.List.{length-take-le}
-use Rattle.pool_ledger.specs.declared.entry.Entry.{Entry}
-use Rattle.pool_ledger.specs.Sizes.{Sizes}
-use Rattle.pool_ledger.specs.Answers.{admission, growth}
 use Rattle.pool_ledger.specs.History.{History}
-use Rattle.pool_ledger.specs.Blocks.{Resident, evictable, is_excepted, is_pinned, residents, victims}
+use Rattle.pool_ledger.specs.Blocks.{Resident, evictable, is_excepted, is_pinned, residents}
 use Rattle.pool_ledger.specs.Legal.{Evicted}
 use Rattle.eviction.specs.declared.candidate.Candidate.{Candidate}
 use Rattle.pool_plans.specs.Listed.{listed, seen_in}
-use Rattle.pool_plans.specs.Needs.{lacking_for, may_fit, need_for}
 use Rattle.journal_audit.specs.Rules.{are_evicted}
 use Rattle.journal_replay.specs.Checks.{go_first, is_gone}
-use Rattle.journal_replay.specs.Replays.{gone_of}
 
 -- whether the block may go
 abbrev pub may_go : History → Option ℕ → Resident → Bool
@@ -53,11 +48,11 @@ gone_unlike base except gone count few other =
     unlike gone (take count (evictable base except)) (λ e. other (e ∙ length-take-le count (evictable base except) few))
 
 -- so many are these where they are the first
-pub gone_alike : (base : History) (except : Option ℕ) (list : List Candidate) (gone : List Evicted) (count : ℕ) → (0 < count → list ≡ listed base) → length gone ≡ count
+pub gone_alike : (base : History) (except : Option ℕ) (list : List Candidate) (gone : List Evicted) (count : ℕ) → list ≡ listed base → length gone ≡ count
     → go_first except gone list ≡ are_evicted gone (take count (evictable base except))
 gone_alike base except list [] count is_listed same = ap (λ n. are_evicted [] (take n (evictable base except))) same
 gone_alike base except list (x ∷ gone) count is_listed same =
-    ap (go_first except (x ∷ gone)) (is_listed (omega (arith, same)))
+    ap (go_first except (x ∷ gone)) is_listed
     ∙ first_are base except (x ∷ gone) (residents base)
     ∙ ap (λ n. are_evicted (x ∷ gone) (take n (evictable base except))) same
 
@@ -79,7 +74,7 @@ and_true true = refl
 and_true false = refl
 
 pub goes_alike : (base : History) (except : Option ℕ) (list : List Candidate) (gone : List Evicted) (count told : ℕ) (blocks : List Resident) → take count (evictable base except) ≡ blocks
-    → count ≤ length (evictable base except) → (0 < count → list ≡ listed base) → length gone ≡ count → told ≡ count
+    → count ≤ length (evictable base except) → list ≡ listed base → length gone ≡ count → told ≡ count
     → go_first except gone list ≡ (are_evicted gone blocks && nat_eq told (length blocks))
 goes_alike base except list gone count told blocks are few is_listed same told_is =
     let long : length blocks ≡ count = ap length (sym are) ∙ length-take-le count (evictable base except) few in
@@ -87,34 +82,3 @@ goes_alike base except list gone count told blocks are few is_listed same told_i
     ∙ ap (are_evicted gone) are
     ∙ and_true (are_evicted gone blocks)
     ∙ ap (λ t. are_evicted gone blocks && t) (sym (eq-eqb told (length blocks) (told_is ∙ sym long)))
-
--- Blocks go only where some have to give bytes
-
-needs_some : (n : ℕ) → nat_eq n 0 ≡ false → 0 < n
-needs_some zero is = absurd (cc is)
-needs_some (suc n) is = omega arith
-
-pub needed_for_ask : (s : Sizes) (h : History) (asked count : ℕ) → count ≡ length (growth s h asked).evicted → 0 < count → 0 < (growth s h asked).need
-needed_for_ask s h asked count is some = elim (cases_Bool (nat_eq (growth s h asked).need 0)) [
-  | inl none ↦ absurd (omega (arith, some, is ∙ ap (λ (bs : List Resident). length bs) (cond-true (nat_eq (growth s h asked).need 0) [] (unwrap_or (victims h (growth s h asked).need None) []) none)))
-  | inr needs ↦ needs_some (growth s h asked).need needs
-]
-
-pub needed_for_block : (s : Sizes) (h : History) (dataset size count : ℕ) → count ≡ length (admission s h dataset size).evicted → 0 < count → 0 < need_for s h size
-needed_for_block s h dataset size count is some = elim (cases_Bool (may_fit s h size)) [
-  | inl fits ↦
-      let evicted : (admission s h dataset size).evicted ≡ cond (nat_eq (lacking_for s h size) 0) [] (unwrap_or (victims h (lacking_for s h size) (Some dataset)) []) = rw fits refl in
-      let whole : need_for s h size ≡ lacking_for s h size = cond-true (may_fit s h size) (lacking_for s h size) 0 fits in
-      elim (cases_Bool (nat_eq (lacking_for s h size) 0)) [
-        | inl none ↦ absurd (omega (arith, some, is ∙ ap (λ (bs : List Resident). length bs) (evicted ∙ cond-true (nat_eq (lacking_for s h size) 0) [] (unwrap_or (victims h (lacking_for s h size) (Some dataset)) []) none)))
-        | inr needs ↦ omega (arith, whole, needs_some (lacking_for s h size) needs)
-      ]
-  | inr fails ↦
-      let evicted : (admission s h dataset size).evicted ≡ [] = rw fails refl in
-      absurd (omega (arith, some, is ∙ ap (λ (bs : List Resident). length bs) evicted))
-]
-
--- where the list ends none may be left
-pub go_first_end : (except : Option ℕ) (left : List Entry) → nat_eq (length left) 0 ≡ go_first except (map gone_of left) []
-go_first_end except [] = refl
-go_first_end except (entry ∷ more) = ne_eqb (length (entry ∷ more)) 0 (λ e. omega (arith, e))

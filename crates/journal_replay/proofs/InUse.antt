@@ -194,7 +194,7 @@ added_blocks cache name kept absent cap few =
 
 -- The list, written down from the least recently used on
 
-blocks-append : (xs : List (BlockName × Kept)) (e : BlockName × Kept) → blocks_in (xs ++ e ∷ []) ≡ block_of e ∷ blocks_in xs
+pub blocks-append : (xs : List (BlockName × Kept)) (e : BlockName × Kept) → blocks_in (xs ++ e ∷ []) ≡ block_of e ∷ blocks_in xs
 blocks-append [] e = refl
 blocks-append (x ∷ xs) e = ap (λ (bs : List Resident). bs ++ block_of x ∷ []) (blocks-append xs e)
 

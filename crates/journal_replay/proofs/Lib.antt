@@ -3,5 +3,7 @@ pub mod Noted
 pub mod TurnsKept
 pub mod Gone
 pub mod Lists
+pub mod Walked
+pub mod Chosen
 pub mod OneVerdict
 pub mod Answered

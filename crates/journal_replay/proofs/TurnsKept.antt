@@ -12,8 +12,11 @@ use Rattle.pool_ledger.specs.Legal.{Evicted, evicted_by, is_eviction, pending, s
 use Rattle.pool_ledger.proofs.Prefixes.{whole-after, after-more}
 use Rattle.pool_laws.proofs.Evictions.{open_settled}
 use Rattle.pool_laws.proofs.Settled.{leaves}
+use Rattle.lru.specs.LruCache.{LruCache}
+use Rattle.journal_replay.specs.declared.block_name.BlockName.{BlockName}
+use Rattle.journal_replay.specs.declared.blocks.Kept.{Kept}
 use Rattle.journal_replay.specs.declared.turns.Turns.{Turns}
-use Rattle.journal_replay.specs.Replays.{gone_of, is_turn_of, seen, TellsTurns}
+use Rattle.journal_replay.specs.Replays.{gone_of, is_turn_of, seen, TellsBlocks, TellsTurns}
 
 -- What the ledger tells of all entries
 
@@ -29,8 +32,8 @@ held_base turns h tells t =
 -- An entry more
 
 pub waits_more : (turns new : Turns) (e : Entry) → TellsTurns turns (seen turns) → MayFollow turns.ledger.setup (seen turns) e → is_eviction e.event ≡ true
-    → new.ledger ≡ turns.ledger → new.waiting.items ≡ turns.waiting.items ++ e ∷ [] → new.waits ≡ Some e.worker → TellsTurns new (e ∷ seen turns)
-waits_more turns new e tells may ev ledger items waits = record {
+    → new.ledger ≡ turns.ledger → new.before ≡ turns.before → new.waiting.items ≡ turns.waiting.items ++ e ∷ [] → new.waits ≡ Some e.worker → TellsTurns new (e ∷ seen turns)
+waits_more turns new e tells may ev ledger before items waits = record {
   same =
       ap (λ (ws : List Entry). reverse ws ++ new.ledger.history) items
       ∙ ap (λ (l : Accounts). reverse (turns.waiting.items ++ e ∷ []) ++ l.history) ledger
@@ -38,6 +41,7 @@ waits_more turns new e tells may ev ledger items waits = record {
   permitted = subst (λ (l : Accounts). IsPermitted l.setup (e ∷ seen turns)) (sym ledger) (tells.permitted, may);
   base_permitted = subst (λ (l : Accounts). IsPermitted l.setup l.history) (sym ledger) tells.base_permitted;
   base = cond-true (is_eviction e.event) (settled (seen turns)) (e ∷ seen turns) ev ∙ tells.base ∙ ap (λ (l : Accounts). l.history) (sym ledger);
+  before = subst (λ (l : Accounts). TellsBlocks new.before l.history) (sym ledger) (subst (λ (b : LruCache BlockName Kept). TellsBlocks b turns.ledger.history) (sym before) tells.before);
   gone =
       cond-true (is_eviction e.event) (pending (seen turns) ++ evicted_by e.event ∷ []) [] ev
       ∙ ap (λ (g : List Evicted). g ++ gone_of e ∷ []) tells.gone
@@ -48,14 +52,15 @@ waits_more turns new e tells may ev ledger items waits = record {
 }
 
 pub settled_more : (turns new : Turns) (e : Entry) → TellsTurns turns (seen turns) → MayFollow turns.ledger.setup (seen turns) e → is_eviction e.event ≡ false
-    → new.ledger.history ≡ e ∷ seen turns → new.ledger.setup ≡ turns.ledger.setup → new.waiting.items ≡ [] → new.waits ≡ None → TellsTurns new (e ∷ seen turns)
-settled_more turns new e tells may ev history setup items waits =
+    → new.ledger.history ≡ e ∷ seen turns → TellsBlocks new.before new.ledger.history → new.ledger.setup ≡ turns.ledger.setup → new.waiting.items ≡ [] → new.waits ≡ None → TellsTurns new (e ∷ seen turns)
+settled_more turns new e tells may ev history before setup items waits =
     let permitted : IsPermitted new.ledger.setup (e ∷ seen turns) = subst (λ (s : Sizes). IsPermitted s (e ∷ seen turns)) (sym setup) (tells.permitted, may) in
     record {
       same = ap (λ (ws : List Entry). reverse ws ++ new.ledger.history) items ∙ history;
       permitted = permitted;
       base_permitted = subst (λ (g : History). IsPermitted new.ledger.setup g) (sym history) permitted;
       base = cond-false (is_eviction e.event) (settled (seen turns)) (e ∷ seen turns) ev ∙ sym history;
+      before = before;
       gone = cond-false (is_eviction e.event) (pending (seen turns) ++ evicted_by e.event ∷ []) [] ev ∙ ap (map gone_of) (sym items);
       waits = ev ∙ ap (λ (o : Option ℕ). is_some o) (sym waits);
       turn = λ w. ap (λ t. not t || nat_eq e.worker w) ev ∙ ap (λ (o : Option ℕ). is_turn_of o w) (sym waits);

@@ -1,17 +1,20 @@
 -- The rules of an attempt and of an admission beside what an entry tells, and the victims beside the evictions that wait.
 -- This project's own.
-use Rattle.std.specs.Prelude.{ℕ, ◌==◌, Bool, true, false, not, ◌&&◌, if◌then◌else◌, Option, List, [], ◌∷◌, ⊤}
+use Rattle.std.specs.Prelude.{ℕ, ◌==◌, Bool, true, false, not, ◌&&◌, if◌then◌else◌, Option, List, [], ◌∷◌, length, ⊤}
+use Rattle.std.specs.Option.{option_map}
 use Rattle.pool_ledger.specs.declared.entry.Event.{Event}
 use Rattle.pool_ledger.specs.declared.entry.Event.TheVariants.{Begin, Attempt, Release, End, Admit, Refused}
 use Rattle.pool_ledger.specs.Sizes.{Sizes}
 use Rattle.pool_ledger.specs.History.{History}
 use Rattle.pool_ledger.specs.Answers.{growth, answer, admission}
+use Rattle.pool_ledger.specs.Blocks.{front_reaching}
 use Rattle.pool_ledger.specs.Legal.{Evicted, settled}
 use Rattle.eviction.specs.declared.candidate.Candidate.{Candidate}
-use Rattle.eviction.specs.Victims.{is_evictable}
+use Rattle.eviction.specs.Victims.{evictable, is_evictable, sizes}
 use Rattle.pool_plans.specs.declared.asking.AttemptPlan.{AttemptPlan}
 use Rattle.pool_plans.specs.declared.admitting.AdmissionPlan.{AdmissionPlan}
 use Rattle.journal_audit.specs.declared.rules.Rule.TheVariants.{Victims, Growth, Share, Store}
+use Rattle.journal_replay.specs.declared.fronts.Freed.{Freed}
 use Rattle.journal_audit.specs.Rules.{Check, breaks, goes, is_answer}
 
 -- whether the eviction is of this block
@@ -24,6 +27,14 @@ go_first except [] blocks = true
 go_first except (gone ∷ more) [] = false
 go_first except (gone ∷ more) (block ∷ blocks) =
     if is_evictable except block then (is_gone gone block && go_first except more blocks) else go_first except (gone ∷ more) blocks
+
+-- how many blocks these are, and their bytes
+abbrev pub sum_of : List Candidate → Freed
+sum_of blocks = record { count = length blocks; bytes = sizes blocks }
+
+-- of a list the first blocks that may go and give this need; none where all of them don't reach it
+abbrev pub front_in : Option ℕ → ℕ → List Candidate → Option Freed
+front_in except need blocks = option_map sum_of (front_reaching (λ block. block.size) need (evictable except blocks))
 
 -- the rules of an attempt of an open task, for an ask in range, beside what its entry tells
 abbrev pub attempt_checks : Sizes → History → ℕ → ℕ → AttemptPlan → List Check

@@ -1,6 +1,6 @@
 //! The blocks in memory, in use order.
 
-ghost use Rattle.std.specs.Prelude.{◌≡◌, ◌++◌, ◌∷◌, [], ◌^◌, ◌-◌, false, map, IfOk, OnOk};
+ghost use Rattle.std.specs.Prelude.{◌≡◌, ◌++◌, ◌∷◌, [], ◌^◌, ◌-◌, false, OnOk};
 ghost use Rattle.std.specs.List.{find, list_any};
 ghost use Rattle.std.specs.Option.{option_map};
 ghost use Rattle.pool_ledger.specs.Blocks.{is_block, only, residents_after, without};
@@ -11,7 +11,7 @@ use crate::pins::{Pins, is_pinned};
 use eviction::Candidate;
 use lru::LruCache;
 use pool_ledger::{Event, Level};
-use std::alloc::{AllocError, Global};
+use std::alloc::AllocError;
 
 /// The blocks by their names, the last used first.
 pub(crate) type Blocks = LruCache<BlockName, Kept>;
@@ -101,24 +101,8 @@ fn use_block(blocks: &mut Blocks, dataset: u32, part: u32)
     let _ = blocks.promote(&BlockName { dataset, part });
 }
 
-/// The blocks in use order, as a choice of victims sees them. An `Err` is want of memory.
-pub(crate) fn list_blocks(
-    alloc: Global,
-    blocks: &Blocks,
-    pins: &Pins,
-) -> Result<Vec<Candidate>, AllocError>
-    ensures { IfOk result (λ list.
-        list.items ≡ map (candidate_in pins.now) (blocks_in blocks.now.entries)) }
-{
-    let mut list = Vec::new(alloc);
-    for (name, kept) in blocks.iter().rev() {
-        list.push(candidate_of(*name, *kept, pins))?;
-    }
-    Ok(list)
-}
-
-// A block as a choice of victims sees it.
-fn candidate_of(name: BlockName, kept: Kept, pins: &Pins) -> Candidate
+/// A block as a choice of victims sees it.
+pub(crate) fn candidate_of(name: BlockName, kept: Kept, pins: &Pins) -> Candidate
     ensures { result ≡ candidate_in pins.now (block_of (name, kept)) }
 {
     Candidate {

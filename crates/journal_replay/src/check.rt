@@ -1,6 +1,6 @@
 //! The first rule that an entry breaks.
 
-ghost use Rattle.std.specs.Prelude.{◌≡◌, ◌<◌, ◌&&◌, not, IfOk};
+ghost use Rattle.std.specs.Prelude.{◌≡◌, ◌<◌, ◌&&◌, not};
 ghost use Rattle.pool_ledger.specs.Legal.{is_own_turn};
 ghost use Rattle.journal_audit.specs.Rules.{event_checks, first_broken, first_in, follows_evictions, is_waiting};
 ghost use Rattle.journal_replay.specs.Checks.{IsOfBlock, IsOfStore};
@@ -14,19 +14,17 @@ use crate::task_rules::{check_begin, check_end, check_release};
 use journal_audit::Rule;
 use pool_ledger::{Entry, Event};
 use pool_plans::{AdmissionPlan, AttemptPlan};
-use std::alloc::AllocError;
 
-/// The first rule that the entry breaks after those of the replay. `None` is that it may follow them. An
-/// `Err` is want of memory.
-pub(crate) fn check(replay: &Replay, entry: Entry) -> Result<Option<Rule>, AllocError>
+/// The first rule that the entry breaks after those of the replay. `None` is that it may follow them.
+pub(crate) fn check(replay: &Replay, entry: Entry) -> Option<Rule>
     requires { IsReplay replay.now }
-    ensures { IfOk result (λ rule. rule ≡ first_broken (setup_of replay.now) (history_of replay.now) entry) }
+    ensures { result ≡ first_broken (setup_of replay.now) (history_of replay.now) entry }
 {
     if u64::from(entry.worker) >= replay.turns.ledger.setup().workers() {
-        return Ok(Some(Rule::Worker));
+        return Some(Rule::Worker);
     }
     if comes_amiss(replay, entry.worker, entry.event) {
-        return Ok(Some(Rule::Pending));
+        return Some(Rule::Pending);
     }
     check_event(replay, entry.worker, entry.event)
 }
@@ -57,14 +55,13 @@ fn follows_evictions(event: Event) -> bool
 }
 
 // The first rule that an event of a worker breaks.
-fn check_event(replay: &Replay, worker: u32, event: Event) -> Result<Option<Rule>, AllocError>
+fn check_event(replay: &Replay, worker: u32, event: Event) -> Option<Rule>
     requires tells { IsReplay replay.now }
     requires known { worker < 16 }
-    ensures { IfOk result (λ rule. rule
-        ≡ first_in (event_checks (setup_of replay.now) (history_of replay.now) worker event)) }
+    ensures { result ≡ first_in (event_checks (setup_of replay.now) (history_of replay.now) worker event) }
 {
     match event {
-        Event::Begin { task } => Ok(check_begin(replay, worker, task)),
+        Event::Begin { task } => check_begin(replay, worker, task),
         Event::Attempt {
             task,
             asked,
@@ -82,19 +79,18 @@ fn check_event(replay: &Replay, worker: u32, event: Event) -> Result<Option<Rule
                 got,
             },
         ),
-        Event::Release { task, freed } => Ok(check_release(replay, worker, task, freed)),
-        Event::End { task, freed } => Ok(check_end(replay, worker, task, freed)),
+        Event::Release { task, freed } => check_release(replay, worker, task, freed),
+        Event::End { task, freed } => check_end(replay, worker, task, freed),
         event => check_block_event(replay, worker, event),
     }
 }
 
 // The first rule that an event of a block breaks.
-fn check_block_event(replay: &Replay, worker: u32, event: Event) -> Result<Option<Rule>, AllocError>
+fn check_block_event(replay: &Replay, worker: u32, event: Event) -> Option<Rule>
     requires tells { IsReplay replay.now }
     requires known { worker < 16 }
     requires block { IsOfBlock event }
-    ensures { IfOk result (λ rule. rule
-        ≡ first_in (event_checks (setup_of replay.now) (history_of replay.now) worker event)) }
+    ensures { result ≡ first_in (event_checks (setup_of replay.now) (history_of replay.now) worker event) }
 {
     match event {
         Event::Evict {
@@ -102,28 +98,27 @@ fn check_block_event(replay: &Replay, worker: u32, event: Event) -> Result<Optio
             part,
             size,
             fate,
-        } => Ok(check_evict(replay, worker, dataset, part, size, fate)),
+        } => check_evict(replay, worker, dataset, part, size, fate),
         Event::Pin {
             dataset,
             part,
             copy,
-        } => Ok(check_pin(replay, worker, dataset, part, copy)),
-        Event::Unpin { dataset, part } => Ok(check_unpin(replay, worker, dataset, part)),
+        } => check_pin(replay, worker, dataset, part, copy),
+        Event::Unpin { dataset, part } => check_unpin(replay, worker, dataset, part),
         Event::Remove {
             dataset,
             part,
             size,
-        } => Ok(check_remove(replay, worker, dataset, part, size)),
+        } => check_remove(replay, worker, dataset, part, size),
         event => check_store_event(replay, worker, event),
     }
 }
 
 // The first rule that an admission or a refusal breaks.
-fn check_store_event(replay: &Replay, worker: u32, event: Event) -> Result<Option<Rule>, AllocError>
+fn check_store_event(replay: &Replay, worker: u32, event: Event) -> Option<Rule>
     requires tells { IsReplay replay.now }
     requires store { IsOfStore event }
-    ensures { IfOk result (λ rule. rule
-        ≡ first_in (event_checks (setup_of replay.now) (history_of replay.now) worker event)) }
+    ensures { result ≡ first_in (event_checks (setup_of replay.now) (history_of replay.now) worker event) }
 {
     match event {
         Event::Admit {

@@ -8,6 +8,7 @@ mod block_rules;
 mod blocks;
 mod check;
 mod copies;
+mod fronts;
 mod laws;
 mod pins;
 mod replay;

@@ -1,25 +1,19 @@
 //! A journal replayed: its entries so far, and what the rules ask of them.
 
-ghost use Rattle.std.specs.Prelude.{◌≡◌, ◌∷◌, [], true, false, is_some, IfOk, OnOk};
-ghost use Rattle.pool_ledger.specs.Legal.{is_eviction, MayFollow};
-ghost use Rattle.pool_plans.specs.Listed.{listed};
+ghost use Rattle.std.specs.Prelude.{◌≡◌, ◌∷◌, [], IfOk, OnOk};
+ghost use Rattle.pool_ledger.specs.Legal.{MayFollow};
 ghost use Rattle.journal_replay.specs.Replays.{history_of, setup_of, IsReplay, Tells};
 
-use crate::blocks::list_blocks;
 use crate::tables::{Tables, empty_tables, note};
-use crate::turns::{Turns, add_turn, is_eviction, no_turns};
-use eviction::Candidate;
-use pool_ledger::{Entry, Event, Setup};
+use crate::turns::{Turns, add_turn, no_turns};
+use pool_ledger::{Entry, Setup};
 use std::alloc::{AllocError, Global};
 
-/// The entries so far with the tables over them, and the blocks that there were, in use order, before the
-/// evictions that wait.
+/// The entries so far with the tables over them.
 #[derive(Drop)]
 pub(crate) struct Replay {
-    pub(crate) alloc: Global,
     pub(crate) turns: Turns,
     pub(crate) tables: Tables,
-    pub(crate) before: Vec<Candidate>,
 }
 
 /// A replay of no entries. An `Err` is want of memory.
@@ -28,10 +22,8 @@ pub(crate) fn start(alloc: Global, setup: Setup) -> Result<Replay, AllocError>
     ensures tells { IfOk result (λ replay. Tells replay []) }
 {
     Ok(Replay {
-        alloc,
-        turns: no_turns(alloc, setup),
+        turns: no_turns(alloc, setup)?,
         tables: empty_tables(alloc)?,
-        before: Vec::new(alloc),
     })
 }
 
@@ -44,37 +36,7 @@ pub(crate) fn add(replay: &mut Replay, entry: Entry) -> Result<(), AllocError>
 {
     // For the proof: no more than 16 workers.
     let _workers = replay.turns.ledger.setup().workers();
-    keep_list(replay, entry.event)?;
     note(&mut replay.tables, entry)?;
     add_turn(&mut replay.turns, entry)?;
     Ok(())
-}
-
-// Before the first of some evictions, writes down the blocks that there are.
-fn keep_list(replay: &mut Replay, event: Event) -> Result<(), AllocError>
-    requires { IsReplay replay.old }
-    ensures ok { OnOk result (is_eviction event ≡ true
-        → replay.new.before.items ≡ listed replay.old.turns.ledger.history) }
-    ensures turns { replay.new.turns ≡ replay.old.turns }
-    ensures tables { replay.new.tables ≡ replay.old.tables }
-{
-    if !is_eviction(event) {
-        return Ok(());
-    }
-    if replay.turns.waits.is_some() {
-        return Ok(());
-    }
-    let list = list_now(replay)?;
-    replay.before = list;
-    Ok(())
-}
-
-/// The blocks that there are, in use order, where no evictions wait. An `Err` is want of memory.
-pub(crate) fn list_now(replay: &Replay) -> Result<Vec<Candidate>, AllocError>
-    requires tells { IsReplay replay.now }
-    requires none { is_some replay.now.turns.waits ≡ false }
-    ensures { IfOk result (λ list. list.items ≡ listed replay.now.turns.ledger.history) }
-{
-    let list = list_blocks(replay.alloc, &replay.tables.blocks, &replay.tables.pins)?;
-    Ok(list)
 }

@@ -3,31 +3,38 @@
 ghost use Rattle.std.specs.Prelude.{◌≡◌, ◌∷◌, ◌++◌, [], true, false, IfOk, OnOk, reverse};
 ghost use Rattle.pool_ledger.specs.History.{held, open_task};
 ghost use Rattle.pool_ledger.specs.Legal.{is_eviction, IsPermitted, MayFollow};
-ghost use Rattle.journal_replay.specs.Replays.{seen, TellsTurns};
+ghost use Rattle.pool_ledger.specs.Sizes.{IsInRange};
+ghost use Rattle.pool_laws.specs.Laws.{KeepsLaws};
+ghost use Rattle.journal_replay.specs.Replays.{seen, TellsBlocks, TellsTurns};
 
+use crate::blocks::{Blocks, note_use};
+use lru::LruCache;
 use pool_laws::permitted_histories_keep_laws;
 use pool_ledger::{Entry, Event, Ledger, Setup};
 use std::alloc::{AllocError, Global};
 
-/// The ledger of the settled entries, the evictions after them, the oldest first, and whose they are.
+/// The ledger of the settled entries, the blocks in memory after them, the evictions that wait, the oldest
+/// first, and whose they are.
 #[derive(Drop)]
 pub(crate) struct Turns {
     pub(crate) ledger: Ledger,
+    pub(crate) before: Blocks,
     pub(crate) waiting: Vec<Entry>,
     pub(crate) waits: Option<u32>,
 }
 
-/// No entries yet.
-pub(crate) fn no_turns(alloc: Global, setup: Setup) -> Turns
-    ensures setup { result.ledger.setup ≡ setup }
-    ensures none { seen result ≡ [] }
-    ensures tells { TellsTurns result [] }
+/// No entries yet. An `Err` is want of memory.
+pub(crate) fn no_turns(alloc: Global, setup: Setup) -> Result<Turns, AllocError>
+    ensures setup { IfOk result (λ turns. turns.ledger.setup ≡ setup) }
+    ensures none { IfOk result (λ turns. seen turns ≡ []) }
+    ensures tells { IfOk result (λ turns. TellsTurns turns []) }
 {
-    Turns {
+    Ok(Turns {
         ledger: Ledger::new(alloc, setup),
+        before: LruCache::unbounded(alloc)?,
         waiting: Vec::new(alloc),
         waits: None,
-    }
+    })
 }
 
 /// The worker's open task.
@@ -46,14 +53,14 @@ pub(crate) fn held(turns: &Turns, task: u32) -> u64
     turns.ledger.held(task)
 }
 
-/// Whether an event is an eviction.
-pub(crate) fn is_eviction(event: Event) -> bool
-    ensures { result ≡ is_eviction event }
+/// The laws of a ledger's history, and the range of its sizes. It does nothing when run.
+pub(crate) fn ledger_keeps_laws(ledger: &Ledger)
+    requires { IsPermitted ledger.now.setup ledger.now.history }
+    ensures laws { KeepsLaws ledger.now.setup ledger.now.history }
+    ensures range { IsInRange ledger.now.setup.maximum ledger.now.setup.region ledger.now.setup.workers }
 {
-    match event {
-        Event::Evict { .. } => true,
-        _ => false,
-    }
+    permitted_histories_keep_laws();
+    let _range = ledger.setup().max();
 }
 
 /// Adds an entry that may follow. After an `Err`, which is want of memory, the turns are only dropped.
@@ -62,35 +69,53 @@ pub(crate) fn add_turn(turns: &mut Turns, entry: Entry) -> Result<(), AllocError
     requires next { MayFollow turns.old.ledger.setup (seen turns.old) entry }
     ensures ok { OnOk result (TellsTurns turns.new (entry ∷ seen turns.old)) }
     ensures setup { OnOk result (turns.new.ledger.setup ≡ turns.old.ledger.setup) }
-    ensures waits { OnOk result (is_eviction entry.event ≡ true → turns.new.ledger ≡ turns.old.ledger) }
 {
     if is_eviction(entry.event) {
         turns.waiting.push(entry)?;
         turns.waits = Some(entry.worker);
         return Ok(());
     }
-    settle(&mut turns.ledger, &turns.waiting, entry)?;
+    settle(&mut turns.ledger, &mut turns.before, &turns.waiting, entry)?;
     turns.waiting.clear();
     turns.waits = None;
     Ok(())
 }
 
-// Adds the evictions and what they are for to the ledger.
-fn settle(ledger: &mut Ledger, waiting: &[Entry], entry: Entry) -> Result<(), AllocError>
+// Whether an event is an eviction.
+fn is_eviction(event: Event) -> bool
+    ensures { result ≡ is_eviction event }
+{
+    match event {
+        Event::Evict { .. } => true,
+        _ => false,
+    }
+}
+
+// Adds the evictions and what they are for to the ledger, and notes what they do to the blocks.
+fn settle(
+    ledger: &mut Ledger,
+    before: &mut Blocks,
+    waiting: &[Entry],
+    entry: Entry,
+) -> Result<(), AllocError>
     requires permitted { IsPermitted ledger.old.setup (entry ∷ (reverse waiting.now ++ ledger.old.history)) }
+    requires blocks { TellsBlocks before.old ledger.old.history }
     ensures ok { OnOk result (ledger.new.history ≡ entry ∷ (reverse waiting.now ++ ledger.old.history)) }
+    ensures blocks { OnOk result (TellsBlocks before.new ledger.new.history) }
     ensures setup { ledger.new.setup ≡ ledger.old.setup }
 {
     for eviction in waiting {
-        push_one(ledger, *eviction)?;
+        settle_one(ledger, before, *eviction)?;
     }
-    push_one(ledger, entry)
+    settle_one(ledger, before, entry)
 }
 
-// Adds one entry that may follow to the ledger.
-fn push_one(ledger: &mut Ledger, entry: Entry) -> Result<(), AllocError>
+// Adds one entry that may follow to the ledger, and notes what it does to the blocks.
+fn settle_one(ledger: &mut Ledger, before: &mut Blocks, entry: Entry) -> Result<(), AllocError>
     requires permitted { IsPermitted ledger.old.setup (entry ∷ ledger.old.history) }
+    requires blocks { TellsBlocks before.old ledger.old.history }
     ensures ok { OnOk result (ledger.new.history ≡ entry ∷ ledger.old.history) }
+    ensures blocks { OnOk result (TellsBlocks before.new ledger.new.history) }
     ensures setup { ledger.new.setup ≡ ledger.old.setup }
 {
     // For the proof: what may follow can be recorded, where the region is at most the whole.
@@ -98,5 +123,5 @@ fn push_one(ledger: &mut Ledger, entry: Entry) -> Result<(), AllocError>
     let _range = ledger.setup().max();
     ledger.reserve(1)?;
     ledger.push(entry);
-    Ok(())
+    note_use(before, entry.event)
 }
