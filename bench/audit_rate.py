@@ -2,8 +2,9 @@
 """Times the audit of a journal of a million entries, with few blocks in memory and with 1,000.
 
 Run it at the top of the repository, after `rt run` in crates/audit_rate has built the program. The journals are made by
-tools/audit_model.py: a task that asks and gives back, and with blocks a pin and its unpin between two asks. The third one
-evicts a block for each of its asks.
+tools/audit_model.py: a task that asks and gives back, and with blocks a pin and its unpin between two asks; blocks of which
+each admission evicts one; blocks of which each ask evicts one; and blocks whose dataset is refused more of them. Each round
+audits all of them, one right after another, so that other work on the machine meets them alike.
 """
 import os
 import subprocess
@@ -12,38 +13,44 @@ import tempfile
 import time
 
 sys.path.insert(0, "tools")
-from audit_model import many, turning
+from audit_model import asking, many, refusing, turning
 
 PROGRAM = os.path.abspath("crates/audit_rate/out/audit_rate")
 ENTRIES = int(sys.argv[1]) if len(sys.argv) > 1 else 1_000_000
-REPS = 3
+ROUNDS = 3
+JOURNALS = [
+    ("no block", many, 0),
+    ("10 blocks", many, 10),
+    ("1,000 blocks", many, 1000),
+    ("10 blocks, an admission evicts", turning, 10),
+    ("1,000 blocks, an admission evicts", turning, 1000),
+    ("10 blocks, an ask evicts", asking, 10),
+    ("1,000 blocks, an ask evicts", asking, 1000),
+    ("10 blocks, and refusals", refusing, 10),
+    ("1,000 blocks, and refusals", refusing, 1000),
+]
 
 
-def audited(text):
-    """The least seconds of some audits of a text, and their answer."""
-    with tempfile.NamedTemporaryFile("w", suffix=".csv") as file:
-        file.write(text)
-        file.flush()
-        times = []
-        for _ in range(REPS):
-            with open(file.name, encoding="utf-8") as given:
-                start = time.perf_counter()
-                done = subprocess.run([PROGRAM], stdin=given, stdout=subprocess.PIPE, check=False)
-                times.append(time.perf_counter() - start)
-        return min(times), done.stdout.decode().strip()
+def audited(path):
+    """The seconds of an audit of a file, and its answer."""
+    with open(path, encoding="utf-8") as given:
+        start = time.perf_counter()
+        done = subprocess.run([PROGRAM], stdin=given, stdout=subprocess.PIPE, check=False)
+        return time.perf_counter() - start, done.stdout.decode().strip()
 
 
 def main():
-    for name, text in [
-        ("no block", many(ENTRIES, 0)),
-        ("10 blocks", many(ENTRIES, 10)),
-        ("1,000 blocks", many(ENTRIES, 1000)),
-        ("10 blocks, which go in turn", turning(ENTRIES // 10, 10)),
-        ("1,000 blocks, which go in turn", turning(ENTRIES // 10, 1000)),
-    ]:
-        entries = text.count("\n") - 1
-        took, answer = audited(text)
-        print(f"{name:31} {entries:8} entries  {took:6.2f} s  {entries / took / 1e6:5.2f} million/s  {answer}")
+    with tempfile.TemporaryDirectory() as folder:
+        paths = [os.path.join(folder, f"{number}.csv") for number in range(len(JOURNALS))]
+        for path, (_, made, blocks) in zip(paths, JOURNALS):
+            with open(path, "w", encoding="utf-8") as file:
+                file.write(made(ENTRIES, blocks))
+        rounds = [[audited(path) for path in paths] for _ in range(ROUNDS)]
+    for number, (name, _, _) in enumerate(JOURNALS):
+        took, answer = min(each[number] for each in rounds)
+        entries = int(answer.split()[1])
+        print(f"{name:33} {entries:8} entries  {took:6.2f} s  {entries / took / 1e6:5.2f} million/s  {answer}")
+    print(f"load {os.getloadavg()[0]:.1f}")
 
 
 if __name__ == "__main__":

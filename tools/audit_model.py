@@ -313,6 +313,31 @@ def turning(count, blocks):
     return '\n'.join(out) + '\n'
 
 
+def asking(count, blocks):
+    """A legal journal of blocks that fill the pool: each ask evicts the least recently used one, and gives back to the next."""
+    size = 1000
+    out = [f'memory journal 1,{blocks * size},{(blocks - 1) * size},1']
+    out += [f'admit,0,{1 + part},0,{size},memory,{0 if part < blocks - 1 else size},0' for part in range(blocks)]
+    out.append('begin,0,0')
+    oldest = 1
+    while len(out) + 3 <= count:
+        out += [f'evict,0,{oldest},0,{size},gone', f'attempt,0,0,{size},{size},1,{size}', f'release,0,0,{size}',
+                f'admit,0,{oldest + blocks},0,{size},memory,{size},0']
+        oldest += 1
+    return '\n'.join(out) + '\n'
+
+
+def refusing(count, blocks):
+    """A legal journal of blocks of one dataset that fill the pool: no further block of it is admitted."""
+    size = 1000
+    region = blocks * size
+    out = [f'memory journal 1,{region},{region},1']
+    out += [f'admit,0,1,{part},{size},memory,0,0' for part in range(blocks)]
+    while len(out) <= count:
+        out.append(f'refused,0,1,{len(out)},{size},0,0')
+    return '\n'.join(out) + '\n'
+
+
 def main(words):
     if words[0] == 'answer':
         print(verdict(sys.stdin.read()))

@@ -5,5 +5,6 @@ pub mod Gone
 pub mod Lists
 pub mod Walked
 pub mod Chosen
+pub mod Bytes
 pub mod OneVerdict
 pub mod Answered

@@ -12,11 +12,9 @@ use Rattle.pool_ledger.specs.Legal.{Evicted, evicted_by, is_eviction, pending, s
 use Rattle.pool_ledger.proofs.Prefixes.{whole-after, after-more}
 use Rattle.pool_laws.proofs.Evictions.{open_settled}
 use Rattle.pool_laws.proofs.Settled.{leaves}
-use Rattle.lru.specs.LruCache.{LruCache}
-use Rattle.journal_replay.specs.declared.block_name.BlockName.{BlockName}
-use Rattle.journal_replay.specs.declared.blocks.Kept.{Kept}
+use Rattle.journal_replay.specs.declared.before.Before.{Before}
 use Rattle.journal_replay.specs.declared.turns.Turns.{Turns}
-use Rattle.journal_replay.specs.Replays.{gone_of, is_turn_of, seen, TellsBlocks, TellsTurns}
+use Rattle.journal_replay.specs.Replays.{gone_of, is_turn_of, seen, TellsBefore, TellsTurns}
 
 -- What the ledger tells of all entries
 
@@ -41,7 +39,7 @@ waits_more turns new e tells may ev ledger before items waits = record {
   permitted = subst (λ (l : Accounts). IsPermitted l.setup (e ∷ seen turns)) (sym ledger) (tells.permitted, may);
   base_permitted = subst (λ (l : Accounts). IsPermitted l.setup l.history) (sym ledger) tells.base_permitted;
   base = cond-true (is_eviction e.event) (settled (seen turns)) (e ∷ seen turns) ev ∙ tells.base ∙ ap (λ (l : Accounts). l.history) (sym ledger);
-  before = subst (λ (l : Accounts). TellsBlocks new.before l.history) (sym ledger) (subst (λ (b : LruCache BlockName Kept). TellsBlocks b turns.ledger.history) (sym before) tells.before);
+  before = subst (λ (l : Accounts). TellsBefore new.before l.history) (sym ledger) (subst (λ (b : Before). TellsBefore b turns.ledger.history) (sym before) tells.before);
   gone =
       cond-true (is_eviction e.event) (pending (seen turns) ++ evicted_by e.event ∷ []) [] ev
       ∙ ap (λ (g : List Evicted). g ++ gone_of e ∷ []) tells.gone
@@ -52,7 +50,7 @@ waits_more turns new e tells may ev ledger before items waits = record {
 }
 
 pub settled_more : (turns new : Turns) (e : Entry) → TellsTurns turns (seen turns) → MayFollow turns.ledger.setup (seen turns) e → is_eviction e.event ≡ false
-    → new.ledger.history ≡ e ∷ seen turns → TellsBlocks new.before new.ledger.history → new.ledger.setup ≡ turns.ledger.setup → new.waiting.items ≡ [] → new.waits ≡ None → TellsTurns new (e ∷ seen turns)
+    → new.ledger.history ≡ e ∷ seen turns → TellsBefore new.before new.ledger.history → new.ledger.setup ≡ turns.ledger.setup → new.waiting.items ≡ [] → new.waits ≡ None → TellsTurns new (e ∷ seen turns)
 settled_more turns new e tells may ev history before setup items waits =
     let permitted : IsPermitted new.ledger.setup (e ∷ seen turns) = subst (λ (s : Sizes). IsPermitted s (e ∷ seen turns)) (sym setup) (tells.permitted, may) in
     record {

@@ -8,12 +8,13 @@ use Rattle.pool_ledger.specs.History.{History}
 use Rattle.pool_ledger.specs.Blocks.{residents}
 use Rattle.pool_ledger.specs.Legal.{Evicted, evicted_by, is_own_turn, pending, settled, IsPermitted}
 use Rattle.journal_audit.specs.Rules.{is_waiting}
+use Rattle.journal_replay.specs.declared.before.Before.{Before}
 use Rattle.journal_replay.specs.declared.block_name.BlockName.{BlockName}
 use Rattle.journal_replay.specs.declared.blocks.Kept.{Kept}
 use Rattle.journal_replay.specs.declared.tables.Tables.{Tables}
 use Rattle.journal_replay.specs.declared.turns.Turns.{Turns}
 use Rattle.journal_replay.specs.declared.replay.Replay.{Replay}
-use Rattle.journal_replay.specs.Tables.{blocks_in, TellsBegun, TellsCopies, TellsPins}
+use Rattle.journal_replay.specs.Tables.{blocks_in, TellsBegun, TellsBytes, TellsCopies, TellsPins}
 
 -- the entries so far, the newest first
 abbrev pub seen : Turns → History
@@ -33,13 +34,18 @@ pub record TellsBlocks (blocks : LruCache BlockName Kept) (history : History) : 
   pub in_order : blocks_in blocks.entries ≡ residents history
   pub unbounded : blocks.cap ≡ 2 ^ 64 - 1
 
+-- the blocks and their bytes are those after this history
+pub record TellsBefore (before : Before) (history : History) : Type 0 where
+  pub blocks : TellsBlocks before.blocks history
+  pub bytes : TellsBytes before.bytes history
+
 -- the entries are this history's: those of the ledger are settled, and the others are the evictions that wait
 pub record TellsTurns (turns : Turns) (history : History) : Type 0 where
   pub same : seen turns ≡ history
   pub permitted : IsPermitted turns.ledger.setup history
   pub base_permitted : IsPermitted turns.ledger.setup turns.ledger.history
   pub base : settled history ≡ turns.ledger.history
-  pub before : TellsBlocks turns.before turns.ledger.history
+  pub before : TellsBefore turns.before turns.ledger.history
   pub gone : pending history ≡ map gone_of turns.waiting.items
   pub waits : is_waiting history ≡ is_some turns.waits
   pub turn : (worker : ℕ) → is_own_turn history worker ≡ is_turn_of turns.waits worker

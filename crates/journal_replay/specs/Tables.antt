@@ -1,14 +1,15 @@
 -- What a replay keeps of a history, and what the tables tell of it.
 -- After Spark: MemoryStore, whose entries stand in access order. The tables are this project's own.
-use Rattle.std.specs.Prelude.{ℕ, ◌≡◌, ◌==◌, ◌<◌, ◌+◌, nat_eq, Bool, false, not, ◌&&◌, List, [], ◌∷◌, ◌++◌, Option, Some, None, map, slice_get, slice_set, count_by, ⊤}
+use Rattle.std.specs.Prelude.{ℕ, ◌≡◌, ◌==◌, ◌<◌, ◌≤◌, ◌+◌, ◌-◌, ◌^◌, nat_eq, if◌then◌else◌, sum_by, unwrap_or, Bool, false, not, ◌&&◌, List, [], ◌∷◌, ◌++◌, Option, Some, None, map, slice_get, slice_set, count_by, ⊤}
+use Rattle.std.specs.HashMap.{HashMap, get as map_get}
 use Rattle.std.specs.HashSet as bag
 use Rattle.std.specs.HashSet.{HashSet}
 use Rattle.std.specs.List.{list_any}
 use Rattle.std.specs.Option.{option_map}
 use Rattle.pool_ledger.specs.declared.entry.Event.{Event}
-use Rattle.pool_ledger.specs.declared.entry.Event.TheVariants.{Admit, Pin, Unpin}
+use Rattle.pool_ledger.specs.declared.entry.Event.TheVariants.{Admit, Evict, Pin, Remove, Unpin}
 use Rattle.pool_ledger.specs.History.{History, total, was_begun}
-use Rattle.pool_ledger.specs.Blocks.{Name, Resident, is_block, leaves_copy, pin_of, unpin_of, worker_pin}
+use Rattle.pool_ledger.specs.Blocks.{Name, Resident, is_block, leaves_copy, pin_of, residents, unpin_of, worker_pin}
 use Rattle.eviction.specs.declared.candidate.Candidate.{Candidate}
 use Rattle.journal_replay.specs.declared.block_name.BlockName.{BlockName}
 use Rattle.journal_replay.specs.declared.blocks.Kept.{Kept}
@@ -37,6 +38,32 @@ has_copy copies dataset part = bag.contains same_name copies (named dataset part
 abbrev pub TellsCopies : {S : Type 0} → HashSet BlockName S → History → Type 0
 TellsCopies copies history =
     (dataset part : ℕ) → has_copy copies dataset part ≡ not (total (leaves_copy dataset part) history == 0)
+
+-- Bytes by dataset
+
+-- the bytes of a dataset's blocks
+abbrev pub bytes_of : ℕ → List Resident → ℕ
+bytes_of dataset blocks = sum_by (λ block. if block.dataset == dataset then block.size else 0) blocks
+
+-- the bytes that are kept of a dataset; one that isn't there has none
+abbrev pub bytes_at : {S : Type 0} → HashMap ℕ ℕ S → ℕ → ℕ
+bytes_at bytes dataset = unwrap_or (map_get nat_eq bytes dataset) 0
+
+-- the bytes of a dataset after an event, where they were so many
+abbrev pub bytes_after : Event → ℕ → ℕ → ℕ
+bytes_after (Admit d part size level borrowed evictions) dataset bytes = if d == dataset then bytes + size else bytes
+bytes_after (Evict d part size fate) dataset bytes = if d == dataset then bytes - size else bytes
+bytes_after (Remove d part size) dataset bytes = if d == dataset then bytes - size else bytes
+bytes_after _ dataset bytes = bytes
+
+-- an admission makes no more bytes than a number has
+abbrev pub IsSmall : {S : Type 0} → Event → HashMap ℕ ℕ S → Type 0
+IsSmall (Admit dataset part size level borrowed evictions) bytes = bytes_at bytes dataset + size ≤ 2 ^ 50
+IsSmall _ bytes = ⊤
+
+-- the bytes are those of the datasets' blocks after this history
+abbrev pub TellsBytes : {S : Type 0} → HashMap ℕ ℕ S → History → Type 0
+TellsBytes bytes history = (dataset : ℕ) → bytes_at bytes dataset ≡ bytes_of dataset (residents history)
 
 -- Pins
 

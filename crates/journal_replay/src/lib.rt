@@ -3,6 +3,7 @@
 
 mod ask_rules;
 mod auditing;
+mod before;
 mod block_name;
 mod block_rules;
 mod blocks;

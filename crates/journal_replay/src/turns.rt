@@ -5,10 +5,10 @@ ghost use Rattle.pool_ledger.specs.History.{held, open_task};
 ghost use Rattle.pool_ledger.specs.Legal.{is_eviction, IsPermitted, MayFollow};
 ghost use Rattle.pool_ledger.specs.Sizes.{IsInRange};
 ghost use Rattle.pool_laws.specs.Laws.{KeepsLaws};
-ghost use Rattle.journal_replay.specs.Replays.{seen, TellsBlocks, TellsTurns};
+ghost use Rattle.journal_replay.specs.Replays.{seen, TellsBefore, TellsTurns};
 
-use crate::blocks::{Blocks, note_use};
-use lru::LruCache;
+use crate::before::{Before, none_before, note_bytes};
+use crate::blocks::note_use;
 use pool_laws::permitted_histories_keep_laws;
 use pool_ledger::{Entry, Event, Ledger, Setup};
 use std::alloc::{AllocError, Global};
@@ -18,7 +18,7 @@ use std::alloc::{AllocError, Global};
 #[derive(Drop)]
 pub(crate) struct Turns {
     pub(crate) ledger: Ledger,
-    pub(crate) before: Blocks,
+    pub(crate) before: Before,
     pub(crate) waiting: Vec<Entry>,
     pub(crate) waits: Option<u32>,
 }
@@ -31,7 +31,7 @@ pub(crate) fn no_turns(alloc: Global, setup: Setup) -> Result<Turns, AllocError>
 {
     Ok(Turns {
         ledger: Ledger::new(alloc, setup),
-        before: LruCache::unbounded(alloc)?,
+        before: none_before(alloc)?,
         waiting: Vec::new(alloc),
         waits: None,
     })
@@ -94,14 +94,14 @@ fn is_eviction(event: Event) -> bool
 // Adds the evictions and what they are for to the ledger, and notes what they do to the blocks.
 fn settle(
     ledger: &mut Ledger,
-    before: &mut Blocks,
+    before: &mut Before,
     waiting: &[Entry],
     entry: Entry,
 ) -> Result<(), AllocError>
     requires permitted { IsPermitted ledger.old.setup (entry ∷ (reverse waiting.now ++ ledger.old.history)) }
-    requires blocks { TellsBlocks before.old ledger.old.history }
+    requires blocks { TellsBefore before.old ledger.old.history }
     ensures ok { OnOk result (ledger.new.history ≡ entry ∷ (reverse waiting.now ++ ledger.old.history)) }
-    ensures blocks { OnOk result (TellsBlocks before.new ledger.new.history) }
+    ensures blocks { OnOk result (TellsBefore before.new ledger.new.history) }
     ensures setup { ledger.new.setup ≡ ledger.old.setup }
 {
     for eviction in waiting {
@@ -111,11 +111,11 @@ fn settle(
 }
 
 // Adds one entry that may follow to the ledger, and notes what it does to the blocks.
-fn settle_one(ledger: &mut Ledger, before: &mut Blocks, entry: Entry) -> Result<(), AllocError>
+fn settle_one(ledger: &mut Ledger, before: &mut Before, entry: Entry) -> Result<(), AllocError>
     requires permitted { IsPermitted ledger.old.setup (entry ∷ ledger.old.history) }
-    requires blocks { TellsBlocks before.old ledger.old.history }
+    requires blocks { TellsBefore before.old ledger.old.history }
     ensures ok { OnOk result (ledger.new.history ≡ entry ∷ ledger.old.history) }
-    ensures blocks { OnOk result (TellsBlocks before.new ledger.new.history) }
+    ensures blocks { OnOk result (TellsBefore before.new ledger.new.history) }
     ensures setup { ledger.new.setup ≡ ledger.old.setup }
 {
     // For the proof: what may follow can be recorded, where the region is at most the whole.
@@ -123,5 +123,7 @@ fn settle_one(ledger: &mut Ledger, before: &mut Blocks, entry: Entry) -> Result<
     let _range = ledger.setup().max();
     ledger.reserve(1)?;
     ledger.push(entry);
-    note_use(before, entry.event)
+    note_use(&mut before.blocks, entry.event)?;
+    note_bytes(&mut before.bytes, entry.event)?;
+    Ok(())
 }

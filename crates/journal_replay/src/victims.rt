@@ -3,11 +3,12 @@
 ghost use Rattle.std.specs.Prelude.{◌≡◌, ◌≤◌, List, [], length, take, unwrap_or};
 ghost use Rattle.pool_ledger.specs.Blocks.{Resident, evictable, sizes, stored, victims};
 ghost use Rattle.journal_audit.specs.Rules.{goes};
-ghost use Rattle.journal_replay.specs.Replays.{history_of, IsReplay};
+ghost use Rattle.journal_replay.specs.Replays.{history_of, seen, IsReplay, TellsTurns};
 
+use crate::before::bytes_at;
 use crate::fronts::{Freed, front_of, go_first};
 use crate::replay::Replay;
-use crate::turns::ledger_keeps_laws;
+use crate::turns::{Turns, ledger_keeps_laws};
 
 /// The blocks that go so that this need is met, of those before the evictions that wait; none where all that
 /// may go don't reach it.
@@ -22,9 +23,32 @@ pub(crate) fn freed_by(replay: &Replay, need: u64, except: Option<u32>) -> Freed
     ensures stored { result.bytes ≤ stored replay.now.turns.ledger.history }
 {
     ledger_keeps_laws(&replay.turns.ledger);
-    match front_of(&replay.turns.before, &replay.tables.pins, need, except) {
+    // Where all blocks of other datasets don't reach the need, none of them is looked at.
+    if bytes_beside(&replay.turns, except) < need {
+        return Freed { count: 0, bytes: 0 };
+    }
+    match front_of(
+        &replay.turns.before.blocks,
+        &replay.tables.pins,
+        need,
+        except,
+    ) {
         Some(freed) => freed,
         None => Freed { count: 0, bytes: 0 },
+    }
+}
+
+// The bytes of the blocks before the evictions that wait, but for those of this dataset.
+fn bytes_beside(turns: &Turns, except: Option<u32>) -> u64
+    requires { TellsTurns turns.now (seen turns.now) }
+    ensures { sizes (evictable turns.now.ledger.history except) ≤ result }
+{
+    match except {
+        Some(dataset) => turns
+            .ledger
+            .stored()
+            .saturating_sub(bytes_at(&turns.before.bytes, dataset)),
+        None => turns.ledger.stored(),
     }
 }
 
@@ -43,5 +67,10 @@ pub(crate) fn have_gone(replay: &Replay, except: Option<u32>, count: u64, told: 
     if told != count {
         return false;
     }
-    go_first(waiting, &replay.turns.before, &replay.tables.pins, except)
+    go_first(
+        waiting,
+        &replay.turns.before.blocks,
+        &replay.tables.pins,
+        except,
+    )
 }

@@ -1,5 +1,6 @@
-use Rattle.std.proofs.Common.{List, ap, arith, length, sym, ◌∙◌}
-use Rattle.pool_ledger.specs.Blocks.{Resident, sizes}
+use Rattle.std.proofs.Common.{◌≡◌, List, [], Option, ap, arith, length, sym, unwrap_or, ◌∙◌}
+use Rattle.pool_ledger.specs.Blocks.{Resident, evictable, sizes, victims}
+use Rattle.pool_ledger.proofs.Fronts.{front_none}
 use Rattle.journal_replay.specs.Tables.{candidates_in}
 use Rattle.journal_replay.proofs.Chosen.{all_stored, chosen_are, found_are, none_are}
 use Rattle.journal_replay.proofs.Lists.{listed_before}
@@ -10,15 +11,29 @@ front_of-requires-clause-small c =
     let laws = c.ledger_keeps_laws.ensures in
     omega (
       arith,
-      all_stored c.args.replay.now.turns.ledger.history (candidates_in c.args.replay.now.tables.pins c.args.replay.now.turns.before.entries) (listed_before c.args.replay.now c.requires.tells),
+      all_stored c.args.replay.now.turns.ledger.history (candidates_in c.args.replay.now.tables.pins c.args.replay.now.turns.before.blocks.entries) (listed_before c.args.replay.now c.requires.tells),
       laws.laws.never_passes,
       laws.range.maximum_small,
     )
 
+pub returns-then-bytes_beside-need : goal.returns-then-bytes_beside-need
+returns-then-bytes_beside-need c =
+    let base = c.args.replay.now.turns.ledger.history in
+    let none : unwrap_or (victims base c.args.need c.args.except) [] ≡ [] =
+    ap (λ (o : Option (List Resident)). unwrap_or o [])
+    (front_none (λ (block : Resident). block.size) c.args.need (evictable base c.args.except) (omega (arith, c.bytes_beside.ensures, c.if-bytes_beside-need.true))) in
+    record {
+      count = ap (λ (bs : List Resident). length bs) (sym none);
+      bytes = ap sizes (sym none);
+      first = sym none;
+      few = omega arith;
+      stored = omega arith;
+    }
+
 pub returns-in-Some : goal.returns-in-Some
 returns-in-Some c =
     let base = c.args.replay.now.turns.ledger.history in
-    let list = candidates_in c.args.replay.now.tables.pins c.args.replay.now.turns.before.entries in
+    let list = candidates_in c.args.replay.now.tables.pins c.args.replay.now.turns.before.blocks.entries in
     let is = listed_before c.args.replay.now c.requires.tells in
     let sum = found_are base list is c.args.except c.args.need c.requires.some_need c.in-Some.freed (sym c.in-Some.is ∙ c.front_of.ensures) in
     let are = chosen_are base list is c.args.except c.args.need c.requires.some_need in
@@ -33,7 +48,7 @@ returns-in-Some c =
 pub returns-in-None : goal.returns-in-None
 returns-in-None c =
     let base = c.args.replay.now.turns.ledger.history in
-    let list = candidates_in c.args.replay.now.tables.pins c.args.replay.now.turns.before.entries in
+    let list = candidates_in c.args.replay.now.tables.pins c.args.replay.now.turns.before.blocks.entries in
     let is = listed_before c.args.replay.now c.requires.tells in
     let none = none_are base list is c.args.except c.args.need c.requires.some_need (sym c.in-None.is ∙ c.front_of.ensures) in
     record {
