@@ -1,11 +1,11 @@
 -- What a worker's own entries tell, where they are those of its tasks.
-use Rattle.std.proofs.Common.{◌≡◌, ◌≢◌, ◌∙◌, ℕ, zero, suc, ◌+◌, ◌*◌, ◌<◌, ◌≤◌, ◌++◌, ◌%◌, Bool, List, [], ◌∷◌, Option, Some, None, length, refl, sym, ap, subst, inl, inr, arith, append-nil}
+use Rattle.std.proofs.Common.{◌≡◌, ◌≢◌, ◌∙◌, ℕ, zero, suc, ◌+◌, ◌-◌, ◌*◌, ◌<◌, ◌≤◌, ◌++◌, ◌%◌, ◌/◌, Bool, false, cond, List, [], ◌∷◌, Option, Some, length, refl, sym, ap, subst, inl, inr, arith, append-nil, append_assoc}
 use Rattle.std.specs.Prelude.{◌==◌, AllPairs, slice_index_or, if◌then◌else◌}
-use Rattle.std.specs.List.{AllByRecursion}
-use Rattle.std.proofs.Math.Nat.{add-zero, mul-lt-mul_of_pos_right, add-mul-mod_self_right, mod-eq_of_lt}
-use Rattle.std.proofs.lemmas.Bool.{cases_lt, eq-eqb, ne_eqb, lt-ltb}
-use Rattle.std.proofs.lemmas.Bool.Decides.{nat_tests}
-use Rattle.pool_ledger.specs.History.{begin_of, begins, end_of, ends, total}
+use Rattle.std.specs.List.{AllByRecursion, list_any}
+use Rattle.std.proofs.Math.Nat.{mul-lt-mul_of_pos_right, add-mul-mod_self_right, mod-add-div', mod-eq_of_lt}
+use Rattle.std.proofs.lemmas.Bool.{cases_eq, cases_lt, eq-eqb, ne_eqb}
+use Rattle.std.proofs.lemmas.List.Quantifiers.{all_pairs_push}
+use Rattle.pool_ledger.specs.History.{History, begin_of, begins, begun, begun_after, end_of, ends, total, was_begun}
 use Rattle.pool_ledger.specs.Journal.{history_of}
 use Rattle.pool_ledger.specs.declared.entry.Entry.{Entry}
 use Rattle.pool_ledger.specs.declared.entry.Event.{Event}
@@ -15,10 +15,10 @@ use Rattle.pool_laws.specs.Owners.{IsByOwner}
 use Rattle.task_pool.proofs.GoingOn.{all_append}
 use Rattle.memory_lock.proofs.Staying.{all_imply}
 use Rattle.task_pool.specs.Asks.{IsOfTask}
-use Rattle.task_runner.specs.Workers.{AreTasks, part_at}
+use Rattle.task_runner.specs.Workers.{AreTasks, IsCount, part_at}
 use Rattle.task_runner.specs.Works.{IsTaskOf}
-use Rattle.csv_program.specs.Doing.{HasDone}
-use Rattle.csv_program.specs.Tasks.{begun_by, begun_in, owner_of}
+use Rattle.csv_program.specs.Doing.{BeginsOwn, DoesOwn}
+use Rattle.csv_program.specs.Tasks.{begun_by, begun_in}
 use Rattle.csv_program.proofs.Journals.{total_append, total_reverse}
 
 -- ---- the entries of one task
@@ -99,180 +99,187 @@ task_begun worker task entries is =
     let last = entry_by worker (End task is.freed) in
     ap begun_in is.are ∙ ap (λ (ts : List ℕ). task ∷ ts) (amid_begun is.amid (last ∷ []) (are_amid worker task is.amid is.asks))
 
--- ---- the first tasks of a worker
-
--- those of the first pass have their partitions' numbers
-task_is : (worker task : ℕ) (entries : List Entry) → IsTaskOf worker (task + 0) entries → IsTaskOf worker task entries
-task_is worker task entries is = subst (λ (n : ℕ). IsTaskOf worker n entries) (add-zero task) is
-
-parts_rise : (workers worker j k : ℕ) → 0 < workers → j < k → part_at workers worker j < part_at workers worker k
-parts_rise workers worker j k some below =
-    let less : j * workers < k * workers = mul-lt-mul_of_pos_right below some in
-    omega (arith, less)
-
-worker_of : (workers worker k : ℕ) → worker < workers → part_at workers worker k % workers ≡ worker
-worker_of workers worker k below = add-mul-mod_self_right worker k workers ∙ mod-eq_of_lt below
-
-tasks_balanced : (workers worker k t : ℕ) (entries : List Entry) → AreTasks 0 workers worker k entries → total (end_of t) entries ≡ total (begin_of t) entries
-unfolding AreTasks
-tasks_balanced workers worker zero t entries are = ap (total (end_of t)) are ∙ sym (ap (total (begin_of t)) are)
-tasks_balanced workers worker (suc k) t entries are =
-    let ended : total (end_of t) entries ≡ total (end_of t) (are.0 ++ are.1) = ap (total (end_of t)) are.4 in
-    let began : total (begin_of t) entries ≡ total (begin_of t) (are.0 ++ are.1) = ap (total (begin_of t)) are.4 in
-    let one = total_append (end_of t) are.0 are.1 in
-    let other = total_append (begin_of t) are.0 are.1 in
-    let last = task_ends worker (part_at workers worker k) t are.1 (task_is worker (part_at workers worker k) are.1 are.3) in
-    let first = task_begins worker (part_at workers worker k) t are.1 (task_is worker (part_at workers worker k) are.1 are.3) in
-    let before = tasks_balanced workers worker k t are.0 are.2 in
-    omega (arith, ended, began, one, other, last, first, before)
-
 marked : (task : ℕ) → mark task task ≡ 1
 marked task = rw (eq-eqb task task refl) refl
 
-pub tasks_begin : (workers worker k j : ℕ) (entries : List Entry) → AreTasks 0 workers worker k entries → j < k → 1 ≤ total (begin_of (part_at workers worker j)) entries
-unfolding AreTasks
-tasks_begin workers worker zero j entries are below = absurd (omega (arith, below))
-tasks_begin workers worker (suc k) j entries are below =
-    let t = part_at workers worker j in
-    let began : total (begin_of t) entries ≡ total (begin_of t) (are.0 ++ are.1) = ap (total (begin_of t)) are.4 in
-    let split = total_append (begin_of t) are.0 are.1 in
-    elim (cases_lt j k) [
-      | inl low ↦ let before = tasks_begin workers worker k j are.0 are.2 low in omega (arith, began, split, before)
-      | inr high ↦
-          let same : j ≡ k = omega (arith, below, high) in
-          let first = task_begins worker (part_at workers worker k) t are.1 (task_is worker (part_at workers worker k) are.1 are.3) in
-          let one : mark (part_at workers worker k) t ≡ 1 = ap (λ (i : ℕ). mark (part_at workers worker k) (part_at workers worker i)) same ∙ marked (part_at workers worker k) in
-          omega (arith, began, split, first, one)
-    ]
-
-pub final_begins : (worker task : ℕ) (entries : List Entry) → IsTaskOf worker task entries → 1 ≤ total (begin_of task) entries
-final_begins worker task entries is = let first = task_begins worker task task entries is in let one = marked task in omega (arith, first, one)
-
--- a task that is none of them isn't begun
-pub tasks_begin_none : (workers worker k t : ℕ) (entries : List Entry) → AreTasks 0 workers worker k entries → ((j : ℕ) → j < k → part_at workers worker j ≢ t) → total (begin_of t) entries ≡ 0
-unfolding AreTasks
-tasks_begin_none workers worker zero t entries are differs = ap (total (begin_of t)) are
-tasks_begin_none workers worker (suc k) t entries are differs =
-    let began : total (begin_of t) entries ≡ total (begin_of t) (are.0 ++ are.1) = ap (total (begin_of t)) are.4 in
-    let split = total_append (begin_of t) are.0 are.1 in
-    let last = task_begins worker (part_at workers worker k) t are.1 (task_is worker (part_at workers worker k) are.1 are.3) in
-    let none : mark (part_at workers worker k) t ≡ 0 = ap (λ (b : Bool). if b then 1 else 0) (ne_eqb (part_at workers worker k) t (differs k (omega arith))) in
-    let before = tasks_begin_none workers worker k t are.0 are.2 (λ j below. differs j (omega (arith, below))) in
-    omega (arith, began, split, last, none, before)
-
-tasks_owned : (owner : ℕ → Option ℕ) (workers worker k : ℕ) (entries : List Entry) → AreTasks 0 workers worker k entries → ((j : ℕ) → j < k → owner (part_at workers worker j) ≡ Some worker) → AllByRecursion (λ entry. IsByOwner owner worker entry.event) entries
-unfolding AreTasks
-tasks_owned owner workers worker zero entries are owns = subst (AllByRecursion (λ entry. IsByOwner owner worker entry.event)) (sym are) tt
-tasks_owned owner workers worker (suc k) entries are owns =
-    subst (AllByRecursion (λ entry. IsByOwner owner worker entry.event)) (sym are.4)
-    (all_append (λ entry. IsByOwner owner worker entry.event) are.0 are.1
-    (tasks_owned owner workers worker k are.0 are.2 (λ j below. owns j (omega (arith, below))))
-    (task_owned owner worker (part_at workers worker k) are.1 (task_is worker (part_at workers worker k) are.1 are.3) (owns k (omega arith))))
-
--- ---- lists that rise
+-- ---- lists that ascend
 
 every_append : (P : ℕ → Type 0) (xs ys : List ℕ) → AllByRecursion P xs → AllByRecursion P ys → AllByRecursion P (xs ++ ys)
 every_append P [] ys all rest = rest
 every_append P (x ∷ xs) ys all rest = (all.0, every_append P xs ys all.1 rest)
 
-Rises : List ℕ → Type 0
-Rises [] = Unit {0}
-Rises (x ∷ xs) = AllByRecursion (λ y. x < y) xs × Rises xs
-
-rises_snoc : (xs : List ℕ) (t : ℕ) → Rises xs → AllByRecursion (λ y. y < t) xs → Rises (xs ++ t ∷ [])
-unfolding Rises
-rises_snoc [] t rises all = (tt, tt)
-rises_snoc (x ∷ xs) t rises all = (every_append (λ y. x < y) xs (t ∷ []) rises.0 (all.0, tt), rises_snoc xs t rises.1 all.1)
+all_raise : (limit higher : ℕ) (xs : List ℕ) → limit ≤ higher → AllByRecursion (λ x. x < limit) xs → AllByRecursion (λ x. x < higher) xs
+all_raise limit higher [] most all = tt
+all_raise limit higher (x ∷ xs) most all = (omega (arith, most, all.0), all_raise limit higher xs most all.1)
 
 at_place : (P : ℕ → Type 0) (xs : List ℕ) (i d : ℕ) → AllByRecursion P xs → i < length xs → P (slice_index_or xs i d)
 at_place P [] i d all within = absurd (omega (arith, within))
 at_place P (x ∷ xs) zero d all within = all.0
 at_place P (x ∷ xs) (suc i) d all within = at_place P xs i d all.1 (omega (arith, within))
 
-pairs_of : (xs : List ℕ) → Rises xs → AllPairs (λ earlier later. earlier < later) xs
-unfolding Rises
-pairs_of [] rises i j d below within = absurd (omega (arith, within))
-pairs_of (x ∷ xs) rises i zero d below within = absurd (omega (arith, below))
-pairs_of (x ∷ xs) rises zero (suc j) d below within = at_place (λ y. x < y) xs j d rises.0 (omega (arith, within))
-pairs_of (x ∷ xs) rises (suc i) (suc j) d below within = pairs_of xs rises.1 i j d (omega (arith, below)) (omega (arith, within))
+-- ---- what a worker did
 
-tasks_within : (workers worker k bound : ℕ) (entries : List Entry) → AreTasks 0 workers worker k entries → ((j : ℕ) → j < k → part_at workers worker j < bound) → AllByRecursion (λ t. t < bound) (begun_in entries)
-unfolding AreTasks begun_in
-tasks_within workers worker zero bound entries are within = subst (λ (es : List Entry). AllByRecursion (λ t. t < bound) (begun_in es)) (sym are) tt
-tasks_within workers worker (suc k) bound entries are within =
-    let is : begun_in entries ≡ begun_in are.0 ++ part_at workers worker k ∷ [] = ap begun_in are.4 ∙ begun_append are.0 are.1 ∙ ap (λ (ts : List ℕ). begun_in are.0 ++ ts) (task_begun worker (part_at workers worker k) are.1 (task_is worker (part_at workers worker k) are.1 are.3)) in
-    subst (AllByRecursion (λ t. t < bound)) (sym is)
-    (every_append (λ t. t < bound) (begun_in are.0) (part_at workers worker k ∷ [])
-    (tasks_within workers worker k bound are.0 are.2 (λ j below. within j (omega (arith, below)))) (within k (omega arith), tt))
-
-tasks_rise : (workers worker k : ℕ) (entries : List Entry) → 0 < workers → AreTasks 0 workers worker k entries → Rises (begun_in entries)
-unfolding AreTasks begun_in Rises
-tasks_rise workers worker zero entries some are = subst (λ (es : List Entry). Rises (begun_in es)) (sym are) tt
-tasks_rise workers worker (suc k) entries some are =
-    let is : begun_in entries ≡ begun_in are.0 ++ part_at workers worker k ∷ [] = ap begun_in are.4 ∙ begun_append are.0 are.1 ∙ ap (λ (ts : List ℕ). begun_in are.0 ++ ts) (task_begun worker (part_at workers worker k) are.1 (task_is worker (part_at workers worker k) are.1 are.3)) in
-    subst Rises (sym is)
-    (rises_snoc (begun_in are.0) (part_at workers worker k) (tasks_rise workers worker k are.0 some are.2)
-    (tasks_within workers worker k (part_at workers worker k) are.0 are.2 (λ j below. parts_rise workers worker j k some below)))
-
--- ---- all that a worker did
-
--- each task was ended as often as it was begun
-pub done_balanced : (workers partitions worker t : ℕ) (entries : List Entry) → HasDone workers partitions worker entries → ends (history_of entries) t ≡ begins (history_of entries) t
-done_balanced workers partitions worker t entries done =
-    let ended : total (end_of t) entries ≡ total (end_of t) (done.tasks ++ done.last) = ap (total (end_of t)) done.all in
-    let began : total (begin_of t) entries ≡ total (begin_of t) (done.tasks ++ done.last) = ap (total (begin_of t)) done.all in
-    let one = total_append (end_of t) done.tasks done.last in
-    let other = total_append (begin_of t) done.tasks done.last in
-    let first = tasks_balanced workers worker done.count t done.tasks done.are in
-    let reversed = total_reverse (end_of t) entries in
-    let turned = total_reverse (begin_of t) entries in
-    let final : total (end_of t) done.last ≡ total (begin_of t) done.last =
-    elim done.final [
-      | inl none ↦ ap (total (end_of t)) none ∙ sym (ap (total (begin_of t)) none)
-      | inr last ↦ task_ends worker partitions t done.last last.1 ∙ sym (task_begins worker partitions t done.last last.1)
-    ] in
-    omega (arith, ended, began, one, other, first, reversed, turned, final)
-
--- its tasks are of the partitions that are its own, or the final one
-owner_part : (workers partitions worker j : ℕ) → worker < workers → part_at workers worker j < partitions → owner_of workers partitions (part_at workers worker j) ≡ Some worker
-owner_part workers partitions worker j below within =
-    ap (λ (b : Bool). if b then Some (part_at workers worker j % workers) else (if part_at workers worker j == partitions then Some 0 else None)) (lt-ltb (part_at workers worker j) partitions within)
-    ∙ ap Some (worker_of workers worker j below)
-
-pub owner_of_part : (workers partitions part : ℕ) → part < partitions → owner_of workers partitions part ≡ Some (part % workers)
-owner_of_part workers partitions part within =
-    ap (λ (b : Bool). if b then Some (part % workers) else (if part == partitions then Some 0 else None)) (lt-ltb part partitions within)
-
-pub owner_final : (workers partitions : ℕ) → owner_of workers partitions partitions ≡ Some 0
-owner_final workers partitions = grind (arith, nat_tests)
-
--- each task that it began is its own
-pub done_owned : (workers partitions worker : ℕ) (entries : List Entry) → worker < workers → HasDone workers partitions worker entries
-    → AllByRecursion (λ entry. IsByOwner (owner_of workers partitions) worker entry.event) entries
-done_owned workers partitions worker entries below done =
-    let owner = owner_of workers partitions in
-    let first = tasks_owned owner workers worker done.count done.tasks done.are (λ j within. owner_part workers partitions worker j below (done.within j within)) in
-    let final : AllByRecursion (λ entry. IsByOwner owner worker entry.event) done.last =
-    elim done.final [
-      | inl none ↦ subst (AllByRecursion (λ entry. IsByOwner owner worker entry.event)) (sym none) tt
-      | inr last ↦ task_owned owner worker partitions done.last last.1 (owner_final workers partitions ∙ ap Some (sym last.0))
-    ] in
-    subst (AllByRecursion (λ entry. IsByOwner owner worker entry.event)) (sym done.all) (all_append (λ entry. IsByOwner owner worker entry.event) done.tasks done.last first final)
-
--- its tasks ascend
-pub done_ascends : (workers partitions worker : ℕ) (entries : List Entry) → 0 < workers → HasDone workers partitions worker entries → AllPairs (λ earlier later. earlier < later) (begun_in entries)
+pub does_none : (owner : ℕ → Option ℕ) (w limit : ℕ) (entries : List Entry) → entries ≡ [] → DoesOwn owner w limit entries
 unfolding begun_in
-done_ascends workers partitions worker entries some done =
-    let first = tasks_rise workers worker done.count done.tasks some done.are in
-    let within = tasks_within workers worker done.count partitions done.tasks done.are done.within in
-    let whole : begun_in entries ≡ begun_in done.tasks ++ begun_in done.last = ap begun_in done.all ∙ begun_append done.tasks done.last in
-    pairs_of (begun_in entries)
-    (elim done.final [
-      | inl none ↦ subst Rises (sym (whole ∙ ap (λ (es : List Entry). begun_in done.tasks ++ begun_in es) none ∙ append-nil (begun_in done.tasks))) first
-      | inr last ↦
-          subst Rises (sym (whole ∙ ap (λ (ts : List ℕ). begun_in done.tasks ++ ts) (task_begun worker partitions done.last last.1)))
-          (rises_snoc (begun_in done.tasks) partitions first within)
-    ])
+does_none owner w limit entries none = subst (DoesOwn owner w limit) (sym none) record {
+  owned = tt;
+  below = tt;
+  ascend = λ i j d below within. absurd (omega (arith, within));
+  ended = λ task. refl;
+}
+
+pub does_raise : (owner : ℕ → Option ℕ) (w limit higher : ℕ) (entries : List Entry) → limit ≤ higher → DoesOwn owner w limit entries → DoesOwn owner w higher entries
+does_raise owner w limit higher entries most did = record {
+  owned = did.owned;
+  below = all_raise limit higher (begun_in entries) most did.below;
+  ascend = did.ascend;
+  ended = did.ended;
+}
+
+ended_then : (t : ℕ) (entries added : List Entry) → ends (history_of entries) t ≡ begins (history_of entries) t → total (end_of t) added ≡ total (begin_of t) added
+    → ends (history_of (entries ++ added)) t ≡ begins (history_of (entries ++ added)) t
+ended_then t entries added before more =
+    let ended = total_reverse (end_of t) entries in
+    let began = total_reverse (begin_of t) entries in
+    let all_ended = total_reverse (end_of t) (entries ++ added) in
+    let all_began = total_reverse (begin_of t) (entries ++ added) in
+    let split = total_append (end_of t) entries added in
+    let other = total_append (begin_of t) entries added in
+    omega (arith, before, more, ended, began, all_ended, all_began, split, other)
+
+-- one task more, above those that it did
+pub does_task : (owner : ℕ → Option ℕ) (w limit task : ℕ) (entries added : List Entry) → limit ≤ task → owner task ≡ Some w → IsTaskOf w task added → DoesOwn owner w limit entries → DoesOwn owner w (task + 1) (entries ++ added)
+does_task owner w limit task entries added most owns is did =
+    let begun : begun_in (entries ++ added) ≡ begun_in entries ++ task ∷ [] = begun_append entries added ∙ ap (λ (ts : List ℕ). begun_in entries ++ ts) (task_begun w task added is) in
+    record {
+      owned = all_append (λ entry. IsByOwner owner w entry.event) entries added did.owned (task_owned owner w task added is owns);
+      below = subst (AllByRecursion (λ t. t < task + 1)) (sym begun) (every_append (λ t. t < task + 1) (begun_in entries) (task ∷ []) (all_raise limit (task + 1) (begun_in entries) (omega (arith, most)) did.below) (omega arith, tt));
+      ascend = subst (AllPairs (λ earlier later. earlier < later)) (sym begun)
+          (all_pairs_push (λ earlier later. earlier < later) (begun_in entries) task did.ascend (λ k d inside. at_place (λ t. t < task) (begun_in entries) k d (all_raise limit task (begun_in entries) most did.below) inside));
+      ended = λ t. ended_then t entries added (did.ended t) (task_ends w task t added is ∙ sym (task_begins w task t added is));
+    }
+
+parts_rise : (workers w k : ℕ) → 0 < workers → (j : ℕ) → j < k → part_at workers w j < part_at workers w k
+parts_rise workers w k some j below = let less : j * workers < k * workers = mul-lt-mul_of_pos_right below some in omega (arith, less)
+
+-- the first tasks of a pass more, above those that it did
+pub does_tasks : (owner : ℕ → Option ℕ) (first workers w limit bound k : ℕ) (entries added : List Entry) → 0 < workers → limit ≤ first → limit ≤ bound → ((j : ℕ) → j < k → part_at workers w j + first < bound)
+    → ((j : ℕ) → j < k → owner (part_at workers w j + first) ≡ Some w) → AreTasks first workers w k added → DoesOwn owner w limit entries → DoesOwn owner w bound (entries ++ added)
+unfolding AreTasks
+does_tasks owner first workers w limit bound zero entries added some low most within owns are did =
+    subst (DoesOwn owner w bound) (sym (ap (λ (es : List Entry). entries ++ es) are ∙ append-nil entries)) (does_raise owner w limit bound entries most did)
+does_tasks owner first workers w limit bound (suc k) entries added some low most within owns are did =
+    let task = part_at workers w k + first in
+    let before = does_tasks owner first workers w limit task k entries are.0 some low (omega (arith, low)) (λ j below. let less = parts_rise workers w k some j below in omega (arith, less)) (λ j below. owns j (omega (arith, below))) are.2 did in
+    let is : entries ++ added ≡ (entries ++ are.0) ++ are.1 = ap (λ (es : List Entry). entries ++ es) are.4 ∙ sym (append_assoc entries are.0 are.1) in
+    let last : task < bound = within k (omega arith) in
+    subst (DoesOwn owner w bound) (sym is)
+    (does_raise owner w (task + 1) bound ((entries ++ are.0) ++ are.1) (omega (arith, last)) (does_task owner w task task (entries ++ are.0) are.1 (omega arith) (owns k (omega arith)) are.3 before))
+
+-- ---- what it began
+
+-- what was begun stays begun
+begins_more : (t : ℕ) (entries added : List Entry) → begins (history_of (entries ++ added)) t ≡ begins (history_of entries) t + total (begin_of t) added
+begins_more t entries added =
+    let began = total_reverse (begin_of t) entries in
+    let all_began = total_reverse (begin_of t) (entries ++ added) in
+    let split = total_append (begin_of t) entries added in
+    omega (arith, began, all_began, split)
+
+tasks_begin : (first workers w k j : ℕ) (entries : List Entry) → AreTasks first workers w k entries → j < k → 1 ≤ total (begin_of (part_at workers w j + first)) entries
+unfolding AreTasks
+tasks_begin first workers w zero j entries are below = absurd (omega (arith, below))
+tasks_begin first workers w (suc k) j entries are below =
+    let t = part_at workers w j + first in
+    let last = part_at workers w k + first in
+    let began : total (begin_of t) entries ≡ total (begin_of t) (are.0 ++ are.1) = ap (total (begin_of t)) are.4 in
+    let split = total_append (begin_of t) are.0 are.1 in
+    elim (cases_lt j k) [
+      | inl low ↦ let before = tasks_begin first workers w k j are.0 are.2 low in omega (arith, began, split, before)
+      | inr high ↦
+          let same : j ≡ k = omega (arith, below, high) in
+          let here = task_begins w last t are.1 are.3 in
+          let one : mark last t ≡ 1 = ap (λ (i : ℕ). mark last (part_at workers w i + first)) same ∙ marked last in
+          omega (arith, began, split, here, one)
+    ]
+
+-- all tasks of a pass that are a worker's, but for the final one
+pub begins_tasks : (owner : ℕ → Option ℕ) (first workers partitions w count : ℕ) (entries added : List Entry) → ((part : ℕ) → part < partitions → owner (part + first) ≡ Some (part % workers))
+    → IsCount workers w partitions count → AreTasks first workers w count added → BeginsOwn owner w first entries → BeginsOwn owner w (first + partitions) (entries ++ added)
+begins_tasks owner first workers partitions w count entries added owns all are began task within mine =
+    let more = begins_more task entries added in
+    elim (cases_lt task first) [
+      | inl low ↦ let before = began task low mine in omega (arith, more, before)
+      | inr high ↦
+          let part = task - first in
+          let is : part + first ≡ task = omega (arith, high) in
+          let inside : part < partitions = omega (arith, high, within) in
+          let same : Some (part % workers) ≡ Some w = sym (owns part inside) ∙ ap owner is ∙ mine in
+          let own : part % workers ≡ w = cc same in
+          let k = part / workers in
+          let place : part_at workers w k ≡ part = ap (λ (n : ℕ). part_at workers n k) (sym own) ∙ mod-add-div' part workers in
+          let here = tasks_begin first workers w count k added are (all.covers k (omega (arith, place, inside))) in
+          let least : 1 ≤ total (begin_of task) added = subst (λ (t : ℕ). 1 ≤ total (begin_of t) added) (ap (λ (n : ℕ). n + first) place ∙ is) here in
+          omega (arith, more, least)
+    ]
+
+-- and the final one
+pub begins_final : (owner : ℕ → Option ℕ) (first partitions w : ℕ) (entries added : List Entry) → IsTaskOf w (partitions + first) added → BeginsOwn owner w (first + partitions) entries → BeginsOwn owner w (first + partitions + 1) (entries ++ added)
+begins_final owner first partitions w entries added is began task within mine =
+    let more = begins_more task entries added in
+    elim (cases_lt task (first + partitions)) [
+      | inl low ↦ let before = began task low mine in omega (arith, more, before)
+      | inr high ↦
+          let same : partitions + first ≡ task = omega (arith, high, within) in
+          let here = task_begins w (partitions + first) task added is in
+          let one : mark (partitions + first) task ≡ 1 = ap (mark (partitions + first)) (sym same) ∙ marked (partitions + first) in
+          omega (arith, more, here, one)
+    ]
+
+-- which is the first worker's alone
+pub begins_other : (owner : ℕ → Option ℕ) (first partitions w : ℕ) (entries : List Entry) → owner (partitions + first) ≡ Some 0 → w ≢ 0 → BeginsOwn owner w (first + partitions) entries → BeginsOwn owner w (first + partitions + 1) entries
+begins_other owner first partitions w entries final other began task within mine = elim (cases_lt task (first + partitions)) [
+  | inl low ↦ began task low mine
+  | inr high ↦
+      let same : task ≡ partitions + first = omega (arith, high, within) in
+      let zero : Some w ≡ Some 0 = sym mine ∙ ap owner same ∙ final in
+      absurd (other (cc zero))
+]
+
+-- ---- what it didn't begin
+
+first_below : (event : Event) (later : List ℕ) (limit task : ℕ) → limit ≤ task → AllByRecursion (λ t. t < limit) (begun_by event later) → (begin_of task event ≡ 0) × AllByRecursion (λ t. t < limit) later
+first_below (Begin t) later limit task most all = (ap (λ (b : Bool). cond {A = ℕ} b 1 0) (ne_eqb t task (λ same. absurd (omega (arith, same, most, all.0)))), all.1)
+first_below _ later limit task most all = (refl, all)
+
+none_from : (limit task : ℕ) (entries : List Entry) → limit ≤ task → AllByRecursion (λ t. t < limit) (begun_in entries) → total (begin_of task) entries ≡ 0
+unfolding begun_in
+none_from limit task [] most all = refl
+none_from limit task (x ∷ rest) most all =
+    let first = first_below x.event (begun_in rest) limit task most all in
+    let more = none_from limit task rest most first.1 in
+    omega (arith, first.0, more)
+
+never_begun : (task : ℕ) (event : Event) (before : List ℕ) → begin_of task event ≡ 0 → list_any (λ t. t == task) before ≡ false → list_any (λ t. t == task) (begun_after event before) ≡ false
+never_begun task (Begin t) before none old = elim (cases_eq t task) [
+  | inl same ↦ absurd (let one = ap (λ (b : Bool). cond {A = ℕ} b 1 0) (eq-eqb t task same) in omega (arith, one, none))
+  | inr apart ↦ rw (ne_eqb t task apart) old
+]
+never_begun task _ before none old = old
+
+not_begun : (task : ℕ) (history : History) → begins history task ≡ 0 → was_begun history task ≡ false
+not_begun task [] none = refl
+not_begun task (entry ∷ before) none = never_begun task entry.event (begun before) (omega (arith, none)) (not_begun task before (omega (arith, none)))
+
+-- no task from the limit on
+pub fresh_from : (owner : ℕ → Option ℕ) (w limit task : ℕ) (entries : List Entry) → limit ≤ task → DoesOwn owner w limit entries → was_begun (history_of entries) task ≡ false
+fresh_from owner w limit task entries most did = not_begun task (history_of entries) (total_reverse (begin_of task) entries ∙ none_from limit task entries most did.below)
+
+-- ---- whose tasks they are
+
+-- the partitions of a worker
+pub worker_of : (workers w k : ℕ) → w < workers → part_at workers w k % workers ≡ w
+worker_of workers w k below = add-mul-mod_self_right w k workers ∙ mod-eq_of_lt below
 
 pub none_ascend : (entries : List Entry) → entries ≡ [] → AllPairs (λ earlier later. earlier < later) (begun_in entries)
 unfolding begun_in

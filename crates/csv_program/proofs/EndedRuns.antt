@@ -78,8 +78,8 @@ none_ascend : AllPairs (λ (earlier later : ℕ). earlier < later) []
 none_ascend = λ i j d lt within. absurd (omega arith)
 
 -- a journal without an entry has no task
-pub follows_none : (workers partitions : ℕ) (journal : List Entry) → journal ≡ [] → FollowsPlan workers partitions journal
-follows_none workers partitions journal none = subst (FollowsPlan workers partitions) (sym none) record {
+pub follows_none : (workers partitions passes : ℕ) (journal : List Entry) → journal ≡ [] → FollowsPlan workers partitions passes journal
+follows_none workers partitions passes journal none = subst (FollowsPlan workers partitions passes) (sym none) record {
   owned = tt;
   ascend = λ worker. subst (λ (tasks : List ℕ). AllPairs (λ earlier later. earlier < later) tasks) (sym (no_begins worker)) none_ascend;
   ended = λ task. refl;

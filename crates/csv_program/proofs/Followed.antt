@@ -1,25 +1,29 @@
 -- What a whole journal tells of a run, by what each of its workers did.
-use Rattle.std.proofs.Common.{◌≡◌, ◌∙◌, ℕ, ◌<◌, ◌≤◌, ◌%◌, List, Some, None, Result, Ok, Err, get_or, refl, sym, ap, subst, inl, inr, arith}
-use Rattle.std.specs.Prelude.{◌==◌, Bool, OnOk, if◌then◌else◌}
+use Rattle.std.proofs.Common.{◌≡◌, ◌∙◌, ℕ, ◌+◌, ◌*◌, ◌<◌, ◌≤◌, ◌%◌, Bool, List, Option, Some, None, Result, Ok, Err, get_or, refl, sym, ap, subst, inl, inr, arith}
+use Rattle.std.specs.Prelude.{OnOk, if◌then◌else◌}
 use Rattle.std.specs.List.{AllByRecursion}
 use Rattle.std.proofs.Math.Nat.{mod-lt}
-use Rattle.std.proofs.lemmas.Bool.{cases_lt, lt-ltb}
+use Rattle.std.proofs.lemmas.Bool.{cases_lt, le-ltb, lt-ltb}
 use Rattle.pool_ledger.specs.History.{begins}
 use Rattle.pool_ledger.specs.Journal.{history_of}
 use Rattle.pool_ledger.specs.Legal.{IsLegal}
 use Rattle.pool_ledger.specs.Sizes.{Sizes}
 use Rattle.pool_ledger.specs.Workers.{entries_of}
 use Rattle.pool_ledger.specs.declared.entry.Entry.{Entry}
+use Rattle.pool_ledger.specs.declared.entry.Event.{Event}
+use Rattle.pool_ledger.specs.declared.entry.Event.TheVariants.{Begin}
+use Rattle.pool_laws.specs.Owners.{IsByOwner}
 use Rattle.pool_laws.specs.SafeJournal.{IsSafeJournal}
 use Rattle.turn_lock.specs.Passes.{LockId, PassState}
+use Rattle.memory_lock.proofs.Staying.{all_imply}
 use Rattle.memory_lock.specs.Crew.{AreWorkers, HasAll, new_worker}
 use Rattle.memory_lock.specs.Workers.{own_entries, own_of}
 use Rattle.task_runner.specs.Works.{IfNoRoom, ShowsNoRoom}
 use Rattle.task_runner.specs.declared.work_fault.WorkFault.{WorkFault}
 use Rattle.task_runner.specs.declared.work_fault.WorkFault.TheVariants.{NoRoom, DiskFault, Damaged, NoMemory}
-use Rattle.csv_program.specs.Doing.{BeginsOwn, HasDone}
-use Rattle.csv_program.specs.Tasks.{BeginsAll, FollowsPlan, ShowsShort, owner_of}
-use Rattle.csv_program.proofs.Deeds.{done_ascends, done_balanced, done_owned, none_ascend, owner_final}
+use Rattle.csv_program.specs.Doing.{DoesOwn, EachBegins, EachDoes}
+use Rattle.csv_program.specs.Tasks.{BeginsAll, FollowsPlan, ShowsShort, owner_of, worker_at}
+use Rattle.csv_program.proofs.Deeds.{none_ascend}
 use Rattle.csv_program.proofs.Journals.{all_known, begun_least, ended_all, none_of, owned_all}
 
 -- a worker's own entries are those that the journal has of it
@@ -27,41 +31,44 @@ whole_of : (lock : LockId) (workers : ℕ) (news : List PassState) (journal : Li
 whole_of lock workers news journal are whole w any below =
     (whole w any (omega (arith, below, are.0))).own w (0, omega arith, refl) ∙ ap (λ (n : ℕ). entries_of n (get_or news w any).seen) (sym (are.1 w any below).number_is)
 
+-- two names of the owners
+by_same : (owner owner' : ℕ → Option ℕ) (w : ℕ) → ((task : ℕ) → owner task ≡ owner' task) → (event : Event) → IsByOwner owner w event → IsByOwner owner' w event
+by_same owner owner' w same (Begin task) is = sym (same task) ∙ is
+by_same owner owner' w same _ is = tt
+
 -- what each worker did makes a journal of the plan
-pub follows : (setup : Sizes) (lock : LockId) (workers partitions : ℕ) (news : List PassState) (journal : List Entry) → workers ≡ setup.workers → 0 < workers → AreWorkers lock workers news → HasAll news journal → IsLegal setup (history_of journal)
-    → ((w : ℕ) (any : PassState) → w < workers → HasDone workers partitions w (own_entries (get_or news w any))) → FollowsPlan workers partitions journal
-follows setup lock workers partitions news journal size some are whole legal did =
+pub follows : (setup : Sizes) (lock : LockId) (owner : ℕ → Option ℕ) (workers partitions passes limit : ℕ) (news : List PassState) (journal : List Entry) → workers ≡ setup.workers → ((task : ℕ) → owner task ≡ owner_of workers partitions passes task)
+    → AreWorkers lock workers news → HasAll news journal → IsLegal setup (history_of journal) → EachDoes owner workers limit news → FollowsPlan workers partitions passes journal
+follows setup lock owner workers partitions passes limit news journal size owns are whole legal did =
     let known : AllByRecursion (λ entry. entry.worker < workers) journal = subst (λ (n : ℕ). AllByRecursion (λ entry. entry.worker < n) journal) (sym size) (all_known setup journal legal) in
     let any = new_worker lock 0 0 in
-    let done : (w : ℕ) → w < workers → HasDone workers partitions w (entries_of w journal) = λ w below. subst (HasDone workers partitions w) (sym (whole_of lock workers news journal are whole w any below)) (did w any below) in
+    let plan = owner_of workers partitions passes in
+    let done : (w : ℕ) → w < workers → DoesOwn owner w limit (entries_of w journal) = λ w below. subst (DoesOwn owner w limit) (sym (whole_of lock workers news journal are whole w any below)) (did w any below) in
     record {
-      owned = owned_all (owner_of workers partitions) workers journal known (λ w below. done_owned workers partitions w (entries_of w journal) below (done w below));
+      owned = owned_all plan workers journal known (λ w below. all_imply (λ entry. IsByOwner owner w entry.event) (λ entry. IsByOwner plan w entry.event) (λ entry is. by_same owner plan w owns entry.event is) (entries_of w journal) (done w below).owned);
       ascend = λ w. elim (cases_lt w workers) [
-        | inl low ↦ done_ascends workers partitions w (entries_of w journal) some (done w low)
+        | inl low ↦ (done w low).ascend
         | inr high ↦ none_ascend (entries_of w journal) (none_of workers w journal known high)
       ];
-      ended = λ task. ended_all workers task journal known (λ w below. done_balanced workers partitions w task (entries_of w journal) (done w below));
+      ended = λ task. ended_all workers task journal known (λ w below. (done w below).ended task);
     }
 
--- each task of a partition, and the final one, is of some worker
-has_owner : (workers partitions task : ℕ) → 0 < workers → task ≤ partitions → (w : ℕ) × (w < workers) × (owner_of workers partitions task ≡ Some w)
-has_owner workers partitions task some within = elim (cases_lt task partitions) [
-  | inl low ↦ (
-    task % workers,
-    mod-lt task some,
-    ap (λ (b : Bool). if b then Some (task % workers) else (if task == partitions then Some 0 else None)) (lt-ltb task partitions low),
-  )
-  | inr high ↦ let same : partitions ≡ task = omega (arith, high, within) in (0, some, subst (λ (t : ℕ). owner_of workers partitions t ≡ Some 0) same (owner_final workers partitions))
+-- each task of a plan is of some worker
+worker_known : (workers partitions place : ℕ) → 0 < workers → worker_at workers partitions place < workers
+worker_known workers partitions place some = elim (cases_lt place partitions) [
+  | inl low ↦ subst (λ (b : Bool). (if b then place % workers else 0) < workers) (sym (lt-ltb place partitions low)) (mod-lt place some)
+  | inr high ↦ subst (λ (b : Bool). (if b then place % workers else 0) < workers) (sym (le-ltb place partitions high)) some
 ]
 
 -- where each worker began all of its own, each task was begun once
-pub begins_all : (setup : Sizes) (lock : LockId) (workers partitions : ℕ) (news : List PassState) (journal : List Entry) → 0 < workers → AreWorkers lock workers news → HasAll news journal → IsSafeJournal setup journal
-    → ((w : ℕ) (any : PassState) → w < workers → BeginsOwn workers partitions w (own_entries (get_or news w any))) → BeginsAll partitions journal
-begins_all setup lock workers partitions news journal some are whole safe began task within =
-    let mine = has_owner workers partitions task some within in
-    let w = mine.0 in
+pub begins_all : (setup : Sizes) (lock : LockId) (owner : ℕ → Option ℕ) (workers partitions passes : ℕ) (news : List PassState) (journal : List Entry) → 0 < workers → ((task : ℕ) → owner task ≡ owner_of workers partitions passes task)
+    → AreWorkers lock workers news → HasAll news journal → IsSafeJournal setup journal → EachBegins owner workers (passes * (partitions + 1)) news → BeginsAll partitions passes journal
+begins_all setup lock owner workers partitions passes news journal some owns are whole safe began task within =
+    let w = worker_at workers partitions (task % (partitions + 1)) in
+    let known : w < workers = worker_known workers partitions (task % (partitions + 1)) some in
+    let mine : owner task ≡ Some w = owns task ∙ ap (λ (b : Bool). if b then Some w else None) (lt-ltb task (passes * (partitions + 1)) within) in
     let any = new_worker lock 0 0 in
-    let own : 1 ≤ begins (history_of (entries_of w journal)) task = subst (λ (es : List Entry). 1 ≤ begins (history_of es) task) (sym (whole_of lock workers news journal are whole w any mine.1)) (began w any mine.1 task mine.2) in
+    let own : 1 ≤ begins (history_of (entries_of w journal)) task = subst (λ (es : List Entry). 1 ≤ begins (history_of es) task) (sym (whole_of lock workers news journal are whole w any known)) (began w any known task within mine) in
     let least = begun_least w task journal in
     let most = safe.begun_once task in
     omega (arith, own, least, most)

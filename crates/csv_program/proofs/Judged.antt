@@ -1,28 +1,19 @@
 -- How a landed input ends, in words of its bytes.
-use Rattle.std.proofs.Common.{◌≡◌, ◌+◌, ◌^◌, ◌≤◌, ◌∷◌, ◌∙◌, [], ℕ, List, Option, Some, None, length, map, refl, sym, ap, subst, inl, inr, arith}
-use Rattle.std.specs.List.{AllByRecursion}
-use Rattle.std.specs.Prelude.{◌⊎◌, IfSome, option_map, slice_index_or}
-use Rattle.aggregate.specs.Totals.{Entry}
+use Rattle.std.proofs.Common.{◌≡◌, ◌+◌, ◌∷◌, ◌∙◌, [], ℕ, List, Option, Some, None, length, refl, sym, ap, subst, inl, inr, arith}
+use Rattle.std.specs.Prelude.{◌⊎◌, IfSome}
 use Rattle.byte_io.specs.Rows.{rows_of}
-use Rattle.job_answer.specs.Laws.{IsOver, TotalsTellAnswers, TellsAnswer, query_at, totals_in, wide_total}
-use Rattle.job_answer.specs.Output.{joined, output, table_rows, text_of, too_wide, wide_from, wide_key}
 use Rattle.job_plan.specs.Columns.{Fields}
-use Rattle.job_plan.specs.Plans.{form_in, kept_at, kept_in, no_shape, places_in}
-use Rattle.job_plan.specs.Entries.{field_bytes}
-use Rattle.job_plan.specs.Rows.{AreBytes, landed_rows}
-use Rattle.run_file.specs.Forms.{HasForm}
+use Rattle.job_plan.specs.Plans.{places_in}
+use Rattle.job_plan.specs.Rows.{landed_rows}
 use Rattle.job_plan.specs.declared.query_plan.Plan.{Plan}
-use Rattle.job_text.specs.Jobs.{IsJob}
 use Rattle.job_text.specs.declared.job.Job.{Job}
-use Rattle.job_text.specs.declared.job.Query.{Query}
 use Rattle.landing.specs.Checks.{Checked, Refused, checked}
-use Rattle.landing.specs.Landed.{AreChecked, AreLanded, AreRowsOf, IsOfInput, partition_count}
+use Rattle.landing.specs.Landed.{AreLanded, AreRowsOf, IsOfInput, partition_count}
 use Rattle.spill_disk.specs.Files.{Files}
 use Rattle.run_file.specs.declared.run.Run.{Run}
 use Rattle.landing.specs.declared.fault.LandFault.{LandFault}
 use Rattle.landing.specs.declared.fault.LandFault.TheVariants as fault
-use Rattle.result_table.specs.Results.{table_of}
-use Rattle.csv_program.specs.Endings.{ComesBefore, EndsAs, Ending, HasTooWide, Prints, Refuses, ending_of, ending_of_checked, ending_of_totals, ending_with, key_of_total, MayEndAs, partitions_of_checked, rows_of_checked, status_of, totals_of}
+use Rattle.csv_program.specs.Endings.{ComesBefore, EndsAs, Ending, HasTooWide, Prints, Refuses, ending_of, ending_of_checked, MayEndAs, partitions_of_checked, status_of}
 use Rattle.csv_program.specs.Statuses.{IsJudged, IsOfTasks, IsOutside, IsUnlanded, IsUnprinted}
 use Rattle.csv_program.specs.declared.call.RunCall.{RunCall}
 use Rattle.csv_program.specs.declared.outcome.Status.{Status}
@@ -31,67 +22,6 @@ use Rattle.csv_program.specs.declared.outcome.Status.TheVariants as status
 pub length-landed : (places : List ℕ) (n : ℕ) (rows : List Fields) → length (landed_rows places n rows) ≡ length rows
 length-landed places n [] = refl
 length-landed places n (row ∷ rows) = omega (arith, length-landed places (n + 1) rows)
-
--- ---- one query
-
--- a job's one query
-pub one_query : (queries : List Query) → length queries ≡ 1 → (query : Query) × (queries ≡ query ∷ [])
-one_query [] one = absurd (omega arith)
-one_query (query ∷ []) one = (query, refl)
-one_query (query ∷ other ∷ queries) one = absurd (omega arith)
-
-output_one : (job : Job) (header : Fields) (rows : List Fields) (query : Query) → job.queries ≡ query ∷ [] → output job header rows ≡ text_of (table_rows job header rows query)
-unfolding output
-output_one job header rows query one = ap (λ (queries : List Query). joined (map (λ query. text_of (table_rows job header rows query)) queries)) one
-
-wide_one : (job : Job) (header : Fields) (rows : List Fields) (query : Query) → job.queries ≡ query ∷ [] → too_wide job header rows ≡ wide_from job header rows 0 (query ∷ [])
-wide_one job header rows query one = ap (wide_from job header rows 0) one
-
-first_query : (job : Job) (query : Query) → job.queries ≡ query ∷ [] → query_at job 0 ≡ query
-first_query job query one = ap (λ (queries : List Query). slice_index_or queries 0 (record { dataset = 0; shape = no_shape })) one
-
-key_by : (found : Option Entry) (key : Option (List ℕ)) → option_map (λ entry. entry.key) found ≡ key → key_of_total found ≡ option_map (λ key. (0, key)) key
-key_by None key is = ap (option_map (λ key. (0, key))) is
-key_by (Some entry) key is = ap (option_map (λ key. (0, key))) is
-
-wide_alone : (job : Job) (header : Fields) (rows : List Fields) (query : Query) → wide_from job header rows 0 (query ∷ []) ≡ option_map (λ key. (0, key)) (wide_key job header rows query)
-wide_alone job header rows query = by_key (wide_key job header rows query) refl
-  where
-    by_key : (key : Option (List ℕ)) → wide_key job header rows query ≡ key → wide_from job header rows 0 (query ∷ []) ≡ option_map (λ key. (0, key)) (wide_key job header rows query)
-    by_key None is = rw is refl
-    by_key (Some key) is = rw is refl
-
--- what the totals end as is how the job ends
-pub ending_is : (job : Job) (max_rows : ℕ) (plan : Plan) (landed records : List Fields) → max_rows ≤ 10000000 → TotalsTellAnswers → IsJob job → job.datasets ≡ [] → length job.queries ≡ 1 → length (kept_in plan) ≡ 1
-    → AreRowsOf job max_rows plan landed records → AreChecked (form_in plan) landed → length landed ≤ max_rows
-    → ending_of_totals plan (totals_of plan landed) ≡ ending_of_checked job (checked job max_rows records)
-ending_is job max_rows plan landed records most law whole plain one kept are formed few =
-    let header = are.header in
-    let rows = are.rows in
-    let query = (one_query job.queries one).0 in
-    let alone = (one_query job.queries one).1 in
-    let same = are.landed_are in
-    let count : length rows ≤ 2 ^ 32 = omega (arith, most, few, ap (λ (list : List Fields). length list) same, length-landed (places_in plan) 1 rows) in
-    let over : IsOver job header plan rows = record {
-      whole = whole;
-      plain = plain;
-      made = are.planned;
-      formed = subst (λ (list : List Fields). AllByRecursion (HasForm (form_in plan)) list) same formed.formed;
-      bytes = subst (λ (list : List Fields). AllByRecursion AreBytes list) same formed.bytes;
-      short = subst (λ (list : List Fields). AllByRecursion (λ row. field_bytes row ≤ 65536) list) same formed.short;
-      few = count;
-    } in
-    let tells : TellsAnswer job header plan rows 0 (totals_in plan 0 rows) = law job header plan rows 0 over (omega (arith, kept)) in
-    let which = first_query job query alone in
-    let text : table_of plan 0 (totals_of plan landed) ≡ output job header rows =
-    ap (λ (list : List Fields). table_of plan 0 (totals_of plan list)) same ∙ ap text_of tells.table
-    ∙ ap (λ (query : Query). text_of (table_rows job header rows query)) which ∙ sym (output_one job header rows query alone) in
-    let wide : key_of_total (wide_total (kept_at plan 0) (totals_of plan landed)) ≡ too_wide job header rows =
-    ap (λ (list : List Fields). key_of_total (wide_total (kept_at plan 0) (totals_of plan list))) same
-    ∙ key_by (wide_total (kept_at plan 0) (totals_of plan (landed_rows (places_in plan) 1 rows))) (wide_key job header rows (query_at job 0)) tells.wide
-    ∙ ap (λ (query : Query). option_map (λ key. (0, key)) (wide_key job header rows query)) which ∙ sym (wide_alone job header rows query) ∙ sym (wide_one job header rows query alone) in
-    ap (λ (bytes : List ℕ). ending_with bytes (key_of_total (wide_total (kept_at plan 0) (totals_of plan landed)))) text
-    ∙ ap (ending_with (output job header rows)) wide ∙ ap (ending_of_checked job) (sym are.passed)
 
 -- ---- refusals
 
@@ -218,10 +148,6 @@ landed_as files part_rows workers workers' parts parts' rows same are landed =
 pub partitions_are : (job : Job) (max_rows part_rows : ℕ) (plan : Plan) (landed records : List Fields) → AreRowsOf job max_rows plan landed records → partition_count (length landed) part_rows ≡ partitions_of_checked part_rows (checked job max_rows records)
 partitions_are job max_rows part_rows plan landed records are =
     ap (λ (n : ℕ). partition_count n part_rows) (ap (λ (list : List Fields). length list) are.landed_are ∙ length-landed (places_in plan) 1 are.rows) ∙ sym (ap (partitions_of_checked part_rows) are.passed)
-
-pub rows_are : (job : Job) (max_rows : ℕ) (plan : Plan) (landed records : List Fields) → AreRowsOf job max_rows plan landed records → length landed ≡ length (rows_of_checked (checked job max_rows records))
-rows_are job max_rows plan landed records are =
-    ap (λ (list : List Fields). length list) are.landed_are ∙ length-landed (places_in plan) 1 are.rows ∙ sym (ap (λ (c : Checked). length (rows_of_checked c)) are.passed)
 
 pub some_always : {A P : Type 0} (o : Option A) → P → IfSome o (λ x. P)
 some_always None p = _

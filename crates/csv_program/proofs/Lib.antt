@@ -1,6 +1,10 @@
 pub mod PostDisks
 pub mod LandedOn
 pub mod Wholes
+pub mod Pieces
+pub mod WideSums
+pub mod PlannedPasses
+pub mod AllTotals
 pub mod ToldTotals
 pub mod EndedRuns
 pub mod Called
@@ -13,6 +17,11 @@ pub mod Aside
 pub mod Journals
 pub mod Deeds
 pub mod Crews
+pub mod Served
+pub mod FedByPasses
+pub mod Gathered
+pub mod Leaving
+pub mod Passed
 pub mod Followed
 pub mod Worked
 pub mod Making

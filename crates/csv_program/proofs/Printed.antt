@@ -9,6 +9,10 @@ use Rattle.run_file.specs.Several.{HasEntries}
 use Rattle.result_table.specs.Results.{FindsNoDamage, HasResult}
 use Rattle.result_table.specs.declared.print_fault.PrintFault.{PrintFault}
 use Rattle.result_table.specs.declared.print_fault.PrintFault.TheVariants.{WriteFault, DiskFault, Damaged, NoMemory}
+use Rattle.job_plan.specs.Plans.{kind_at}
+use Rattle.job_plan.specs.declared.query_plan.Plan.{Plan}
+use Rattle.task_runner.specs.Workers.{answer_at}
+use Rattle.csv_program.specs.QueryResults.{HaveResults}
 use Rattle.csv_program.specs.Statuses.{IsOutside, IsUnprinted}
 use Rattle.run_file.specs.Causes.{NotDamaged}
 use Rattle.run_file.specs.declared.run.RunFault.{RunFault}
@@ -39,6 +43,10 @@ unprinted_run {T = T} result fault ended is none tells = subst IsUnprinted (sym 
 pub result_kept : (before after : ℕ → Option Files) (kind : Kind) (answer : Option Run) (entries : List Entry) → ((disk : ℕ) → after disk ≡ before disk) → HasResult before kind answer entries → HasResult after kind answer entries
 result_kept before after kind None entries same has = has
 result_kept before after kind (Some run) entries same has = subst (λ (files : Option Files). HasEntries files kind run entries) (sym (same run.disk)) has
+
+-- so do the results of all queries
+pub results_kept : (before after : ℕ → Option Files) (plan : Plan) (answers : List (Option Run)) (totals : ℕ → List Entry) → ((disk : ℕ) → after disk ≡ before disk) → HaveResults before plan totals answers → HaveResults after plan totals answers
+results_kept before after plan answers totals same have query below = result_kept before after (kind_at plan query) (answer_at answers query) (totals query) same (have query below)
 
 -- what has no image isn't there
 pub none_there : {A B : Type 0} (f : A → B) (o : Option A) → None ≡ option_map f o → o ≡ None

@@ -1,6 +1,6 @@
 -- What the posts and the answer of a run tell, where the final task left the consumers as they were.
 use Rattle.std.proofs.Common.{◌≡◌, ◌∙◌, ℕ, ◌<◌, ◌≤◌, ◌⊎◌, ◌↔◌, ◌%◌, List, [], ◌∷◌, Option, Some, None, Result, Ok, Err, inl, inr, length, map, refl, sym, ap, subst, arith}
-use Rattle.std.specs.Prelude.{All, IfSome, IsSome, OnOk, slice_get}
+use Rattle.std.specs.Prelude.{All, IfSome, IsSome, OnOk, is_some, slice_get}
 use Rattle.std.specs.Global.{Vec}
 use Rattle.std.specs.List.{range_with_len}
 use Rattle.std.specs.Option.{option_map, option_map_or}
@@ -18,18 +18,20 @@ use Rattle.result_table.specs.Results.{HasResult}
 use Rattle.task_memory.specs.RunLists.{runs_at}
 use Rattle.task_memory.proofs.Places.{less_or_not}
 use Rattle.task_runner.specs.Consumers.{KeepsConsumers}
-use Rattle.task_runner.specs.Finals.{AreMergedTo, HasMerged, HaveLists, MergeTotals}
+use Rattle.task_runner.specs.Finals.{AreMergedTo, HasMerged, HaveLists, KeepsOtherFiles, MergeTotals}
 use Rattle.task_runner.specs.PartAnswers.{HoldsAll}
-use Rattle.task_runner.specs.Pass.{AnswerAllParts, KeepsAll, states_at}
-use Rattle.task_runner.specs.PassViews.{PassView, parts_of, queries_of}
+use Rattle.task_runner.specs.Pass.{AnswerAllParts, AreInNewFiles, KeepsAll, states_at}
+use Rattle.task_runner.specs.PassViews.{PassView, parts_of, queries_of, rows_over}
 use Rattle.task_runner.specs.Queries.{kind_in, made_in}
 use Rattle.task_runner.specs.RunsApart.{AllOfLists, AreAllApart}
 use Rattle.task_runner.specs.Workers.{IfSound, answer_at}
 use Rattle.task_runner.specs.declared.post.Post.{Post}
 use Rattle.task_runner.specs.declared.work_fault.WorkFault.{WorkFault}
 use Rattle.task_runner.specs.declared.work_fault.WorkFault.TheVariants.{NoRoom, DiskFault, Damaged, NoMemory}
-use Rattle.csv_program.specs.QueryResults.{HaveResults, entries_of_parts}
+use Rattle.csv_program.specs.Passing.{HavePass, LeavesPosts}
+use Rattle.csv_program.specs.Posts.{post_faults, post_files}
 use Rattle.csv_program.proofs.Aside.{part_alike}
+use Rattle.csv_program.proofs.StillThere.{others_kept}
 
 -- ---- consumers
 
@@ -43,8 +45,8 @@ states_alike {D = D} {C = C} state some other same i =
     ∙ ap (λ (consumers : Option (Vec C)). option_map_or (λ (consumers : Vec C). map state consumers.items) consumers []) (part_alike (λ post. post.consumers) some other same i)
     ∙ sym (states_by state (slice_get other i))
 
-pub keeps_alike : (states states' : List State) → states' ≡ states → KeepsConsumers states states'
-keeps_alike states states' same = subst (KeepsConsumers states) (sym same) (record { count = refl; serves = λ i. refl; least = λ i. refl })
+pub place_same : {D C : Type 0} (state : C → State) (some other : List (Post D C)) (place : ℕ) → slice_get some place ≡ slice_get other place → states_at state some place ≡ states_at state other place
+place_same {D = D} {C = C} state some other place same = ap (λ (post : Option (Post D C)). option_map_or (λ post. map state post.consumers.items) post []) same
 
 -- ---- where the answers are
 
@@ -111,26 +113,26 @@ module _ (mid : ℕ → Option Files) (pass : PassView) (rows : ℕ → List (Li
   have_if i below (inr past) = absurd (omega (arith, below, past))
 
   same_if : (i : ℕ) → i < queries_of pass → (found : (i < queries_of pass) ⊎ (queries_of pass ≤ i))
-      → concatenated (lists_if i found) ≡ concatenated (map (λ part. total (kind_in pass.plan pass.queries i) (made_in pass.plan pass.queries (rows part) i)) (range_with_len 0 (parts_of pass)))
+      → concatenated (lists_if i found) ≡ concatenated (map (λ part. total (kind_in pass.plan pass.queries i) (made_in pass.plan pass.queries (rows_over pass (rows part)) i)) (range_with_len 0 (parts_of pass)))
   same_if i below (inl query) = (tells.each i query).same
   same_if i below (inr past) = absurd (omega (arith, below, past))
 
   -- the merged runs of all partitions are the results of all rows
   pub result_of : (after : ℕ → Option Files) (result : Result (Vec (Option Run)) WorkFault) → PartsTellAll
       → ((entries : ℕ → List (List Entry)) → HaveLists mid pass lists entries → AreAllApart (λ disk. disk) lists → MergeTotals after pass entries result)
-      → IfSound (λ answers. HaveResults after pass rows answers.items) result
+      → IfSound (λ answers. HavePass after pass rows answers.items) result
   result_of after result told merges = sound result (merges lists_in (λ i query. have_if i query (less_or_not i (queries_of pass))) tells.apart)
     where
-      each : (answers : List (Option Run)) → ((i : ℕ) → i < queries_of pass → HasMerged after (kind_in pass.plan pass.queries i) (lists_in i) (answer_at answers i)) → HaveResults after pass rows answers
+      each : (answers : List (Option Run)) → ((i : ℕ) → i < queries_of pass → HasMerged after (kind_in pass.plan pass.queries i) (lists_in i) (answer_at answers i)) → HavePass after pass rows answers
       each answers merged i query =
           let kind = kind_in pass.plan pass.queries i in
-          let entries : ℕ → List Entry = λ part. made_in pass.plan pass.queries (rows part) i in
+          let entries : ℕ → List Entry = λ part. made_in pass.plan pass.queries (rows_over pass (rows part)) i in
           let parts = range_with_len 0 (parts_of pass) in
           let same : total kind (concatenated (lists_in i)) ≡ total kind (concatenated (map entries parts)) =
           ap (total kind) (same_if i query (less_or_not i (queries_of pass))) ∙ ap (λ (lists : List (List Entry)). total kind (concatenated lists)) (totals_each kind entries parts) ∙ told kind (map entries parts) in
           result_by after kind (lists_in i) (concatenated (map entries parts)) (answer_at answers i) same (merged i query)
 
-      sound : (result : Result (Vec (Option Run)) WorkFault) → MergeTotals after pass lists_in result → IfSound (λ answers. HaveResults after pass rows answers.items) result
+      sound : (result : Result (Vec (Option Run)) WorkFault) → MergeTotals after pass lists_in result → IfSound (λ answers. HavePass after pass rows answers.items) result
       sound (Ok answers) merged = each answers.items merged
       sound (Err (NoRoom asked held floor)) merged = tt
       sound (Err (DiskFault post)) merged = tt
@@ -139,22 +141,47 @@ module _ (mid : ℕ → Option Files) (pass : PassView) (rows : ℕ → List (Li
 
 -- without a partition there is no run, and no answer
 pub result_none : (files : ℕ → Option Files) (pass : PassView) (rows : ℕ → List (List (List ℕ))) (lists : List (List Run)) (answers : List (Option Run)) → parts_of pass ≡ 0 → ((i : ℕ) → length (runs_at lists i) ≤ parts_of pass)
-    → AreMergedTo lists answers → HaveResults files pass rows answers
+    → AreMergedTo lists answers → HavePass files pass rows answers
 result_none files pass rows lists answers none few merged i query =
     let kind = kind_in pass.plan pass.queries i in
     let is : answer_at answers i ≡ None = (merged.none i).1 (empty (runs_at lists i) (let most = few i in omega (arith, most, none))) in
-    subst (λ (a : Option Run). HasResult files kind a (total kind (entries_of_parts pass rows i))) (sym is)
-    (ap (λ (n : ℕ). total kind (concatenated (map (λ part. made_in pass.plan pass.queries (rows part) i) (range_with_len 0 n)))) none ∙ nothing kind)
+    subst (λ (a : Option Run). HasResult files kind a (total kind (concatenated (map (λ part. made_in pass.plan pass.queries (rows_over pass (rows part)) i) (range_with_len 0 (parts_of pass)))))) (sym is)
+    (ap (λ (n : ℕ). total kind (concatenated (map (λ part. made_in pass.plan pass.queries (rows_over pass (rows part)) i) (range_with_len 0 n)))) none ∙ nothing kind)
   where
     empty : (runs : List Run) → length runs ≡ 0 → runs ≡ []
     empty [] same = refl
     empty (run ∷ runs) same = absurd (omega (arith, same))
+
+-- ---- what the posts are
+
+-- the posts as the workers left them, their consumers kept aside
+pub leaves_rest : {D C : Type 0} (state : C → State) (files : D → Option Files) (faults : D → ℕ) (workers : ℕ) (before mid : Vec (Post D C))
+    → ((place : ℕ) → workers ≤ place → slice_get mid.items place ≡ slice_get before.items place) → ((place : ℕ) → KeepsConsumers (states_at state before.items place) (states_at state mid.items place))
+    → length mid.items ≡ length before.items → KeepsAll (post_files files before) (post_files files mid) → ((place : ℕ) → post_faults faults before place ≤ post_faults faults mid place)
+    → LeavesPosts state files faults workers before mid
+leaves_rest state files faults workers before mid others consumers size keeps later = record {
+  others = λ place above. place_same state mid.items before.items place (others place above);
+  consumers = consumers;
+  same_posts = size;
+  keeps = keeps;
+  later = later;
+}
+
+-- and as the final task left those
+pub leaves_merged : {D C : Type 0} (state : C → State) (files : D → Option Files) (faults : D → ℕ) (workers : ℕ) (before mid after : Vec (Post D C)) (lists : List (List Run)) → LeavesPosts state files faults workers before mid
+    → map (λ post. post.consumers) after.items ≡ map (λ post. post.consumers) mid.items → length after.items ≡ length mid.items → AreInNewFiles (post_files files before) lists
+    → ((place : ℕ) → is_some (post_files files after place) ≡ is_some (post_files files mid place)) → KeepsOtherFiles (λ disk. disk) (post_files files mid) (post_files files after) lists
+    → ((place : ℕ) → post_faults faults mid place ≤ post_faults faults after place) → LeavesPosts state files faults workers before after
+leaves_merged state files faults workers before mid after lists left kept size made tells merged later = record {
+  others = λ place above. states_alike state after.items mid.items kept place ∙ left.others place above;
+  consumers = λ place. subst (KeepsConsumers (states_at state before.items place)) (sym (states_alike state after.items mid.items kept place)) (left.consumers place);
+  same_posts = size ∙ left.same_posts;
+  keeps = others_kept (post_files files before) (post_files files mid) (post_files files after) lists left.keeps made tells merged;
+  later = λ place. let low = left.later place in let high = later place in omega (arith, low, high);
+}
 
 -- ---- what holds anyway
 
 pub on_ok_all : {T P : Type 0} (answer : Result T WorkFault) → P → OnOk answer P
 on_ok_all (Ok x) holds = holds
 on_ok_all (Err e) holds = tt
-
-pub place_same : {D C : Type 0} (state : C → State) (some other : List (Post D C)) (place : ℕ) → slice_get some place ≡ slice_get other place → states_at state some place ≡ states_at state other place
-place_same {D = D} {C = C} state some other place same = ap (λ (post : Option (Post D C)). option_map_or (λ post. map state post.consumers.items) post []) same

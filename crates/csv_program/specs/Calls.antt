@@ -1,8 +1,9 @@
 -- What a call of `run` is for: its words, its job's text, its heap, and whether each worker has a post.
 -- This project's own.
-use Rattle.std.specs.Prelude.{◌≡◌, ℕ, ◌≤◌, ◌⊎◌, List, [], length, Option, Some, None, Result, Ok, Err, nat_lt, if◌then◌else◌, ⊤}
+use Rattle.std.specs.Prelude.{◌≡◌, ℕ, ◌≤◌, ◌⊎◌, Bool, not, is_some, List, Option, Some, None, Result, Ok, Err, nat_lt, if◌then◌else◌, ⊤}
+use Rattle.std.specs.List.{list_all}
 use Rattle.pool_ledger.specs.Sizes.{Sizes, sizes_of, smallest_heap}
-use Rattle.job_text.specs.Jobs.{IsJob, is_plain_job}
+use Rattle.job_text.specs.Jobs.{IsJob}
 use Rattle.job_text.specs.Text.{read_of}
 use Rattle.job_text.specs.declared.job.Job.{Job}
 use Rattle.words.specs.Calls.{run_call}
@@ -13,10 +14,14 @@ use Rattle.csv_program.specs.declared.call.RunCall.{RunCall}
 use Rattle.csv_program.specs.declared.outcome.Status.{Status}
 use Rattle.csv_program.specs.declared.outcome.Status.TheVariants as status
 
--- the job that was read, where it is one query over the input alone; others are refused at their first byte so far
-abbrev pub plain_of : Result Job ℕ → Result Job ℕ
-plain_of (Err place) = Err place
-plain_of (Ok job) = if is_plain_job job then Ok job else Err 0
+-- whether none of a job's datasets has a level
+abbrev pub keeps_none : Job → Bool
+keeps_none job = list_all (λ dataset. not (is_some dataset.level)) job.datasets
+
+-- the job that was read, where none of its datasets is kept; others are refused at their first byte so far
+abbrev pub unkept_of : Result Job ℕ → Result Job ℕ
+unkept_of (Err place) = Err place
+unkept_of (Ok job) = if keeps_none job then Ok job else Err 0
 
 -- the sizes of the pool that options make (Spark: the reserved memory, spark.memory.fraction, spark.memory.storageFraction)
 abbrev pub pool_of : WorkReading → Sizes
@@ -53,17 +58,15 @@ call_with words (Ok job) = call_in words job
 abbrev pub call_by : ℕ → Option RunReading → Call
 call_by posts None = NoCall
 call_by posts (Some words) =
-    if nat_lt posts words.options.workers then NoCall else call_with words (plain_of (read_of words.job))
+    if nat_lt posts words.options.workers then NoCall else call_with words (unkept_of (read_of words.job))
 
 -- the same by the words as they stand
 abbrev pub call_of : ℕ → List (List ℕ) → Call
 call_of posts words = call_by posts (run_call words)
 
--- a run whose job is one query over the input, in partitions of at least one row
+-- a run of a job, in partitions of at least one row
 pub record IsRun (asked : RunCall) : Type 0 where
   pub job : IsJob asked.job
-  pub plain : asked.job.datasets ≡ []
-  pub one : length asked.job.queries ≡ 1
   pub some : 1 ≤ asked.pool.workers
   pub few : asked.max_rows ≤ 10000000
   pub parts : 1 ≤ asked.part_rows

@@ -25,7 +25,7 @@ IsWhole _ = ⊤
 abbrev pub GrantsAll : List Entry → Type 0
 GrantsAll journal = AllByRecursion (λ entry. IsWhole entry.event) journal
 
--- the journal has the tasks of so many partitions, and all of them after `Done`
-pub record HasTasks (workers partitions : ℕ) (ended : Status) (journal : List Entry) : Type 0 where
-  pub follows : FollowsPlan workers partitions journal
-  pub all : ended ≡ status.Done → BeginsAll partitions journal
+-- the journal has the tasks of so many passes over so many partitions, and all of them after `Done`
+pub record HasTasks (workers partitions passes : ℕ) (ended : Status) (journal : List Entry) : Type 0 where
+  pub follows : FollowsPlan workers partitions passes journal
+  pub all : ended ≡ status.Done → BeginsAll partitions passes journal

@@ -1,24 +1,48 @@
 -- What each worker of a run does, in its own entries.
 -- This project's own.
-use Rattle.std.specs.Prelude.{◌≡◌, ℕ, ◌≤◌, ◌<◌, ◌⊎◌, List, [], ◌++◌, Some}
-use Rattle.pool_ledger.specs.History.{begins}
+use Rattle.std.specs.Prelude.{◌≡◌, ℕ, ◌+◌, ◌≤◌, ◌<◌, AllPairs, List, Option, Some, slice_index_or}
+use Rattle.std.specs.List.{AllByRecursion}
+use Rattle.pool_ledger.specs.History.{begins, ends}
 use Rattle.pool_ledger.specs.Journal.{history_of}
 use Rattle.pool_ledger.specs.declared.entry.Entry.{Entry}
-use Rattle.task_runner.specs.Workers.{AreTasks, part_at}
-use Rattle.task_runner.specs.Works.{IsTaskOf}
-use Rattle.csv_program.specs.Tasks.{owner_of}
+use Rattle.pool_laws.specs.Owners.{IsByOwner}
+use Rattle.turn_lock.specs.Passes.{LockId, PassState}
+use Rattle.memory_lock.specs.Crew.{AreWorkers}
+use Rattle.memory_lock.specs.Workers.{IsFree, own_entries}
+use Rattle.csv_program.specs.Tasks.{begun_in, worker_at}
 
--- a worker's own entries are those of the tasks of its first partitions, and then maybe those of the final task
-pub record HasDone (workers partitions worker : ℕ) (entries : List Entry) : Type 0 where
-  pub count : ℕ
-  pub within : (k : ℕ) → k < count → part_at workers worker k < partitions
-  pub tasks : List Entry
-  pub last : List Entry
-  pub are : AreTasks 0 workers worker count tasks
-  pub final : (last ≡ []) ⊎ ((worker ≡ 0) × IsTaskOf worker partitions last)
-  pub all : entries ≡ tasks ++ last
+-- a worker's own entries: each begin is of a task of its own, below a limit; its tasks ascend; and each that was begun
+-- was ended
+pub record DoesOwn (owner : ℕ → Option ℕ) (worker limit : ℕ) (entries : List Entry) : Type 0 where
+  pub owned : AllByRecursion (λ entry. IsByOwner owner worker entry.event) entries
+  pub below : AllByRecursion (λ task. task < limit) (begun_in entries)
+  pub ascend : AllPairs (λ earlier later. earlier < later) (begun_in entries)
+  pub ended : (task : ℕ) → ends (history_of entries) task ≡ begins (history_of entries) task
 
--- they begin each task of the worker
-abbrev pub BeginsOwn : ℕ → ℕ → ℕ → List Entry → Type 0
-BeginsOwn workers partitions worker entries =
-    (task : ℕ) → owner_of workers partitions task ≡ Some worker → 1 ≤ begins (history_of entries) task
+-- they begin each task of the worker below the limit
+abbrev pub BeginsOwn : (ℕ → Option ℕ) → ℕ → ℕ → List Entry → Type 0
+BeginsOwn owner worker limit entries =
+    (task : ℕ) → task < limit → owner task ≡ Some worker → 1 ≤ begins (history_of entries) task
+
+-- each of so many workers does so
+abbrev pub EachDoes : (ℕ → Option ℕ) → ℕ → ℕ → List PassState → Type 0
+EachDoes owner count limit workers =
+    (worker : ℕ) (any : PassState) → worker < count
+    → DoesOwn owner worker limit (own_entries (slice_index_or workers worker any))
+
+-- each begins so
+abbrev pub EachBegins : (ℕ → Option ℕ) → ℕ → ℕ → List PassState → Type 0
+EachBegins owner count limit workers =
+    (worker : ℕ) (any : PassState) → worker < count
+    → BeginsOwn owner worker limit (own_entries (slice_index_or workers worker any))
+
+-- the workers of a manager between two tasks: none has one, and each did its own below a limit
+pub record AreBetween (lock : LockId) (owner : ℕ → Option ℕ) (count limit : ℕ) (workers : List PassState) : Type 0 where
+  pub workers_are : AreWorkers lock count workers
+  pub free : (worker : ℕ) (any : PassState) → worker < count → IsFree (slice_index_or workers worker any)
+  pub does : EachDoes owner count limit workers
+
+-- the tasks of a pass over so many partitions, from a first one on, are their workers'
+abbrev pub OwnsPass : (ℕ → Option ℕ) → ℕ → ℕ → ℕ → Type 0
+OwnsPass owner count partitions first =
+    (place : ℕ) → place ≤ partitions → owner (place + first) ≡ Some (worker_at count partitions place)

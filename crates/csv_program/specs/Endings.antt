@@ -1,13 +1,15 @@
 -- How a run ends where nothing outside fails, and there is room and memory.
 -- This project's own.
-use Rattle.std.specs.Prelude.{◌≡◌, ◌⊎◌, ℕ, List, [], Option, Some, None, length, map}
+use Rattle.std.specs.Prelude.{◌≡◌, ◌⊎◌, ℕ, ◌<◌, All, List, [], ◌∷◌, Option, Some, None, length, map, option_map}
+use Rattle.std.specs.List.{range_with_len}
+use Rattle.std.specs.Option.{option_or}
 use Rattle.aggregate.specs.Totals.{Entry, total}
 use Rattle.byte_io.specs.Rows.{rows_of}
 use Rattle.job_answer.specs.Laws.{wide_total}
-use Rattle.job_answer.specs.Output.{output, too_wide}
+use Rattle.job_answer.specs.Output.{joined, output, too_wide}
 use Rattle.job_plan.specs.Columns.{Fields}
-use Rattle.job_plan.specs.Entries.{entry_of}
-use Rattle.job_plan.specs.Plans.{kept_at, kind_at}
+use Rattle.job_plan.specs.Plans.{kept_at, kept_in, kind_at}
+use Rattle.job_plan.specs.Telling.{IsTold}
 use Rattle.job_plan.specs.declared.query_plan.Plan.{Plan}
 use Rattle.job_text.specs.declared.job.Job.{Job}
 use Rattle.landing.specs.Checks.{Checked, Refused, Rows, checked}
@@ -15,6 +17,7 @@ use Rattle.landing.specs.Landed.{partition_count}
 use Rattle.landing.specs.declared.fault.LandFault.{LandFault}
 use Rattle.landing.specs.declared.fault.LandFault.TheVariants as fault
 use Rattle.result_table.specs.Results.{table_of}
+use Rattle.csv_program.specs.QueryResults.{entries_over}
 use Rattle.csv_program.specs.Statuses.{IsOutside, IsUnlanded, IsUnprinted}
 use Rattle.csv_program.specs.declared.call.RunCall.{RunCall}
 use Rattle.csv_program.specs.declared.outcome.Status.{Status}
@@ -53,27 +56,42 @@ partitions_of_checked part_rows (Rows header rows) = partition_count (length row
 abbrev pub partitions_of : RunCall → List ℕ → ℕ
 partitions_of asked bytes = partitions_of_checked asked.part_rows (checked asked.job asked.max_rows (rows_of bytes))
 
--- which rows it has: none where it is refused
-abbrev pub rows_of_checked : Checked → List Fields
-rows_of_checked (Refused why) = []
-rows_of_checked (Rows header rows) = rows
+-- what a run's job makes of an input
+abbrev pub checked_for : RunCall → List ℕ → Checked
+checked_for asked bytes = checked asked.job asked.max_rows (rows_of bytes)
 
--- the rows that a run reads
-abbrev pub rows_read : RunCall → List ℕ → List Fields
-rows_read asked bytes = rows_of_checked (checked asked.job asked.max_rows (rows_of bytes))
+-- ---- the same by what the entries of the queries come to
 
--- ---- the same by what the entries of the one query come to
+-- what the entries of a query come to, over landed rows
+abbrev pub totals_of : Plan → List Fields → ℕ → List Entry
+totals_of plan rows query = total (kind_at plan query) (entries_over plan query rows)
 
--- what the entries of landed rows come to
-abbrev pub totals_of : Plan → List Fields → List Entry
-totals_of plan rows = total (kind_at plan 0) (map (entry_of (kept_at plan 0)) rows)
+-- the numbers of a plan's queries
+abbrev pub queries_of : Plan → List ℕ
+queries_of plan = range_with_len 0 (length (kept_in plan))
 
-abbrev pub key_of_total : Option Entry → Option (ℕ × List ℕ)
-key_of_total None = None
-key_of_total (Some entry) = Some (0, entry.key)
+-- their tables, one behind the other
+abbrev pub tables_of : Plan → (ℕ → List Entry) → List ℕ
+tables_of plan totals = joined (map (λ query. table_of plan query (totals query)) (queries_of plan))
 
-abbrev pub ending_of_totals : Plan → List Entry → Ending
-ending_of_totals plan totals = ending_with (table_of plan 0 totals) (key_of_total (wide_total (kept_at plan 0) totals))
+-- the first of these queries with a total that is too wide, and the total's key
+abbrev pub wide_among : Plan → (ℕ → List Entry) → List ℕ → Option (ℕ × List ℕ)
+wide_among plan totals [] = None
+wide_among plan totals (query ∷ queries) =
+    option_or (option_map (λ entry. (query, entry.key)) (wide_total (kept_at plan query) (totals query)))
+    (wide_among plan totals queries)
+
+abbrev pub wide_of : Plan → (ℕ → List Entry) → Option (ℕ × List ℕ)
+wide_of plan totals = wide_among plan totals (queries_of plan)
+
+abbrev pub ending_of_totals : Plan → (ℕ → List Entry) → Ending
+ending_of_totals plan totals = ending_with (tables_of plan totals) (wide_of plan totals)
+
+-- where none is too wide, all totals can be told as rows of their tables
+abbrev pub CanBeTold : Plan → (ℕ → List Entry) → Type 0
+CanBeTold plan totals =
+    wide_of plan totals ≡ None
+    → (query : ℕ) → query < length (kept_in plan) → All (IsTold (kept_at plan query)) (totals query)
 
 -- ---- statuses
 

@@ -3,11 +3,14 @@ pub mod Calls
 pub mod PlanCalls
 pub mod Statuses
 pub mod Telling
+pub mod Tables
 pub mod Endings
 pub mod Tasks
 pub mod Doing
 pub mod QueryResults
 pub mod Posts
+pub mod Feeds
 pub mod Complete
 pub mod Made
 pub mod QueryConsumers
+pub mod Passing

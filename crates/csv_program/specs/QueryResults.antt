@@ -1,29 +1,47 @@
--- What the answers to the queries of a pass tell, where all partitions' rows are known.
+-- What the answers to the queries of a plan tell, where all partitions' rows are known.
 -- This project's own.
-use Rattle.std.specs.Prelude.{ℕ, ◌<◌, List, [], ◌∷◌, Option, map}
+use Rattle.std.specs.Prelude.{◌≡◌, ℕ, ◌%◌, ◌<◌, List, Option, length, map, slice_index_or}
 use Rattle.std.specs.List.{range_with_len}
 use Rattle.aggregate.specs.Totals.{Entry, total}
 use Rattle.spill_disk.specs.Files.{Files}
 use Rattle.run_file.specs.declared.run.Run.{Run}
-use Rattle.run_file.specs.Several.{concatenated}
+use Rattle.run_file.specs.Several.{concatenated, run_at}
+use Rattle.row_filter.specs.Derived.{derived}
+use Rattle.job_plan.specs.Columns.{Fields}
+use Rattle.job_plan.specs.Entries.{entry_of}
+use Rattle.job_plan.specs.Passes.{pass_datasets, queries_over}
+use Rattle.job_plan.specs.Plans.{chain_in, datasets_in, form_in, kept_at, kept_in, kind_at, passes_in, queries_in}
 use Rattle.job_plan.specs.declared.query_plan.Plan.{Plan}
 use Rattle.result_table.specs.Results.{HasResult}
-use Rattle.task_runner.specs.PassViews.{PassView, parts_of, queries_of}
-use Rattle.task_runner.specs.Queries.{kind_in, made_in}
+use Rattle.task_runner.specs.Parts.{HoldsRows}
 use Rattle.task_runner.specs.Workers.{answer_at}
 
--- the one pass of a plan of one query, over landed partitions
-abbrev pub alone_over : Plan → List Run → PassView
-alone_over plan parts = record { plan = plan; queries = 0 ∷ []; parts = parts; first = 0 }
+-- the passes of a plan are those of its queries' datasets, each with the queries over its dataset
+pub record HasPasses (plan : Plan) : Type 0 where
+  pub passes : passes_in plan ≡ pass_datasets (datasets_in plan)
+  pub queries : queries_in plan ≡ map (queries_over (datasets_in plan)) (pass_datasets (datasets_in plan))
 
--- all entries that a query of a pass makes of the partitions' rows, in their order
-abbrev pub entries_of_parts : PassView → (ℕ → List (List (List ℕ))) → ℕ → List Entry
-entries_of_parts pass rows query =
-    concatenated (map (λ part. made_in pass.plan pass.queries (rows part) query) (range_with_len 0 (parts_of pass)))
+-- the landed runs of the partitions stand with these rows, each on the disk of its worker
+abbrev pub HoldsParts : (ℕ → Option Files) → Plan → List Run → ℕ → (ℕ → List Fields) → Type 0
+HoldsParts files plan parts workers rows =
+    (part : ℕ) → part < length parts → HoldsRows (files (part % workers)) (form_in plan) (run_at parts part) (rows part)
 
--- the answer to each query is the run of what they come to, where there is any
-abbrev pub HaveResults : (ℕ → Option Files) → PassView → (ℕ → List (List (List ℕ))) → List (Option Run) → Type 0
-HaveResults files pass rows answers =
-    (i : ℕ) → i < queries_of pass
-    → HasResult files (kind_in pass.plan pass.queries i) (answer_at answers i)
-    (total (kind_in pass.plan pass.queries i) (entries_of_parts pass rows i))
+-- the dataset that a query is over
+abbrev pub dataset_in : Plan → ℕ → ℕ
+dataset_in plan query = slice_index_or (datasets_in plan) query 0
+
+-- the entries that a query makes of landed rows: of those of its dataset, in their order
+abbrev pub entries_over : Plan → ℕ → List Fields → List Entry
+entries_over plan query rows = map (entry_of (kept_at plan query)) (derived (chain_in plan) (dataset_in plan query) rows)
+
+-- what those of so many partitions come to, the partitions in order
+abbrev pub totals_of_parts : Plan → ℕ → (ℕ → List Fields) → ℕ → List Entry
+totals_of_parts plan partitions rows query =
+    total (kind_at plan query)
+    (concatenated (map (λ part. entries_over plan query (rows part)) (range_with_len 0 partitions)))
+
+-- the answer to each query is the run of its totals, where there are any
+abbrev pub HaveResults : (ℕ → Option Files) → Plan → (ℕ → List Entry) → List (Option Run) → Type 0
+HaveResults files plan totals answers =
+    (query : ℕ) → query < length (kept_in plan)
+    → HasResult files (kind_at plan query) (answer_at answers query) (totals query)

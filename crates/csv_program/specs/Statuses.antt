@@ -1,6 +1,7 @@
 -- The numbers of statuses, and what each kind of them says.
 -- This project's own.
-use Rattle.std.specs.Prelude.{ℕ, ⊤}
+use Rattle.std.specs.Prelude.{◌≡◌, ℕ, Option, Some, None, ⊤}
+use Rattle.aggregate.specs.Totals.{Entry}
 use Rattle.csv_program.specs.declared.outcome.Status.{Status}
 use Rattle.csv_program.specs.declared.outcome.Status.TheVariants as status
 use Rattle.csv_program.specs.declared.spill.SpillFault.{SpillFault}
@@ -60,6 +61,27 @@ IsOfTasks (status.DiskFault post) = ⊤
 IsOfTasks (status.Damaged post file kept found) = ⊤
 IsOfTasks status.NoMemory = ⊤
 IsOfTasks _ = ⊥
+
+-- the status may be that of a check of sums, before anything is printed
+abbrev pub IsOfSums : Status → Type 0
+IsOfSums (status.SumTooWide query key) = ⊤
+IsOfSums (status.DiskFault post) = ⊤
+IsOfSums (status.Damaged post file kept found) = ⊤
+IsOfSums status.NoMemory = ⊤
+IsOfSums _ = ⊥
+
+-- the status may be that of tables that couldn't be printed whole
+abbrev pub IsOfTables : Status → Type 0
+IsOfTables status.WriteFault = ⊤
+IsOfTables (status.DiskFault post) = ⊤
+IsOfTables (status.Damaged post file kept found) = ⊤
+IsOfTables status.NoMemory = ⊤
+IsOfTables _ = ⊥
+
+-- the status tells that this total of a query is too wide
+abbrev pub TellsWide : ℕ → Option Entry → Status → Type 0
+TellsWide query None s = ⊥
+TellsWide query (Some entry) s = s ≡ status.SumTooWide query entry.key
 
 -- the status is none of those that only words, a job's text or a heap call for
 abbrev pub IsJudged : Status → Type 0

@@ -1,6 +1,6 @@
 -- The tasks of a run in its journal.
 -- This project's own.
-use Rattle.std.specs.Prelude.{◌≡◌, ℕ, ◌%◌, ◌==◌, ◌≤◌, ◌<◌, List, [], ◌∷◌, AllPairs, Option, Some, None, nat_lt, if◌then◌else◌}
+use Rattle.std.specs.Prelude.{◌≡◌, ℕ, ◌+◌, ◌*◌, ◌%◌, ◌<◌, List, [], ◌∷◌, AllPairs, Option, Some, None, length, nat_lt, if◌then◌else◌}
 use Rattle.pool_ledger.specs.History.{begins, ends}
 use Rattle.pool_ledger.specs.Journal.{history_of}
 use Rattle.pool_ledger.specs.Sizes.{Sizes}
@@ -9,13 +9,24 @@ use Rattle.pool_ledger.specs.declared.entry.Entry.{Entry}
 use Rattle.pool_ledger.specs.declared.entry.Event.{Event}
 use Rattle.pool_ledger.specs.declared.entry.Event.TheVariants.{Begin}
 use Rattle.pool_laws.specs.Owners.{AreOwned}
+use Rattle.job_plan.specs.Passes.{pass_datasets}
+use Rattle.job_plan.specs.Plans.{datasets_of}
+use Rattle.job_text.specs.declared.job.Job.{Job}
 use Rattle.task_runner.specs.Works.{ShowsNoRoom}
 
--- the worker of a task: partition `p` is of worker `p % workers` and has the number `p`; the final task is of worker 0, and has
--- the number behind those of the partitions
-abbrev pub owner_of : ℕ → ℕ → ℕ → Option ℕ
-owner_of workers partitions task =
-    if nat_lt task partitions then Some (task % workers) else (if task == partitions then Some 0 else None)
+-- the worker of a task by its place in its pass: the task of partition `p` is of worker `p % workers`, and the final task, which
+-- stands behind those of the partitions, of worker 0
+abbrev pub worker_at : ℕ → ℕ → ℕ → ℕ
+worker_at workers partitions place = if nat_lt place partitions then place % workers else 0
+
+-- the worker of a task in so many passes over so many partitions: each pass has the tasks behind those of the pass before it
+abbrev pub owner_of : ℕ → ℕ → ℕ → ℕ → Option ℕ
+owner_of workers partitions passes task =
+    if nat_lt task (passes * (partitions + 1)) then Some (worker_at workers partitions (task % (partitions + 1))) else None
+
+-- how many passes the queries of a job make
+abbrev pub passes_of : Job → ℕ
+passes_of job = length (pass_datasets (datasets_of job))
 
 -- a task that an event begins, before those of later entries
 abbrev pub begun_by : Event → List ℕ → List ℕ
@@ -28,14 +39,15 @@ begun_in [] = []
 begun_in (entry ∷ entries) = begun_by entry.event (begun_in entries)
 
 -- each begin is of a task of the job, by its worker; a worker's tasks ascend; and each task that was begun was ended
-pub record FollowsPlan (workers partitions : ℕ) (journal : List Entry) : Type 0 where
-  pub owned : AreOwned (owner_of workers partitions) (history_of journal)
+pub record FollowsPlan (workers partitions passes : ℕ) (journal : List Entry) : Type 0 where
+  pub owned : AreOwned (owner_of workers partitions passes) (history_of journal)
   pub ascend : (worker : ℕ) → AllPairs (λ earlier later. earlier < later) (begun_in (entries_of worker journal))
   pub ended : (task : ℕ) → ends (history_of journal) task ≡ begins (history_of journal) task
 
--- each task was begun
-abbrev pub BeginsAll : ℕ → List Entry → Type 0
-BeginsAll partitions journal = (task : ℕ) → task ≤ partitions → begins (history_of journal) task ≡ 1
+-- each task of so many passes was begun
+abbrev pub BeginsAll : ℕ → ℕ → List Entry → Type 0
+BeginsAll partitions passes journal =
+    (task : ℕ) → task < passes * (partitions + 1) → begins (history_of journal) task ≡ 1
 
 -- want of room in the pool, by what the journal has of some worker: the last attempt of a task was granted less than it asked,
 -- and less than was asked for; and its end freed what it held

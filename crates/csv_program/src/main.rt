@@ -8,8 +8,9 @@ mod input;
 mod outcome;
 mod plan;
 mod pool;
-mod query;
+mod queries;
 mod spill;
+mod sums;
 mod table;
 #[cfg(test)]
 mod tests;

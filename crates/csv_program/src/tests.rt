@@ -1,4 +1,5 @@
 // Runs through the top call, against answers from outside.
+mod datasets;
 mod faults;
 mod generated;
 mod journals;

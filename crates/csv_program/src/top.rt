@@ -14,19 +14,20 @@ ghost use Rattle.task_runner.specs.Pass.{KeepsAll, states_at};
 ghost use Rattle.words.specs.Texts.{texts};
 ghost use Rattle.csv_program.specs.Calls.{ForNoRun, ForRun, IsRun, TellsCall, call_of};
 ghost use Rattle.csv_program.specs.Complete.{FailsNothing, GrantsAll, HasTasks};
-ghost use Rattle.csv_program.specs.Endings.{MayEndAs, Prints, Refuses, ending_of, partitions_of, printed_in, rows_read, status_of};
-ghost use Rattle.csv_program.specs.Posts.{AllTell, FeedsRows, place_in, post_faults, post_files};
+ghost use Rattle.csv_program.specs.Endings.{MayEndAs, Prints, Refuses, checked_for, ending_of, partitions_of, printed_in, status_of};
+ghost use Rattle.csv_program.specs.Feeds.{FeedsRun};
+ghost use Rattle.csv_program.specs.Posts.{AllTell, post_faults, post_files};
 ghost use Rattle.csv_program.specs.Statuses.{IsCut, IsDamaged, IsDamagedOn, IsDiskFault, IsJudged, IsNoRoom, IsUnlanded, MakesPool, WritesNothing};
-ghost use Rattle.csv_program.specs.Tasks.{BeginsAll, FollowsPlan, ShowsShort};
+ghost use Rattle.csv_program.specs.Tasks.{BeginsAll, FollowsPlan, ShowsShort, passes_of};
 
 use crate::asked::read_call;
 use crate::call::RunCall;
 use crate::input::land_on;
 use crate::outcome::{Outcome, Status, unpooled};
-use crate::query::run_query;
+use crate::queries::run_queries;
 use byte_io::{Sink, Source};
 use consumer_trait::Consumer;
-use job_answer::totals_tell_answers;
+use job_answer::{plans_derive_rows, totals_tell_queries};
 use landing::LandFault;
 use pool_laws::legal_journals_are_safe;
 use spill_disk::Disk;
@@ -102,29 +103,25 @@ fn run_job<X: Threads + Wait + Sync, S: Source, W: Sink, D: Disk + Send, C: Cons
     ensures none { IfNone result.setup (result.journal ≡ []) }
     ensures legal { IfSome result.setup (λ setup. IsLegal asked.now.pool (history_of result.journal)) }
     ensures tasks { IfSome result.setup (λ setup. (partitions : ℕ)
-        × HasTasks asked.now.pool.workers partitions result.status result.journal
+        × HasTasks asked.now.pool.workers partitions (passes_of asked.now.job) result.status result.journal
         × IfSome (S.left input.old) (λ bytes. partitions ≡ partitions_of asked.now bytes)) }
 
     // The posts.
     ensures fed { result.status ≡ Status.Done → IfSome (S.left input.old) (λ bytes.
         AllTell asked.now.pool.workers (post_files D.files posts.old) →
-        (worker : ℕ) → worker < asked.now.pool.workers → FeedsRows (states_at C.state posts.old.items worker)
-        (states_at C.state posts.new.items worker) (place_in asked.now.job) asked.now.part_rows
-        (rows_read asked.now bytes) asked.now.pool.workers worker) }
+        (worker : ℕ) → worker < asked.now.pool.workers → FeedsRun asked.now (checked_for asked.now bytes) worker
+        (states_at C.state posts.old.items worker) (states_at C.state posts.new.items worker)) }
     ensures others { (place : ℕ) → asked.now.pool.workers ≤ place
         → states_at C.state posts.new.items place ≡ states_at C.state posts.old.items place }
     ensures consumers { (place : ℕ) → KeepsConsumers (states_at C.state posts.old.items place)
         (states_at C.state posts.new.items place) }
     ensures files { KeepsAll (post_files D.files posts.old) (post_files D.files posts.new) }
 {
-    totals_tell_answers();
+    totals_tell_queries();
+    plans_derive_rows();
     match land_on(alloc, asked, input, posts) {
         Ok(landed) => {
-            // A job's plan has its one query.
-            if landed.plan.query_count() != 1 {
-                return unpooled(alloc, Status::NoMemory);
-            }
-            run_query::<D, D, C, W, Brand, X>(
+            run_queries::<D, D, C, W, Brand, X>(
                 rt,
                 alloc,
                 asked.pool,
@@ -140,13 +137,14 @@ fn run_job<X: Threads + Wait + Sync, S: Source, W: Sink, D: Disk + Send, C: Cons
 }
 
 /// Runs the job that the words ask for: lands the input on the disks of the workers' posts in partitions of 10,000 rows or as many
-/// as the words say, groups or orders each partition in a task of its worker, merges what the tasks spilled, and prints the table.
-/// The workers run at the same time, each in a thread of its own, and share one memory pool; the final task runs on this thread.
-/// Words are `run [OPTION..] JOB`, with options for the workers, the pool's sizes and the rows (the crate `words`); a job is the
-/// text of one query over the input that groups or orders.
+/// as the words say; goes over each dataset that queries name in a pass, in which a task of its worker groups and orders the
+/// dataset's rows of each partition, and a final task merges what the tasks spilled; and prints the tables. The workers of a pass
+/// run at the same time, each in a thread of its own, and share one memory pool; the final tasks run on this thread. Words are
+/// `run [OPTION..] JOB`, with options for the workers, the pool's sizes and the rows (the crate `words`); a job is a text of the
+/// language in which no dataset is kept.
 ///
 /// Worker `w` uses the post at place `w`, whose disk gets its partitions and its runs. Partitions stay, runs that were merged are
-/// removed, and the run that the table is printed from stays. Each post has sixteen consumers, of which the first eight serve
+/// removed, and the runs that tables are printed from stay. Each post has sixteen consumers, of which the first eight serve
 /// group queries and the others order queries. No block is cached yet, so the store disk isn't called.
 ///
 /// The pool and its journal are after Spark's unified memory manager, and the spills after its TaskMemoryManager; the job language
@@ -218,15 +216,16 @@ pub fn run<X: Threads + Wait + Sync, S: Source, W: Sink, D: Disk + Send, C: Cons
     ensures legal { IfSome result.setup (λ pool. IsLegal pool (history_of result.journal)) }
     ensures safe { IfSome result.setup (λ pool. IsSafeJournal pool result.journal) }
     ensures tasks { ForRun (call_of (length posts.old.items) (texts words.now)) (λ asked.
-        IfSome result.setup (λ setup. (partitions : ℕ) × HasTasks asked.pool.workers partitions result.status result.journal
+        IfSome result.setup (λ setup. (partitions : ℕ)
+        × HasTasks asked.pool.workers partitions (passes_of asked.job) result.status result.journal
         × IfSome (S.left input.old) (λ bytes. partitions ≡ partitions_of asked bytes))) }
 
     // The posts' consumers.
     ensures fed { result.status ≡ Status.Done →
         ForRun (call_of (length posts.old.items) (texts words.now)) (λ asked.
         IfSome (S.left input.old) (λ bytes. AllTell asked.pool.workers (post_files D.files posts.old) →
-        (worker : ℕ) → worker < asked.pool.workers → FeedsRows (states_at C.state posts.old.items worker)
-        (states_at C.state posts.new.items worker) (place_in asked.job) asked.part_rows (rows_read asked bytes) asked.pool.workers worker)) }
+        (worker : ℕ) → worker < asked.pool.workers → FeedsRun asked (checked_for asked bytes) worker
+        (states_at C.state posts.old.items worker) (states_at C.state posts.new.items worker))) }
     ensures others { ForRun (call_of (length posts.old.items) (texts words.now)) (λ asked.
         (place : ℕ) → asked.pool.workers ≤ place → states_at C.state posts.new.items place ≡ states_at C.state posts.old.items place) }
     ensures consumers { (place : ℕ) → KeepsConsumers (states_at C.state posts.old.items place) (states_at C.state posts.new.items place) }

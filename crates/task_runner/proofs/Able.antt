@@ -4,9 +4,10 @@ use Rattle.std.specs.Prelude.{All}
 use Rattle.consumer_trait.specs.States.{State}
 use Rattle.turn_lock.specs.Passes.{LockId, PassState}
 use Rattle.memory_lock.specs.Crew.{AreWorkers}
-use Rattle.task_runner.specs.AtOnce.{AllMayRun, IsPass, MayDoAll}
+use Rattle.task_runner.specs.AtOnce.{AllMayRun, MayDoAll}
 use Rattle.task_runner.specs.Consumers.{HasConsumers}
 use Rattle.task_runner.specs.PassViews.{PassView}
+use Rattle.task_runner.specs.Queries.{IsPass}
 use Rattle.task_runner.specs.Workers.{part_at}
 use Rattle.task_runner.specs.declared.post.Post.{Post}
 use Rattle.task_runner.proofs.OfPartitions.{worker_of}

@@ -1,5 +1,5 @@
 -- How far a worker has come with its tasks: none yet, one more, or some when one gave up.
-use Rattle.std.proofs.Common.{◌≡◌, ◌∙◌, ◌++◌, ◌+◌, ◌-◌, ◌<◌, ◌≤◌, ◌^◌, [], ℕ, suc, List, Option, min, refl, sym, ap, subst, inl, inr, arith}
+use Rattle.std.proofs.Common.{◌≡◌, ◌∙◌, ◌++◌, ◌+◌, ◌-◌, ◌<◌, ◌≤◌, ◌^◌, [], ℕ, suc, List, Option, length, min, refl, sym, ap, subst, inl, inr, arith}
 use Rattle.std.specs.Prelude.{Err}
 use Rattle.std.proofs.lemmas.List.{length-append}
 use Rattle.run_file.specs.declared.run.Run.{Run}
@@ -11,8 +11,7 @@ use Rattle.task_memory.proofs.Places.{less_or_not}
 use Rattle.task_memory.proofs.Sameness.{leaves_self, leaves_trans}
 use Rattle.job_plan.specs.Plans.{form_in}
 use Rattle.task_runner.specs.OneWorker.{DoesFirst, DoesOne, Scene, Stays}
-use Rattle.task_runner.specs.PassViews.{PassView, parts_of, queries_of, task_for}
-use Rattle.task_runner.specs.Queries.{FeedsAll}
+use Rattle.task_runner.specs.PassViews.{PassView, parts_of, queries_of, rows_over, task_for}
 use Rattle.task_runner.specs.Workers.{DoesSome, IfSound, IsCount, part_at, rows_to}
 use Rattle.task_runner.specs.Works.{MayWork}
 use Rattle.task_runner.specs.declared.work_fault.WorkFault.{WorkFault}
@@ -62,13 +61,14 @@ first_none pass workers start free = record {
   tells = λ rows hold. tell_none start.files pass workers start.worker.number rows;
   made = made_none start.files;
   only = only_none start.files;
-  fed = feeds_none start.states pass.plan pass.queries;
+  fed = record { count = 0; feeds = feeds_none start.states pass.plan pass.queries; known = λ rows hold. refl };
   works = does_none pass.first workers start.worker;
 }
 
-rows_more : (parts : List Run) (workers worker k : ℕ) → rows_to parts workers worker (suc k) ≡ rows_to parts workers worker k + (run_at parts (part_at workers worker k)).count
+rows_more : (pass : PassView) (workers worker : ℕ) (rows : ℕ → List (List (List ℕ))) (k : ℕ)
+    → rows_to pass workers worker rows (suc k) ≡ rows_to pass workers worker rows k + length (rows_over pass (rows (part_at workers worker k)))
 unfolding rows_to
-rows_more parts workers worker k = refl
+rows_more pass workers worker rows k = refl
 
 within_more : (workers worker partitions n : ℕ) → ((k : ℕ) → k < n → part_at workers worker k < partitions) → part_at workers worker n < partitions
     → (k : ℕ) → k < suc n → part_at workers worker k < partitions
@@ -89,8 +89,14 @@ first_more pass workers start now after tasks answers answers' found first some 
           (one.tells (rows part) (rows_kept start.files now.files (form_in pass.plan) (run_at pass.parts part) (rows part) first.stays.disk.kept (hold tasks below)));
       made = made_more start.files now.files answers found first.stays.disk.kept first.made one.made;
       only = only_more start.files now.files after.files answers found first.stays.disk.kept first.only one.only;
-      fed = subst (λ (n : ℕ). FeedsAll start.states after.states pass.plan pass.queries (λ _. n)) (sym (rows_more pass.parts workers number tasks))
-          (feeds_more start.states now.states after.states pass.plan pass.queries (rows_to pass.parts workers number tasks) (run_at pass.parts part).count first.fed one.fed);
+      fed = record {
+        count = first.fed.count + one.fed.count;
+        feeds = feeds_more start.states now.states after.states pass.plan pass.queries first.fed.count one.fed.count first.fed.feeds one.fed.feeds;
+        known = λ rows hold.
+            let before = first.fed.known rows hold in
+            let last = one.fed.known (rows part) (rows_kept start.files now.files (form_in pass.plan) (run_at pass.parts part) (rows part) first.stays.disk.kept (hold tasks below)) in
+            omega (arith, before, last, rows_more pass workers number rows tasks);
+      };
       works = does_more pass.first workers tasks start.worker now.worker after.worker first.stays.sees.number_is first.works one.works;
     })
   where

@@ -1,6 +1,6 @@
 -- Runs of a disk, and what a worker's answers tell of them, while further tasks make files.
-use Rattle.std.proofs.Common.{◌≡◌, ◌≢◌, ◌∙◌, ◌∷◌, ◌++◌, ◌+◌, ◌-◌, ◌*◌, ◌%◌, ◌/◌, ◌<◌, ◌≤◌, ◌⊎◌, [], ℕ, zero, suc, List, Option, Some, None, length, take, sym, ap, subst, inl, inr, arith}
-use Rattle.std.specs.Prelude.{IfSome, is_some, unwrap_or}
+use Rattle.std.proofs.Common.{◌≡◌, ◌≢◌, ◌∙◌, ◌∷◌, ◌++◌, ◌+◌, ◌-◌, ◌*◌, ◌%◌, ◌/◌, ◌<◌, ◌≤◌, ◌⊎◌, [], ℕ, zero, suc, List, Option, Some, None, length, refl, take, sym, ap, subst, inl, inr, arith}
+use Rattle.std.specs.Prelude.{IfSome, IsSome, is_some, unwrap_or}
 use Rattle.std.specs.FinMap as map
 use Rattle.std.proofs.Math.Nat.{mod-add-div', mod-lt, mul-le-mul_right}
 use Rattle.std.proofs.lemmas.Bool.{false≢true}
@@ -22,7 +22,7 @@ use Rattle.task_memory.proofs.Places.{less_or_not}
 use Rattle.task_memory.proofs.Sameness.{same_at_self, same_at_trans}
 use Rattle.task_runner.specs.PartAnswers.{AnswerParts, answer_place}
 use Rattle.task_runner.specs.Parts.{HoldsRows, IsMade}
-use Rattle.task_runner.specs.PassViews.{PassView, queries_of}
+use Rattle.task_runner.specs.PassViews.{PassView, queries_of, rows_over}
 use Rattle.task_runner.specs.Queries.{HaveAnswers, kind_in, made_in}
 use Rattle.task_runner.specs.Workers.{AreMade, HasAnswer, LeavesOnlyAnswers, answer_at, part_at}
 
@@ -74,6 +74,11 @@ not_fresh (Some files) kind run entries file h fresh same =
 stands_there : (files : Option Files) (run : Run) (rows : List (List (List ℕ))) → Stands files run rows → WasNotThere files run.file → ⊥
 stands_there None run rows stands gone = absurd stands
 stands_there (Some files) run rows stands gone = false≢true (sym (ap is_some gone) ∙ stands.0)
+
+-- and a disk on which one stands tells
+pub stands_shown : (files : Option Files) (run : Run) (rows : List (List (List ℕ))) → Stands files run rows → IsSome files
+stands_shown None run rows stands = absurd stands
+stands_shown (Some files) run rows stands = refl
 
 -- the files of runs that stand are there
 pub have_there : (files : Option Files) (kind : Option Kind) (runs : List Run) (entries : List Entry) (k : ℕ) → HaveEntries files kind runs entries → k < length runs → WasNotThere files (taken_at runs k).file → ⊥
@@ -182,7 +187,7 @@ same_task n k i tasks below from within = elim (less_or_not k tasks) [
 pub tell_more : (now after : Option Files) (pass : PassView) (workers worker tasks : ℕ) (rows : ℕ → List (List (List ℕ))) (answers found : List (Option Run))
     → 1 ≤ queries_of pass → length answers ≡ tasks * queries_of pass → length found ≡ queries_of pass
     → KeepsFiles now after → AnswerParts now pass workers worker rows answers → AreMade now found
-    → HaveAnswers after pass.plan pass.queries (made_in pass.plan pass.queries (rows (part_at workers worker tasks))) found → AnswerParts after pass workers worker rows (answers ++ found)
+    → HaveAnswers after pass.plan pass.queries (made_in pass.plan pass.queries (rows_over pass (rows (part_at workers worker tasks)))) found → AnswerParts after pass workers worker rows (answers ++ found)
 tell_more now after pass workers worker tasks rows answers found some many more kept tells made last =
     record {
       each = λ k i within below. each k i within below (less_or_not (place k i) (length answers));
@@ -202,7 +207,7 @@ tell_more now after pass workers worker tasks rows answers found some many more 
     kind i = kind_in pass.plan pass.queries i
 
     entries : ℕ → ℕ → List Entry
-    entries k i = made_in pass.plan pass.queries (rows (part_at workers worker k)) i
+    entries k i = made_in pass.plan pass.queries (rows_over pass (rows (part_at workers worker k))) i
 
     each : (k i : ℕ) → i < n → place k i < length (answers ++ found) → (place k i < length answers) ⊎ (length answers ≤ place k i)
         → HasAnswer after (kind i) (answer_at (answers ++ found) (place k i)) (entries k i)

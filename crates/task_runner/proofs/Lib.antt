@@ -22,6 +22,7 @@ mod Behind
 mod Feeds
 mod MoreRows
 mod Fields
+mod Derivation
 mod Drains
 mod DrainedAll
 mod Starts

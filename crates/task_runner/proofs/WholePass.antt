@@ -18,14 +18,15 @@ use Rattle.memory_lock.specs.Crew.{AreWorkers}
 use Rattle.consumer_trait.specs.States.{State}
 use Rattle.task_runner.specs.AllWorkers.{Finished, Reached, answers_of, files_of, states_of}
 use Rattle.task_runner.specs.Consumers.{KeepsConsumers}
+use Rattle.task_runner.specs.FedParts.{FeedsFirst}
 use Rattle.task_runner.specs.Gathered.{answer_for, gathered}
 use Rattle.task_runner.specs.PartAnswers.{AnswerParts, HoldsAll, HoldsOwn, answer_place}
 use Rattle.task_runner.specs.Parts.{IsMade}
 use Rattle.task_runner.specs.Pass.{AnswerAllParts, AnswerEachPart, FeedsParts, LeavesOnlyRuns}
-use Rattle.task_runner.specs.PassViews.{PassView, parts_of, queries_of}
-use Rattle.task_runner.specs.Queries.{FeedsAll, kind_in, made_in}
+use Rattle.task_runner.specs.PassViews.{PassView, parts_of, queries_of, rows_over}
+use Rattle.task_runner.specs.Queries.{kind_in, made_in}
 use Rattle.task_runner.specs.RunsApart.{AllOfLists, AreAllApart, IsFileOfLists}
-use Rattle.task_runner.specs.Workers.{AnswersApart, HasAnswer, IsCount, answer_at, part_at, rows_to}
+use Rattle.task_runner.specs.Workers.{AnswersApart, HasAnswer, IsCount, answer_at, part_at}
 use Rattle.task_runner.specs.declared.post.Post.{Post}
 use Rattle.task_runner.proofs.Gathers.{gathered_among, gathered_apart, gathered_few, gathered_have, gathered_new, gathered_on, gathered_small, queries_apart}
 use Rattle.task_runner.proofs.Idle.{keeps_consumers}
@@ -89,15 +90,18 @@ module _ {D C : Type 0} (state : C → State) (files : D → Option Files) (work
       subst (λ (m : ℕ). AnswerParts (after w) pass workers m rows (answers_of all w)) number
       ((done.each w any below).tells rows (subst (λ (m : ℕ). HoldsOwn (before w) pass workers m rows) (sym number) own))
 
-  -- each worker's consumers were fed the rows of all of its partitions
-  pub feeds_parts : (w : ℕ) → w < workers → FeedsParts (states_of state (slice_get posts w)) (states_of state (slice_get posts' w)) pass workers w
+  -- each worker's consumers were fed the dataset's rows of all of its partitions
+  pub feeds_parts : (w : ℕ) → w < workers → FeedsParts (states_of state (slice_get posts w)) (states_of state (slice_get posts' w)) (before w) pass workers w
   feeds_parts w below =
       let number = (are.1 w any below).number_is in
       let one = done.each w any below in
+      let fed = subst (λ (m : ℕ). FeedsFirst (states_of state (slice_get posts w)) (states_of state (slice_get posts' w)) (before w) pass workers m (tasks_of w below)) number one.feeds in
       record {
-        count = tasks_of w below;
+        tasks = tasks_of w below;
         all = counts_of w below;
-        feeds = subst (λ (m : ℕ). FeedsAll (states_of state (slice_get posts w)) (states_of state (slice_get posts' w)) pass.plan pass.queries (λ _. rows_to pass.parts workers m (tasks_of w below))) number one.feeds;
+        count = fed.count;
+        feeds = fed.feeds;
+        known = fed.known;
       }
 
   module _ (size : ℕ) (lists : List (List Run)) (same : size ≡ workers) (count : length lists ≡ n) (is : (i : ℕ) → i < n → runs_at lists i ≡ gathered n i all size (parts_of pass)) where
@@ -148,10 +152,10 @@ module _ {D C : Type 0} (state : C → State) (files : D → Option Files) (work
         record {
           each = λ i query.
               let kind = kind_in pass.plan pass.queries i in
-              let have = gathered_have after kind (λ part. made_in pass.plan pass.queries (rows part) i) n i all workers (parts_of pass)
+              let have = gathered_have after kind (λ part. made_in pass.plan pass.queries (rows_over pass (rows part)) i) n i all workers (parts_of pass)
               (λ part below.
               let known : part % workers < workers = mod-lt part (omega (arith, some)) in
-              subst (λ (p : ℕ). HasAnswer (after (part % workers)) kind (answer_for n i all workers part) (made_in pass.plan pass.queries (rows p) i)) (part_is workers part)
+              subst (λ (p : ℕ). HasAnswer (after (part % workers)) kind (answer_for n i all workers part) (made_in pass.plan pass.queries (rows_over pass (rows p)) i)) (part_is workers part)
               ((tells (part % workers) known).each (part / workers) i query (place_within part i below query))) in
               subst (λ (runs : List Run). AnswerEachPart after pass i rows runs) (sym (list_is i query)) (record { lists = have.lists; have = have.have; same = have.same });
           apart = apart;

@@ -9,10 +9,10 @@ use Rattle.turn_lock.specs.Passes.{PassState}
 use Rattle.memory_lock.specs.Workers.{IsFree, KeepsPin, SeesMore}
 use Rattle.consumer_trait.specs.States.{State}
 use Rattle.task_runner.specs.Consumers.{KeepsConsumers}
+use Rattle.task_runner.specs.FedParts.{FeedsFirst}
 use Rattle.task_runner.specs.PartAnswers.{AnswerParts, HoldsOwn}
 use Rattle.task_runner.specs.PassViews.{PassView, parts_of, queries_of}
-use Rattle.task_runner.specs.Queries.{FeedsAll}
-use Rattle.task_runner.specs.Workers.{AreMade, DoesSome, DoesTasks, IsCount, LeavesOnlyAnswers, rows_to}
+use Rattle.task_runner.specs.Workers.{AreMade, DoesSome, DoesTasks, IsCount, LeavesOnlyAnswers}
 use Rattle.task_runner.specs.declared.post.Post.{Post}
 use Rattle.task_runner.specs.declared.work_fault.WorkFault.{WorkFault}
 use Rattle.task_runner.specs.declared.work_fault.WorkFault.TheVariants.{NoRoom, DiskFault, Damaged, NoMemory}
@@ -54,7 +54,7 @@ pub record Finishes {D C : Type 0} (state : C → State) (files : D → Option F
   pub tasks : ℕ
   pub count : IsCount workers before.number (parts_of pass) tasks
   pub many : length answers ≡ tasks * queries_of pass
-  pub feeds : FeedsAll (states_of state post) (states_of state post') pass.plan pass.queries (λ _. rows_to pass.parts workers before.number tasks)
+  pub feeds : FeedsFirst (states_of state post) (states_of state post') (files_of files post) pass workers before.number tasks
   pub does : DoesTasks pass.first workers tasks before after
   pub made : AreMade (files_of files post) answers
   pub only : LeavesOnlyAnswers (files_of files post) (files_of files post') answers

@@ -1,6 +1,6 @@
 -- The workers of a pass at the same time: what each may do at its post, what it did there, and what all of them answered.
 -- This project's own.
-use Rattle.std.specs.Prelude.{◌≡◌, ℕ, ◌+◌, ◌*◌, ◌%◌, ◌^◌, ◌<◌, ◌≤◌, ◌⊎◌, All, List, Option, Some, None, Result, Ok, Err, IfOk, false, length, map, slice_get, slice_index_or, ⊤}
+use Rattle.std.specs.Prelude.{◌≡◌, ℕ, ◌%◌, ◌^◌, ◌<◌, ◌⊎◌, List, Option, Some, None, Result, Ok, Err, IfOk, false, length, map, slice_get, slice_index_or, ⊤}
 use Rattle.std.specs.Global.{Vec}
 use Rattle.consumer_trait.specs.States.{State}
 use Rattle.pool_ledger.specs.History.{was_begun}
@@ -9,14 +9,12 @@ use Rattle.spill_disk.specs.Files.{Files}
 use Rattle.run_file.specs.declared.run.Run.{Run}
 use Rattle.turn_lock.specs.Passes.{LockId, PassState}
 use Rattle.memory_lock.specs.Workers.{IsFree, own_of}
-use Rattle.job_plan.specs.Planning.{columns_of}
-use Rattle.job_plan.specs.Plans.{form_in}
 use Rattle.task_runner.specs.AllWorkers.{Finishes, Leaves, answers_of}
 use Rattle.task_runner.specs.Answers.{HasCauseAmong, NamesPost}
 use Rattle.task_runner.specs.Consumers.{HasConsumers}
 use Rattle.task_runner.specs.PartAnswers.{HoldsOwn}
 use Rattle.task_runner.specs.PassViews.{PassView, parts_of, task_for}
-use Rattle.task_runner.specs.Queries.{AreQueries}
+use Rattle.task_runner.specs.Queries.{IsPass}
 use Rattle.task_runner.specs.Workers.{IfSound, part_at}
 use Rattle.task_runner.specs.Works.{IfNoRoom, ShowsNoRoom}
 use Rattle.task_runner.specs.declared.post.Post.{Post}
@@ -24,13 +22,6 @@ use Rattle.task_runner.specs.declared.work_fault.WorkFault.{WorkFault}
 use Rattle.task_runner.specs.declared.work_fault.WorkFault.TheVariants.{NoMemory}
 
 -- ---- one worker at its post
-
--- the queries, the partitions and the tasks of a pass are those of its plan
-pub record IsPass (pass : PassView) : Type 0 where
-  pub queries : AreQueries pass.plan pass.queries
-  pub few : parts_of pass ≤ 10000000
-  pub numbered : task_for pass (parts_of pass) < 2 ^ 32
-  pub short : All (λ run. run.greatest ≤ 36 + 4 * columns_of (form_in pass.plan) + 65536) pass.parts
 
 -- the worker of this place may do its tasks at this post: it has no task, owns those of its partitions, and began none of them
 pub record MayRun {D C : Type 0} (state : C → State) (lock : LockId) (owner : ℕ → Option ℕ) (workers : ℕ) (pass : PassView) (place : ℕ) (worker : PassState) (post : Post D C) : Type 0 where

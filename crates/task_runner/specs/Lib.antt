@@ -10,6 +10,7 @@ pub mod Spilling
 pub mod Workers
 pub mod Queries
 pub mod PartAnswers
+pub mod FedParts
 pub mod OneWorker
 pub mod RunsApart
 pub mod Pass

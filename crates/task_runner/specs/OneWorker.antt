@@ -9,11 +9,12 @@ use Rattle.consumer_trait.specs.States.{State}
 use Rattle.task_memory.specs.Disks.{LeavesDisk}
 use Rattle.job_plan.specs.Plans.{form_in}
 use Rattle.task_runner.specs.Consumers.{KeepsConsumers}
+use Rattle.task_runner.specs.FedParts.{FeedsFirst, FeedsPart}
 use Rattle.task_runner.specs.PartAnswers.{AnswerParts, HoldsOwn}
 use Rattle.task_runner.specs.Parts.{HoldsRows}
-use Rattle.task_runner.specs.PassViews.{PassView, parts_of, queries_of, task_for}
-use Rattle.task_runner.specs.Queries.{FeedsAll, HaveAnswers, made_in}
-use Rattle.task_runner.specs.Workers.{AreMade, DoesTasks, LeavesOnlyAnswers, part_at, rows_to}
+use Rattle.task_runner.specs.PassViews.{PassView, parts_of, queries_of, rows_over, task_for}
+use Rattle.task_runner.specs.Queries.{HaveAnswers, made_in}
+use Rattle.task_runner.specs.Workers.{AreMade, DoesTasks, LeavesOnlyAnswers, part_at}
 use Rattle.task_runner.specs.Works.{Works}
 
 -- a worker, the consumers of its post, and the files and the count of faults of its post's disk
@@ -40,10 +41,10 @@ pub record DoesOne (pass : PassView) (landed : Run) (part : ℕ) (before after :
   pub stays : Stays before after
   pub count : length found ≡ queries_of pass
   pub tells : (rows : List (List (List ℕ))) → HoldsRows before.files (form_in pass.plan) landed rows
-      → HaveAnswers after.files pass.plan pass.queries (made_in pass.plan pass.queries rows) found
+      → HaveAnswers after.files pass.plan pass.queries (made_in pass.plan pass.queries (rows_over pass rows)) found
   pub made : AreMade before.files found
   pub only : LeavesOnlyAnswers before.files after.files found
-  pub fed : FeedsAll before.states after.states pass.plan pass.queries (λ _. landed.count)
+  pub fed : FeedsPart before.states after.states before.files pass landed
   pub works : Works (task_for pass part) before.worker after.worker
 
 -- one task was done, and its answers stand behind the others
@@ -60,5 +61,5 @@ pub record DoesFirst (pass : PassView) (workers : ℕ) (start now : Scene) (task
       → AnswerParts now.files pass workers start.worker.number rows answers
   pub made : AreMade start.files answers
   pub only : LeavesOnlyAnswers start.files now.files answers
-  pub fed : FeedsAll start.states now.states pass.plan pass.queries (λ _. rows_to pass.parts workers start.worker.number tasks)
+  pub fed : FeedsFirst start.states now.states start.files pass workers start.worker.number tasks
   pub works : DoesTasks pass.first workers tasks start.worker now.worker

@@ -6,7 +6,7 @@ use Rattle.run_file.specs.declared.run.Run.{Run}
 use Rattle.run_file.specs.Several.{run_at}
 use Rattle.job_plan.specs.Plans.{form_in}
 use Rattle.task_runner.specs.Parts.{HoldsRows}
-use Rattle.task_runner.specs.PassViews.{PassView, parts_of, queries_of}
+use Rattle.task_runner.specs.PassViews.{PassView, parts_of, queries_of, rows_over}
 use Rattle.task_runner.specs.Queries.{kind_in, made_in}
 use Rattle.task_runner.specs.Workers.{AnswersApart, HasAnswer, answer_at, part_at}
 
@@ -25,9 +25,9 @@ abbrev pub HoldsAll : (ℕ → Option Files) → PassView → ℕ → (ℕ → L
 HoldsAll files pass workers rows =
     (part : ℕ) → part < parts_of pass → HoldsRows (files (part % workers)) (form_in pass.plan) (run_at pass.parts part) (rows part)
 
--- a worker's answers tell what each query makes of the rows of its partitions, in files of their own; and no damage is found
+-- a worker's answers tell what each query makes of the dataset's rows of its partitions, in files of their own; and no damage is found
 pub record AnswerParts (files : Option Files) (pass : PassView) (workers worker : ℕ) (rows : ℕ → List (List (List ℕ))) (answers : List (Option Run)) : Type 0 where
   pub each : (k i : ℕ) → i < queries_of pass → answer_place (queries_of pass) k i < length answers
       → HasAnswer files (kind_in pass.plan pass.queries i) (answer_at answers (answer_place (queries_of pass) k i))
-      (made_in pass.plan pass.queries (rows (part_at workers worker k)) i)
+      (made_in pass.plan pass.queries (rows_over pass (rows (part_at workers worker k))) i)
   pub apart : AnswersApart answers

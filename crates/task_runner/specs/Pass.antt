@@ -10,7 +10,8 @@ use Rattle.run_file.specs.Several.{HaveEntries, KeepsFile, concatenated}
 use Rattle.consumer_trait.specs.States.{State}
 use Rattle.task_memory.specs.Disks.{SameAt}
 use Rattle.task_memory.specs.Writing.{WasNotThere}
-use Rattle.task_runner.specs.PassViews.{PassView, parts_of, queries_of}
+use Rattle.task_runner.specs.PartAnswers.{HoldsOwn}
+use Rattle.task_runner.specs.PassViews.{PassView, parts_of, queries_of, rows_over}
 use Rattle.task_runner.specs.Queries.{FeedsAll, kind_in, made_in}
 use Rattle.task_memory.specs.RunLists.{runs_at}
 use Rattle.task_runner.specs.RunsApart.{AllOfLists, AreAllApart, IsFileOfLists}
@@ -21,20 +22,23 @@ use Rattle.task_runner.specs.declared.post.Post.{Post}
 abbrev pub states_at : {D C : Type 0} → (C → State) → List (Post D C) → ℕ → List State
 states_at state posts worker = option_map_or (λ post. map state post.consumers.items) (slice_get posts worker) []
 
--- the consumer of each query at a worker's post was fed all rows of the worker's partitions, and no other was fed
-pub record FeedsParts (states states' : List State) (pass : PassView) (workers worker : ℕ) : Type 0 where
+-- the consumer of each query at a worker's post was fed as many entries as the other queries', and no other was fed; where the landed
+-- rows are known, one for each row of the dataset in all of the worker's partitions
+pub record FeedsParts (states states' : List State) (files : Option Files) (pass : PassView) (workers worker : ℕ) : Type 0 where
+  pub tasks : ℕ
+  pub all : IsCount workers worker (parts_of pass) tasks
   pub count : ℕ
-  pub all : IsCount workers worker (parts_of pass) count
-  pub feeds : FeedsAll states states' pass.plan pass.queries (λ _. rows_to pass.parts workers worker count)
+  pub feeds : FeedsAll states states' pass.plan pass.queries (λ _. count)
+  pub known : (rows : ℕ → List (List (List ℕ))) → HoldsOwn files pass workers worker rows → count ≡ rows_to pass workers worker rows tasks
 
--- the runs have what a query makes of the rows of the partitions, each partition by itself, in order
+-- the runs have what a query makes of the dataset's rows of the partitions, each partition by itself, in order
 pub record AnswerEachPart (files : ℕ → Option Files) (pass : PassView) (query : ℕ) (rows : ℕ → List (List (List ℕ))) (runs : List Run) : Type 0 where
   pub lists : List (List Entry)
   pub have : HaveEntries files (kind_in pass.plan pass.queries query) runs lists
-  pub same : concatenated lists ≡ concatenated (map (λ part. total (kind_in pass.plan pass.queries query) (made_in pass.plan pass.queries (rows part) query))
+  pub same : concatenated lists ≡ concatenated (map (λ part. total (kind_in pass.plan pass.queries query) (made_in pass.plan pass.queries (rows_over pass (rows part)) query))
       (range_with_len 0 (parts_of pass)))
 
--- the runs of each query have what it makes of the partitions' rows; no two of all are one file of one disk
+-- the runs of each query have what it makes of the dataset's rows of the partitions; no two of all are one file of one disk
 pub record AnswerAllParts (files : ℕ → Option Files) (pass : PassView) (rows : ℕ → List (List (List ℕ))) (lists : List (List Run)) : Type 0 where
   pub each : (i : ℕ) → i < queries_of pass → AnswerEachPart files pass i rows (runs_at lists i)
   pub apart : AreAllApart (λ disk. disk) lists

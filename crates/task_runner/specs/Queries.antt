@@ -1,6 +1,6 @@
 -- The queries of a pass, each with a consumer of its own, and the runs that a task answers, one for each.
 -- This project's own.
-use Rattle.std.specs.Prelude.{◌≡◌, ◌≢◌, ℕ, ◌≤◌, ◌<◌, List, Option, Result, length, slice_index}
+use Rattle.std.specs.Prelude.{◌≡◌, ◌≢◌, ℕ, ◌+◌, ◌*◌, ◌^◌, ◌≤◌, ◌<◌, All, List, Option, Result, length, slice_index}
 use Rattle.std.specs.Global.{Vec}
 use Rattle.aggregate.specs.Totals.{Entry}
 use Rattle.aggregate.specs.declared.kind.Kind.{Kind}
@@ -8,9 +8,12 @@ use Rattle.consumer_trait.specs.Members.{state_at}
 use Rattle.consumer_trait.specs.States.{State}
 use Rattle.run_file.specs.declared.run.Run.{Run}
 use Rattle.spill_disk.specs.Files.{Files}
-use Rattle.job_plan.specs.Plans.{kept_in, kind_at}
+use Rattle.row_filter.specs.Chains.{links_of}
+use Rattle.job_plan.specs.Planning.{columns_of}
+use Rattle.job_plan.specs.Plans.{chain_in, form_in, kept_in, kind_at}
 use Rattle.job_plan.specs.declared.query_plan.Plan.{Plan}
 use Rattle.task_runner.specs.Consumers.{fed_after, place_of}
+use Rattle.task_runner.specs.PassViews.{PassView, parts_of, task_for}
 use Rattle.task_runner.specs.Parts.{entries_in}
 use Rattle.task_runner.specs.Workers.{AnswersApart, HasAnswer, IfSound, answer_at}
 use Rattle.task_runner.specs.declared.work_fault.WorkFault.{WorkFault}
@@ -20,6 +23,14 @@ pub record AreQueries (plan : Plan) (queries : List ℕ) : Type 0 where
   pub some : 1 ≤ length queries
   pub few : length queries ≤ 8
   pub known : (i : ℕ) → i < length queries → slice_index queries i < length (kept_in plan)
+
+-- the dataset, the queries, the partitions and the tasks of a pass are those of its plan
+pub record IsPass (pass : PassView) : Type 0 where
+  pub there : pass.dataset ≤ length (links_of (chain_in pass.plan))
+  pub queries : AreQueries pass.plan pass.queries
+  pub few : parts_of pass ≤ 10000000
+  pub numbered : task_for pass (parts_of pass) < 2 ^ 32
+  pub short : All (λ run. run.greatest ≤ 36 + 4 * columns_of (form_in pass.plan) + 65536) pass.parts
 
 -- the kind of the query at a place of the pass
 abbrev pub kind_in : Plan → List ℕ → ℕ → Kind

@@ -1,15 +1,16 @@
 -- A worker's tasks in a pass: with so many workers, those of worker `w` are for the partitions w, w + workers and so on.
 -- This project's own.
-use Rattle.std.specs.Prelude.{◌≡◌, ◌≢◌, ℕ, zero, suc, ◌+◌, ◌*◌, ◌<◌, List, [], ◌++◌, Option, Some, None, Result, Ok, Err, IfSome, slice_index_or, ⊤}
+use Rattle.std.specs.Prelude.{◌≡◌, ◌≢◌, ℕ, zero, suc, ◌+◌, ◌*◌, ◌<◌, List, [], ◌++◌, Option, Some, None, Result, Ok, Err, IfSome, length, slice_index_or, ⊤}
 use Rattle.aggregate.specs.Totals.{Entry, total}
 use Rattle.aggregate.specs.declared.kind.Kind.{Kind}
 use Rattle.pool_ledger.specs.declared.entry.Entry.{Entry as JournalEntry}
 use Rattle.spill_disk.specs.Files.{Files}
 use Rattle.run_file.specs.declared.run.Run.{Run}
-use Rattle.run_file.specs.Several.{HasEntries, run_at}
+use Rattle.run_file.specs.Several.{HasEntries}
 use Rattle.task_memory.specs.Disks.{SameAt}
 use Rattle.turn_lock.specs.Passes.{PassState}
 use Rattle.memory_lock.specs.Workers.{own_entries}
+use Rattle.task_runner.specs.PassViews.{PassView, rows_over}
 use Rattle.task_runner.specs.Parts.{IsMade}
 use Rattle.task_runner.specs.Works.{IsTaskOf}
 use Rattle.task_runner.specs.declared.work_fault.WorkFault.{WorkFault}
@@ -24,10 +25,10 @@ pub record IsCount (workers worker partitions count : ℕ) : Type 0 where
   pub within : (k : ℕ) → k < count → part_at workers worker k < partitions
   pub covers : (k : ℕ) → part_at workers worker k < partitions → k < count
 
--- how many rows the first of a worker's partitions have
-unfoldable pub rows_to : List Run → ℕ → ℕ → ℕ → ℕ
-rows_to parts workers worker zero = 0
-rows_to parts workers worker (suc k) = rows_to parts workers worker k + (run_at parts (part_at workers worker k)).count
+-- how many rows of the pass's dataset the first of a worker's partitions have, where these have the landed rows
+unfoldable pub rows_to : PassView → ℕ → ℕ → (ℕ → List (List (List ℕ))) → ℕ → ℕ
+rows_to pass workers worker rows zero = 0
+rows_to pass workers worker rows (suc k) = rows_to pass workers worker rows k + length (rows_over pass (rows (part_at workers worker k)))
 
 -- ---- journal entries
 

@@ -42,18 +42,20 @@ pub(crate) fn run_at_once<
         workers.new.items posts.old.items posts.new.items answers.new.items }
 {
     // What the threads share: a pass with a model isn't known to be shared by them.
-    let (plan, queries, parts, first) = (pass.plan, pass.queries, pass.parts, pass.first);
+    let (plan, queries, parts) = (pass.plan, pass.queries, pass.parts);
+    let (dataset, first) = (pass.dataset, pass.first);
     let run = |place: usize, worker: &mut Worker<B>, post: &mut Post<D, C>| -> Result<
         Vec<Option<Run>>,
         WorkFault,
     >
         requires { MayRun C.state executor.now.manager.now B.owner count
-            (pass_with plan.now queries.now parts.now first) place worker.old post.old }
+            (pass_with plan.now dataset queries.now parts.now first) place worker.old post.old }
         ensures { Ran C.state D.files D.faults B.sizes count
-            (pass_with plan.entry.now queries.entry.now parts.entry.now first) place worker.old worker.new post.old post.new result }
+            (pass_with plan.entry.now dataset queries.entry.now parts.entry.now first) place worker.old worker.new post.old post.new result }
     {
         let pass = Pass {
             plan,
+            dataset,
             queries,
             parts,
             first,

@@ -8,9 +8,10 @@ ghost use Rattle.spill_disk.specs.Shelves.{disk_at};
 ghost use Rattle.turn_lock.specs.Passes.{PassState};
 ghost use Rattle.task_runner.specs.AllWorkers.{Finished, Reached};
 ghost use Rattle.task_runner.specs.Answers.{HasCauseAmong, NamesSomePost};
-ghost use Rattle.task_runner.specs.AtOnce.{IsPass, MayDoAll};
+ghost use Rattle.task_runner.specs.AtOnce.{MayDoAll};
 ghost use Rattle.task_runner.specs.Consumers.{HasConsumers};
 ghost use Rattle.task_runner.specs.PartAnswers.{HoldsAll};
+ghost use Rattle.task_runner.specs.Queries.{IsPass};
 ghost use Rattle.task_runner.specs.Workers.{IfSound};
 ghost use Rattle.task_runner.specs.Works.{IfNoRoom, ShowsNoRoom};
 

@@ -5,6 +5,7 @@ mod answers;
 mod aside;
 mod asking;
 mod at_once;
+mod dataset_rows;
 mod each_worker;
 mod executor;
 mod feeding;

@@ -6,9 +6,9 @@ ghost use Rattle.run_file.specs.Shelved.{KeepsShelf, faults_on, files_on};
 ghost use Rattle.task_memory.specs.RunLists.{lists_of};
 ghost use Rattle.task_pool.specs.Pools.{Goes, IsAtWork};
 ghost use Rattle.task_runner.specs.Answers.{HasCauseAmong};
-ghost use Rattle.task_runner.specs.AtOnce.{IsPass};
 ghost use Rattle.task_runner.specs.Finals.{AreMergedTo, HaveLists, IsTwoReaders, KeepsOtherFiles, LeavesOnlyMerged, MergeTotals, NamesRunOfLists};
 ghost use Rattle.task_runner.specs.PassViews.{queries_of};
+ghost use Rattle.task_runner.specs.Queries.{IsPass};
 ghost use Rattle.task_runner.specs.RunsApart.{AllOfLists, AreAllApart};
 ghost use Rattle.task_runner.specs.Works.{IfNoRoom, IsRefused};
 

@@ -4,12 +4,14 @@ use job_plan::Plan;
 use run_file::Run;
 use std::marker::Model;
 
-/// What the workers of a pass do: the queries that they serve, over the landed partitions of the input. The task of partition `p`
-/// has the number `first + p`.
+/// What the workers of a pass do: the queries that they serve, over a dataset's rows of the landed partitions of the input. The task
+/// of partition `p` has the number `first + p`.
 #[derive(Drop)]
 pub struct Pass<'a> {
-    /// The plan that the queries are of.
+    /// The plan that the dataset and the queries are of.
     pub plan: &'a Plan,
+    /// The dataset whose rows they are over; 0 is the input.
+    pub dataset: u32,
     /// The queries, in their order: one to eight.
     pub queries: &'a [u32],
     /// The landed runs of the partitions, in order.
@@ -29,6 +31,7 @@ impl<'a> Model for Pass<'a> {
 
     ghost view = { λ pass. record {
       plan = pass.plan.now;
+      dataset = pass.dataset;
       queries = pass.queries.now;
       parts = pass.parts.now;
       first = pass.first;

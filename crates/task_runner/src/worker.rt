@@ -6,12 +6,12 @@ ghost use Rattle.memory_lock.specs.Workers.{IsFree, own_of};
 ghost use Rattle.run_file.specs.Several.{run_at};
 ghost use Rattle.job_plan.specs.Plans.{form_in};
 ghost use Rattle.task_runner.specs.Answers.{HasCauseAmong};
-ghost use Rattle.task_runner.specs.AtOnce.{IsPass};
 ghost use Rattle.task_runner.specs.Consumers.{HasConsumers};
 ghost use Rattle.task_runner.specs.OneWorker.{AddsOne, DoesFirst, Stays, scene_of};
 ghost use Rattle.task_runner.specs.PartAnswers.{HoldsOwn};
 ghost use Rattle.task_runner.specs.Parts.{HoldsRows};
 ghost use Rattle.task_runner.specs.PassViews.{parts_of, task_for};
+ghost use Rattle.task_runner.specs.Queries.{IsPass};
 ghost use Rattle.task_runner.specs.Workers.{DoesSome, IfSound, IsCount, part_at};
 ghost use Rattle.task_runner.specs.Works.{IfNoRoom, MayWork, ShowsNoRoom};
 
@@ -57,17 +57,7 @@ fn next_task<K: Disk, D: Disk, C: Consumer, B: Basis, R: Wait>(
         (own_of worker.new) (task_for pass.now part) asked held floor) }
     ensures cause { HasCauseAmong (λ _. D.faults post.old.disk) (λ _. D.faults post.new.disk) result }
 {
-    let number = part as u32 + pass.first;
-    let landed = &pass.parts[part];
-    let mut found = run_task(
-        executor,
-        worker,
-        pass.plan,
-        pass.queries,
-        landed,
-        post,
-        number,
-    )?;
+    let mut found = run_task(executor, worker, pass, part as u32, post)?;
     match answers.append(&mut found) {
         Ok(()) => Ok(()),
         Err(_) => Err(WorkFault::NoMemory),

@@ -8,11 +8,12 @@ ghost use Rattle.spill_disk.specs.Shelves.{disk_at};
 ghost use Rattle.task_memory.specs.RunLists.{lists_of, runs_at};
 ghost use Rattle.turn_lock.specs.Passes.{PassState};
 ghost use Rattle.task_runner.specs.Answers.{HasCauseAmong, NamesSomePost};
-ghost use Rattle.task_runner.specs.AtOnce.{IsPass, MayDoAll};
+ghost use Rattle.task_runner.specs.AtOnce.{MayDoAll};
 ghost use Rattle.task_runner.specs.Consumers.{HasConsumers, KeepsConsumers};
 ghost use Rattle.task_runner.specs.PartAnswers.{HoldsAll};
 ghost use Rattle.task_runner.specs.Pass.{AnswerAllParts, AreInNewFiles, FeedsParts, KeepsAll, LeavesOnlyRuns, states_at};
 ghost use Rattle.task_runner.specs.PassViews.{parts_of, queries_of};
+ghost use Rattle.task_runner.specs.Queries.{IsPass};
 ghost use Rattle.task_runner.specs.RunsApart.{AllOfLists};
 ghost use Rattle.task_runner.specs.Workers.{DoesAll, DoesSome, IfSound};
 ghost use Rattle.task_runner.specs.Works.{IfNoRoom, ShowsNoRoom};
@@ -32,8 +33,8 @@ use std::thread::Threads;
 
 /// Does the tasks of all partitions of a pass, each worker in a thread of its own. Partition `p` is of worker `p % workers`, on
 /// that worker's post, and its task has the number `first + p`. Answers, for each query of the pass, the runs of what it makes of
-/// the partitions' rows, in the order of the partitions, each on the disk of its worker; a partition without a row has none. A
-/// fault is that of the lowest worker that failed, and names its post.
+/// the dataset's rows of the partitions, in the order of the partitions, each on the disk of its worker; a partition without such a
+/// row has none. A fault is that of the lowest worker that failed, and names its post.
 pub fn run_workers<
     K: Disk + Send,
     D: Disk + Send,
@@ -68,8 +69,8 @@ pub fn run_workers<
 
     // The posts.
     ensures fed { OnOk result ((worker : ℕ) → worker < B.sizes.workers
-        → FeedsParts (states_at C.state posts.old.items worker)
-        (states_at C.state posts.new.items worker) pass.now B.sizes.workers worker) }
+        → FeedsParts (states_at C.state posts.old.items worker) (states_at C.state posts.new.items worker)
+        (files_on (disk_at (λ post. post.disk)) D.files posts.old worker) pass.now B.sizes.workers worker) }
     ensures others { (place : ℕ) → B.sizes.workers ≤ place
         → slice_get posts.new.items place ≡ slice_get posts.old.items place }
     ensures consumers { (worker : ℕ) → KeepsConsumers (states_at C.state posts.old.items worker)

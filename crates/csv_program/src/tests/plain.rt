@@ -26,6 +26,17 @@ fn rows_of(alloc: Global, x: &mut u64) -> Result<Vec<Row>, AllocError> {
     Ok(rows)
 }
 
+// The rows below 0, and those with the empty key.
+fn low_rows(alloc: Global, rows: &[Row]) -> Result<Vec<Row>, AllocError> {
+    let mut low = Vec::new(alloc);
+    for row in rows {
+        if row.1 < 0 || row.0 == 3 {
+            low.push(*row)?;
+        }
+    }
+    Ok(low)
+}
+
 fn key_of(key: usize) -> &'static str {
     KEYS.get(key).copied().unwrap_or("")
 }
@@ -99,6 +110,8 @@ fn small_inputs_have_their_plain_answers(rt: HostRuntime) -> Result<(), Fail> {
     for _ in 0..24 {
         let rows = rows_of(alloc, &mut x)?;
         let input = input_of(alloc, &rows)?;
+        let low = low_rows(alloc, &rows)?;
+        let both = format!(in alloc; "{}\n{}", up_of(alloc, &low)?, groups_of(alloc, &low)?)?;
         let cases = [
             (
                 "group k: count, sum n, min n, max n",
@@ -106,6 +119,10 @@ fn small_inputs_have_their_plain_answers(rt: HostRuntime) -> Result<(), Fail> {
             ),
             ("order number n down: k, n", down_of(alloc, &rows)?),
             ("order k, number n: n, k", up_of(alloc, &rows)?),
+            (
+                "let low = input where n < 0 or k = ''; order k, number n: n, k from low; group k: count, sum n, min n, max n from low",
+                both,
+            ),
         ];
         for (job, wanted) in &cases {
             for heap in ["2048", "1048576"] {

@@ -1,65 +1,72 @@
-use Rattle.std.proofs.Common.{◌≡◌, ◌∙◌, ◌<◌, ℕ, List, length, sym, ap, subst, arith}
-use Rattle.std.specs.Prelude.{All, IfSome, slice_index_or, false}
+use Rattle.std.proofs.Common.{◌≡◌, ◌∙◌, ◌+◌, ◌<◌, ℕ, length, List, sym, ap, subst, arith}
+use Rattle.std.specs.Prelude.{All, IfSome, slice_index_or}
 use Rattle.std.proofs.lemmas.Bool.{eqb-true}
 use Rattle.std.proofs.lemmas.Result.{IfOk-weaker}
-use Rattle.pool_ledger.specs.History.{was_begun}
 use Rattle.turn_lock.specs.Passes.{PassState}
-use Rattle.memory_lock.specs.Workers.{own_entries, own_of}
+use Rattle.memory_lock.specs.Workers.{own_of}
 use Rattle.consumer_trait.specs.States.{State}
 use Rattle.task_memory.specs.RunLists.{lists_of}
-use Rattle.task_runner.specs.Consumers.{KeepsConsumers}
 use Rattle.task_runner.specs.Finals.{AreMergedTo}
 use Rattle.task_runner.specs.Pass.{FeedsParts, states_at}
 use Rattle.task_runner.specs.PassViews.{PassView, parts_of, task_for}
-use Rattle.task_runner.specs.Workers.{DoesAll, DoesSome}
-use Rattle.task_runner.specs.Works.{MayWork, ShowsNoRoom, Works}
-use Rattle.csv_program.specs.Doing.{BeginsOwn}
+use Rattle.task_runner.specs.Works.{ShowsNoRoom, Works}
+use Rattle.csv_program.specs.Doing.{AreBetween, EachBegins}
 use Rattle.csv_program.specs.Posts.{post_files}
-use Rattle.csv_program.specs.Tasks.{owner_of}
-use Rattle.csv_program.proofs.Crews.{begins_each, done_each, each_all, each_some, final_fresh, new_may_do, Firsts}
-use Rattle.csv_program.proofs.Deeds.{owner_final}
+use Rattle.csv_program.proofs.Crews.{begun_pass, between_more, between_passes, between_tasks, fresh_each, may_do, own_final}
 use Rattle.csv_program.proofs.Followed.{on_ok_more, room_more}
-use Rattle.csv_program.proofs.Worked.{first_tells, on_more, on_ok_all, place_same, result_none, result_of, states_alike, there_of}
-use Rattle.csv_program.proofs.StillThere.{others_kept}
+use Rattle.csv_program.proofs.Worked.{first_tells, leaves_merged, leaves_rest, on_more, on_ok_all, result_none, result_of, states_alike, there_of}
 use Rattle.csv_program.proofs.pool.work.Goals as goal
 
 pub run_workers-requires-clause-may : goal.run_workers-requires-clause-may
 run_workers-requires-clause-may g c κs within =
-    new_may_do g.B.Basis.owner c.args.executor.now.manager.now g.B.Basis.sizes.workers c.args.pass.now c.args.workers.now.items c.requires.first c.requires.owner c.requires.workers c.requires.fresh
+    may_do g.B.Basis.owner c.args.executor.now.manager.now g.B.Basis.sizes.workers c.args.pass.now c.args.workers.now.items c.requires.owner c.requires.workers
 
 pub finish-requires-clause-owner : goal.finish-requires-clause-owner
-finish-requires-clause-owner g c =
-    let numbered : task_for c.args.pass.now (parts_of c.args.pass.now) ≡ parts_of c.args.pass.now = omega (arith, c.requires.first) in
-    c.requires.owner (task_for c.args.pass.now (parts_of c.args.pass.now)) ∙ ap (owner_of g.B.Basis.sizes.workers (parts_of c.args.pass.now)) numbered ∙ owner_final g.B.Basis.sizes.workers (parts_of c.args.pass.now)
+finish-requires-clause-owner g c = own_final g.B.Basis.owner g.B.Basis.sizes.workers (parts_of c.args.pass.now) c.args.pass.now.first c.requires.owner
 
 pub finish-requires-clause-fresh : goal.finish-requires-clause-fresh
 finish-requires-clause-fresh g c = λ any.
-    let numbered : task_for c.args.pass.now (parts_of c.args.pass.now) ≡ parts_of c.args.pass.now = omega (arith, c.requires.first) in
-    subst (λ (n : ℕ). was_begun (own_of (slice_index_or c.run_workers.new.workers.items 0 any)) n ≡ false) (sym numbered)
-    (final_fresh g.B.Basis.sizes.workers (parts_of c.args.pass.now) (slice_index_or c.run_workers.new.workers.items 0 any).number (own_entries (slice_index_or c.run_workers.new.workers.items 0 any))
-    (subst (λ (n : ℕ). Firsts g.B.Basis.sizes.workers (parts_of c.args.pass.now) n (own_entries (slice_index_or c.run_workers.new.workers.items 0 any))) (sym (c.run_workers.ensures.workers.1 0 any (omega (arith, c.requires.some))).number_is)
-    (each_some c.args.executor.now.manager.now g.B.Basis.sizes.workers (parts_of c.args.pass.now) c.args.workers.now.items c.run_workers.new.workers.items c.requires.workers c.requires.fresh (λ w any below. subst (λ (first : ℕ). DoesSome first g.B.Basis.sizes.workers (parts_of c.args.pass.now) (slice_index_or c.args.workers.now.items w any) (slice_index_or c.run_workers.new.workers.items w any)) c.requires.first (c.run_workers.ensures.may_work w any below)) 0 any (omega (arith, c.requires.some)))))
+    let count = g.B.Basis.sizes.workers in
+    let pass = c.args.pass.now in
+    let mid : AreBetween c.args.executor.now.manager.now g.B.Basis.owner count (pass.first + parts_of pass) c.run_workers.new.workers.items =
+    between_tasks g.B.Basis.owner c.args.executor.now.manager.now count (parts_of pass) pass.first c.args.workers.now.items c.run_workers.new.workers.items (omega (arith, c.requires.some)) c.requires.owner c.requires.workers
+    c.run_workers.ensures.workers c.run_workers.ensures.may_work c.run_workers.ensures.free in
+    fresh_each g.B.Basis.owner count (pass.first + parts_of pass) (task_for pass (parts_of pass)) c.run_workers.new.workers.items mid.does (omega arith) 0 any (omega (arith, c.requires.some))
 
 pub finish-requires-clause-there : goal.finish-requires-clause-there
 finish-requires-clause-there g c =
     on_more g.B.Basis.sizes.workers (length c.run_workers.new.posts.items) (lists_of c.in-Ok.lists.items) (omega (arith, c.requires.posts, c.run_workers.ensures.same_posts)) c.in-Ok.ensures.there
 
 pub finish-requires-2-clause-owner : goal.finish-requires-2-clause-owner
-finish-requires-2-clause-owner g c =
-    let numbered : task_for c.args.pass.now (parts_of c.args.pass.now) ≡ parts_of c.args.pass.now = omega (arith, c.requires.first) in
-    c.requires.owner (task_for c.args.pass.now (parts_of c.args.pass.now)) ∙ ap (owner_of g.B.Basis.sizes.workers (parts_of c.args.pass.now)) numbered ∙ owner_final g.B.Basis.sizes.workers (parts_of c.args.pass.now)
+finish-requires-2-clause-owner g c = own_final g.B.Basis.owner g.B.Basis.sizes.workers (parts_of c.args.pass.now) c.args.pass.now.first c.requires.owner
 
 pub finish-requires-2-clause-fresh : goal.finish-requires-2-clause-fresh
 finish-requires-2-clause-fresh g c = λ any.
-    let numbered : task_for c.args.pass.now (parts_of c.args.pass.now) ≡ parts_of c.args.pass.now = omega (arith, c.requires.first) in
-    subst (λ (n : ℕ). was_begun (own_of (slice_index_or c.run_workers.new.workers.items 0 any)) n ≡ false) (sym numbered)
-    (final_fresh g.B.Basis.sizes.workers (parts_of c.args.pass.now) (slice_index_or c.run_workers.new.workers.items 0 any).number (own_entries (slice_index_or c.run_workers.new.workers.items 0 any))
-    (subst (λ (n : ℕ). Firsts g.B.Basis.sizes.workers (parts_of c.args.pass.now) n (own_entries (slice_index_or c.run_workers.new.workers.items 0 any))) (sym (c.run_workers.ensures.workers.1 0 any (omega (arith, c.requires.some))).number_is)
-    (each_some c.args.executor.now.manager.now g.B.Basis.sizes.workers (parts_of c.args.pass.now) c.args.workers.now.items c.run_workers.new.workers.items c.requires.workers c.requires.fresh (λ w any below. subst (λ (first : ℕ). DoesSome first g.B.Basis.sizes.workers (parts_of c.args.pass.now) (slice_index_or c.args.workers.now.items w any) (slice_index_or c.run_workers.new.workers.items w any)) c.requires.first (c.run_workers.ensures.may_work w any below)) 0 any (omega (arith, c.requires.some)))))
+    let count = g.B.Basis.sizes.workers in
+    let pass = c.args.pass.now in
+    let mid : AreBetween c.args.executor.now.manager.now g.B.Basis.owner count (pass.first + parts_of pass) c.run_workers.new.workers.items =
+    between_tasks g.B.Basis.owner c.args.executor.now.manager.now count (parts_of pass) pass.first c.args.workers.now.items c.run_workers.new.workers.items (omega (arith, c.requires.some)) c.requires.owner c.requires.workers
+    c.run_workers.ensures.workers c.run_workers.ensures.may_work c.run_workers.ensures.free in
+    fresh_each g.B.Basis.owner count (pass.first + parts_of pass) (task_for pass (parts_of pass)) c.run_workers.new.workers.items mid.does (omega arith) 0 any (omega (arith, c.requires.some))
 
 pub finish-requires-2-clause-there : goal.finish-requires-2-clause-there
 finish-requires-2-clause-there g c =
     on_more g.B.Basis.sizes.workers (length c.run_workers.new.posts.items) (lists_of c.in-Ok.lists.items) (omega (arith, c.requires.posts, c.run_workers.ensures.same_posts)) c.in-Ok.ensures.there
+
+-- ---- the workers failed
+
+pub returns-in-Err-clause-posts : goal.returns-in-Err-clause-posts
+returns-in-Err-clause-posts g c =
+    leaves_rest g.C.Consumer.state g.D.Disk.files g.D.Disk.faults g.B.Basis.sizes.workers c.args.posts.now c.run_workers.new.posts
+    c.run_workers.ensures.others c.run_workers.ensures.consumers c.run_workers.ensures.same_posts c.run_workers.ensures.files c.run_workers.ensures.later
+
+pub returns-in-Err-clause-workers : goal.returns-in-Err-clause-workers
+returns-in-Err-clause-workers g c =
+    let count = g.B.Basis.sizes.workers in
+    let pass = c.args.pass.now in
+    between_more g.B.Basis.owner c.args.executor.now.manager.now count (pass.first + parts_of pass) (pass.first + parts_of pass + 1) c.run_workers.new.workers.items (omega arith)
+    (between_tasks g.B.Basis.owner c.args.executor.now.manager.now count (parts_of pass) pass.first c.args.workers.now.items c.run_workers.new.workers.items (omega (arith, c.requires.some)) c.requires.owner c.requires.workers
+    c.run_workers.ensures.workers c.run_workers.ensures.may_work c.run_workers.ensures.free)
 
 -- ---- no partition
 
@@ -75,62 +82,48 @@ returns-in-Ok-finish-clause-there g c =
 
 pub returns-in-Ok-finish-clause-fed : goal.returns-in-Ok-finish-clause-fed
 returns-in-Ok-finish-clause-fed g c = λ worker below.
-    subst (λ (states : List State). FeedsParts (states_at g.C.Consumer.state c.args.posts.now.items worker) states c.args.pass.now g.B.Basis.sizes.workers worker)
+    subst (λ (states : List State). FeedsParts (states_at g.C.Consumer.state c.args.posts.now.items worker) states (post_files g.D.Disk.files c.args.posts.now worker) c.args.pass.now g.B.Basis.sizes.workers worker)
     (sym (states_alike g.C.Consumer.state c.finish.new.posts.items c.run_workers.new.posts.items c.finish.ensures.kept worker))
     (c.in-Ok.ensures.fed worker below)
 
-pub returns-in-Ok-finish-clause-all : goal.returns-in-Ok-finish-clause-all
-returns-in-Ok-finish-clause-all g c =
-    let numbered : task_for c.args.pass.now (parts_of c.args.pass.now) ≡ parts_of c.args.pass.now = omega (arith, c.requires.first) in
-    begins_each c.args.executor.now.manager.now g.B.Basis.sizes.workers (parts_of c.args.pass.now) c.run_workers.new.workers.items c.finish.new.workers.items c.run_workers.ensures.workers
-    (each_all c.args.executor.now.manager.now g.B.Basis.sizes.workers (parts_of c.args.pass.now) c.args.workers.now.items c.run_workers.new.workers.items c.requires.workers c.requires.fresh (λ w any below. subst (λ (first : ℕ). DoesAll first g.B.Basis.sizes.workers (parts_of c.args.pass.now) (slice_index_or c.args.workers.now.items w any) (slice_index_or c.run_workers.new.workers.items w any)) c.requires.first (c.in-Ok.ensures.works w any below)))
-    (λ any. subst (λ (n : ℕ). Works n (slice_index_or c.run_workers.new.workers.items 0 any) (slice_index_or c.finish.new.workers.items 0 any)) numbered (c.in-Ok-finish.ensures.works any)) c.finish.ensures.others
+pub returns-in-Ok-finish-clause-begun : goal.returns-in-Ok-finish-clause-begun
+returns-in-Ok-finish-clause-begun g c =
+    begun_pass g.B.Basis.owner c.args.executor.now.manager.now g.B.Basis.sizes.workers (parts_of c.args.pass.now) c.args.pass.now.first c.args.workers.now.items c.run_workers.new.workers.items c.finish.new.workers.items c.requires.owner
+    c.requires.workers.workers_are c.run_workers.ensures.workers c.requires.begun c.in-Ok.ensures.works c.in-Ok-finish.ensures.works c.finish.ensures.others
 
-pub returns-in-Ok-finish-clause-others : goal.returns-in-Ok-finish-clause-others
-returns-in-Ok-finish-clause-others g c = λ place above.
-    states_alike g.C.Consumer.state c.finish.new.posts.items c.run_workers.new.posts.items c.finish.ensures.kept place
-    ∙ place_same g.C.Consumer.state c.run_workers.new.posts.items c.args.posts.now.items place (c.run_workers.ensures.others place above)
+pub returns-in-Ok-finish-clause-posts : goal.returns-in-Ok-finish-clause-posts
+returns-in-Ok-finish-clause-posts g c =
+    let left = leaves_rest g.C.Consumer.state g.D.Disk.files g.D.Disk.faults g.B.Basis.sizes.workers c.args.posts.now c.run_workers.new.posts
+    c.run_workers.ensures.others c.run_workers.ensures.consumers c.run_workers.ensures.same_posts c.run_workers.ensures.files c.run_workers.ensures.later in
+    leaves_merged g.C.Consumer.state g.D.Disk.files g.D.Disk.faults g.B.Basis.sizes.workers c.args.posts.now c.run_workers.new.posts c.finish.new.posts (lists_of c.in-Ok.lists.items) left
+    c.finish.ensures.kept c.finish.ensures.same_posts c.in-Ok.ensures.made c.finish.ensures.tells c.finish.ensures.files c.finish.ensures.later
 
-pub returns-in-Ok-finish-clause-consumers : goal.returns-in-Ok-finish-clause-consumers
-returns-in-Ok-finish-clause-consumers g c = λ place.
-    subst (λ (states : List State). KeepsConsumers (states_at g.C.Consumer.state c.args.posts.now.items place) states)
-    (sym (states_alike g.C.Consumer.state c.finish.new.posts.items c.run_workers.new.posts.items c.finish.ensures.kept place))
-    (c.run_workers.ensures.consumers place)
+pub returns-in-Ok-finish-clause-workers : goal.returns-in-Ok-finish-clause-workers
+returns-in-Ok-finish-clause-workers g c =
+    let count = g.B.Basis.sizes.workers in
+    let pass = c.args.pass.now in
+    let mid : AreBetween c.args.executor.now.manager.now g.B.Basis.owner count (pass.first + parts_of pass) c.run_workers.new.workers.items =
+    between_tasks g.B.Basis.owner c.args.executor.now.manager.now count (parts_of pass) pass.first c.args.workers.now.items c.run_workers.new.workers.items (omega (arith, c.requires.some)) c.requires.owner c.requires.workers
+    c.run_workers.ensures.workers c.run_workers.ensures.may_work c.run_workers.ensures.free in
+    between_passes g.B.Basis.owner c.args.executor.now.manager.now count (parts_of pass) pass.first c.run_workers.new.workers.items c.finish.new.workers.items c.requires.owner mid
+    c.finish.ensures.workers c.finish.ensures.may_work c.finish.ensures.free c.finish.ensures.others
 
-pub returns-in-Ok-finish-clause-files : goal.returns-in-Ok-finish-clause-files
-returns-in-Ok-finish-clause-files g c =
-    others_kept (post_files g.D.Disk.files c.args.posts.now) (post_files g.D.Disk.files c.run_workers.new.posts) (post_files g.D.Disk.files c.finish.new.posts) (lists_of c.in-Ok.lists.items)
-    c.run_workers.ensures.files c.in-Ok.ensures.made c.finish.ensures.tells c.finish.ensures.files
+pub returns-in-Err-finish-clause-posts : goal.returns-in-Err-finish-clause-posts
+returns-in-Err-finish-clause-posts g c =
+    let left = leaves_rest g.C.Consumer.state g.D.Disk.files g.D.Disk.faults g.B.Basis.sizes.workers c.args.posts.now c.run_workers.new.posts
+    c.run_workers.ensures.others c.run_workers.ensures.consumers c.run_workers.ensures.same_posts c.run_workers.ensures.files c.run_workers.ensures.later in
+    leaves_merged g.C.Consumer.state g.D.Disk.files g.D.Disk.faults g.B.Basis.sizes.workers c.args.posts.now c.run_workers.new.posts c.finish.new.posts (lists_of c.in-Ok.lists.items) left
+    c.finish.ensures.kept c.finish.ensures.same_posts c.in-Ok.ensures.made c.finish.ensures.tells c.finish.ensures.files c.finish.ensures.later
 
-pub returns-in-Ok-finish-clause-done : goal.returns-in-Ok-finish-clause-done
-returns-in-Ok-finish-clause-done g c =
-    let numbered : task_for c.args.pass.now (parts_of c.args.pass.now) ≡ parts_of c.args.pass.now = omega (arith, c.requires.first) in
-    done_each c.args.executor.now.manager.now g.B.Basis.sizes.workers (parts_of c.args.pass.now) c.run_workers.new.workers.items c.finish.new.workers.items c.run_workers.ensures.workers
-    (each_some c.args.executor.now.manager.now g.B.Basis.sizes.workers (parts_of c.args.pass.now) c.args.workers.now.items c.run_workers.new.workers.items c.requires.workers c.requires.fresh (λ w any below. subst (λ (first : ℕ). DoesSome first g.B.Basis.sizes.workers (parts_of c.args.pass.now) (slice_index_or c.args.workers.now.items w any) (slice_index_or c.run_workers.new.workers.items w any)) c.requires.first (c.run_workers.ensures.may_work w any below)))
-    (λ any. subst (λ (n : ℕ). MayWork n (slice_index_or c.run_workers.new.workers.items 0 any) (slice_index_or c.finish.new.workers.items 0 any)) numbered (c.finish.ensures.may_work any)) c.finish.ensures.others
-
-pub returns-in-Err-finish-clause-others : goal.returns-in-Err-finish-clause-others
-returns-in-Err-finish-clause-others g c = λ place above.
-    states_alike g.C.Consumer.state c.finish.new.posts.items c.run_workers.new.posts.items c.finish.ensures.kept place
-    ∙ place_same g.C.Consumer.state c.run_workers.new.posts.items c.args.posts.now.items place (c.run_workers.ensures.others place above)
-
-pub returns-in-Err-finish-clause-consumers : goal.returns-in-Err-finish-clause-consumers
-returns-in-Err-finish-clause-consumers g c = λ place.
-    subst (λ (states : List State). KeepsConsumers (states_at g.C.Consumer.state c.args.posts.now.items place) states)
-    (sym (states_alike g.C.Consumer.state c.finish.new.posts.items c.run_workers.new.posts.items c.finish.ensures.kept place))
-    (c.run_workers.ensures.consumers place)
-
-pub returns-in-Err-finish-clause-files : goal.returns-in-Err-finish-clause-files
-returns-in-Err-finish-clause-files g c =
-    others_kept (post_files g.D.Disk.files c.args.posts.now) (post_files g.D.Disk.files c.run_workers.new.posts) (post_files g.D.Disk.files c.finish.new.posts) (lists_of c.in-Ok.lists.items)
-    c.run_workers.ensures.files c.in-Ok.ensures.made c.finish.ensures.tells c.finish.ensures.files
-
-pub returns-in-Err-finish-clause-done : goal.returns-in-Err-finish-clause-done
-returns-in-Err-finish-clause-done g c =
-    let numbered : task_for c.args.pass.now (parts_of c.args.pass.now) ≡ parts_of c.args.pass.now = omega (arith, c.requires.first) in
-    done_each c.args.executor.now.manager.now g.B.Basis.sizes.workers (parts_of c.args.pass.now) c.run_workers.new.workers.items c.finish.new.workers.items c.run_workers.ensures.workers
-    (each_some c.args.executor.now.manager.now g.B.Basis.sizes.workers (parts_of c.args.pass.now) c.args.workers.now.items c.run_workers.new.workers.items c.requires.workers c.requires.fresh (λ w any below. subst (λ (first : ℕ). DoesSome first g.B.Basis.sizes.workers (parts_of c.args.pass.now) (slice_index_or c.args.workers.now.items w any) (slice_index_or c.run_workers.new.workers.items w any)) c.requires.first (c.run_workers.ensures.may_work w any below)))
-    (λ any. subst (λ (n : ℕ). MayWork n (slice_index_or c.run_workers.new.workers.items 0 any) (slice_index_or c.finish.new.workers.items 0 any)) numbered (c.finish.ensures.may_work any)) c.finish.ensures.others
+pub returns-in-Err-finish-clause-workers : goal.returns-in-Err-finish-clause-workers
+returns-in-Err-finish-clause-workers g c =
+    let count = g.B.Basis.sizes.workers in
+    let pass = c.args.pass.now in
+    let mid : AreBetween c.args.executor.now.manager.now g.B.Basis.owner count (pass.first + parts_of pass) c.run_workers.new.workers.items =
+    between_tasks g.B.Basis.owner c.args.executor.now.manager.now count (parts_of pass) pass.first c.args.workers.now.items c.run_workers.new.workers.items (omega (arith, c.requires.some)) c.requires.owner c.requires.workers
+    c.run_workers.ensures.workers c.run_workers.ensures.may_work c.run_workers.ensures.free in
+    between_passes g.B.Basis.owner c.args.executor.now.manager.now count (parts_of pass) pass.first c.run_workers.new.workers.items c.finish.new.workers.items c.requires.owner mid
+    c.finish.ensures.workers c.finish.ensures.may_work c.finish.ensures.free c.finish.ensures.others
 
 -- ---- the final task
 
@@ -154,20 +147,18 @@ pub returns-clause-fed : goal.returns-clause-fed
 returns-clause-fed g c =
     on_ok_all c.finish-2.result
     (λ worker below.
-    subst (λ (states : List State). FeedsParts (states_at g.C.Consumer.state c.args.posts.now.items worker) states c.args.pass.now g.B.Basis.sizes.workers worker)
+    subst (λ (states : List State). FeedsParts (states_at g.C.Consumer.state c.args.posts.now.items worker) states (post_files g.D.Disk.files c.args.posts.now worker) c.args.pass.now g.B.Basis.sizes.workers worker)
     (sym (states_alike g.C.Consumer.state c.finish-2.new.posts.items c.run_workers.new.posts.items c.finish-2.ensures.kept worker))
     (c.in-Ok.ensures.fed worker below))
 
-pub returns-clause-all : goal.returns-clause-all
-returns-clause-all g c =
-    let numbered : task_for c.args.pass.now (parts_of c.args.pass.now) ≡ parts_of c.args.pass.now = omega (arith, c.requires.first) in
+pub returns-clause-begun : goal.returns-clause-begun
+returns-clause-begun g c =
     on_ok_more c.finish-2.result
     ((any : PassState) → Works (task_for c.args.pass.now (parts_of c.args.pass.now)) (slice_index_or c.run_workers.new.workers.items 0 any) (slice_index_or c.finish-2.new.workers.items 0 any))
-    ((worker : ℕ) (any : PassState) → worker < g.B.Basis.sizes.workers → BeginsOwn g.B.Basis.sizes.workers (parts_of c.args.pass.now) worker (own_entries (slice_index_or c.finish-2.new.workers.items worker any)))
+    (EachBegins g.B.Basis.owner g.B.Basis.sizes.workers (c.args.pass.now.first + parts_of c.args.pass.now + 1) c.finish-2.new.workers.items)
     (λ works.
-    begins_each c.args.executor.now.manager.now g.B.Basis.sizes.workers (parts_of c.args.pass.now) c.run_workers.new.workers.items c.finish-2.new.workers.items c.run_workers.ensures.workers
-    (each_all c.args.executor.now.manager.now g.B.Basis.sizes.workers (parts_of c.args.pass.now) c.args.workers.now.items c.run_workers.new.workers.items c.requires.workers c.requires.fresh (λ w any below. subst (λ (first : ℕ). DoesAll first g.B.Basis.sizes.workers (parts_of c.args.pass.now) (slice_index_or c.args.workers.now.items w any) (slice_index_or c.run_workers.new.workers.items w any)) c.requires.first (c.in-Ok.ensures.works w any below)))
-    (λ any. subst (λ (n : ℕ). Works n (slice_index_or c.run_workers.new.workers.items 0 any) (slice_index_or c.finish-2.new.workers.items 0 any)) numbered (works any)) c.finish-2.ensures.others)
+    begun_pass g.B.Basis.owner c.args.executor.now.manager.now g.B.Basis.sizes.workers (parts_of c.args.pass.now) c.args.pass.now.first c.args.workers.now.items c.run_workers.new.workers.items c.finish-2.new.workers.items c.requires.owner
+    c.requires.workers.workers_are c.run_workers.ensures.workers c.requires.begun c.in-Ok.ensures.works works c.finish-2.ensures.others)
     c.finish-2.ensures.works
 
 pub returns-clause-no_room : goal.returns-clause-no_room
@@ -179,25 +170,19 @@ returns-clause-no_room g c =
     (λ asked held floor shows. (0, task_for c.args.pass.now (parts_of c.args.pass.now), omega (arith, c.requires.some), shows))
     c.finish-2.ensures.no_room
 
-pub returns-clause-others : goal.returns-clause-others
-returns-clause-others g c = λ place above.
-    states_alike g.C.Consumer.state c.finish-2.new.posts.items c.run_workers.new.posts.items c.finish-2.ensures.kept place
-    ∙ place_same g.C.Consumer.state c.run_workers.new.posts.items c.args.posts.now.items place (c.run_workers.ensures.others place above)
+pub returns-clause-posts : goal.returns-clause-posts
+returns-clause-posts g c =
+    let left = leaves_rest g.C.Consumer.state g.D.Disk.files g.D.Disk.faults g.B.Basis.sizes.workers c.args.posts.now c.run_workers.new.posts
+    c.run_workers.ensures.others c.run_workers.ensures.consumers c.run_workers.ensures.same_posts c.run_workers.ensures.files c.run_workers.ensures.later in
+    leaves_merged g.C.Consumer.state g.D.Disk.files g.D.Disk.faults g.B.Basis.sizes.workers c.args.posts.now c.run_workers.new.posts c.finish-2.new.posts (lists_of c.in-Ok.lists.items) left
+    c.finish-2.ensures.kept c.finish-2.ensures.same_posts c.in-Ok.ensures.made c.finish-2.ensures.tells c.finish-2.ensures.files c.finish-2.ensures.later
 
-pub returns-clause-consumers : goal.returns-clause-consumers
-returns-clause-consumers g c = λ place.
-    subst (λ (states : List State). KeepsConsumers (states_at g.C.Consumer.state c.args.posts.now.items place) states)
-    (sym (states_alike g.C.Consumer.state c.finish-2.new.posts.items c.run_workers.new.posts.items c.finish-2.ensures.kept place))
-    (c.run_workers.ensures.consumers place)
-
-pub returns-clause-files : goal.returns-clause-files
-returns-clause-files g c =
-    others_kept (post_files g.D.Disk.files c.args.posts.now) (post_files g.D.Disk.files c.run_workers.new.posts) (post_files g.D.Disk.files c.finish-2.new.posts) (lists_of c.in-Ok.lists.items)
-    c.run_workers.ensures.files c.in-Ok.ensures.made c.finish-2.ensures.tells c.finish-2.ensures.files
-
-pub returns-clause-done : goal.returns-clause-done
-returns-clause-done g c =
-    let numbered : task_for c.args.pass.now (parts_of c.args.pass.now) ≡ parts_of c.args.pass.now = omega (arith, c.requires.first) in
-    done_each c.args.executor.now.manager.now g.B.Basis.sizes.workers (parts_of c.args.pass.now) c.run_workers.new.workers.items c.finish-2.new.workers.items c.run_workers.ensures.workers
-    (each_some c.args.executor.now.manager.now g.B.Basis.sizes.workers (parts_of c.args.pass.now) c.args.workers.now.items c.run_workers.new.workers.items c.requires.workers c.requires.fresh (λ w any below. subst (λ (first : ℕ). DoesSome first g.B.Basis.sizes.workers (parts_of c.args.pass.now) (slice_index_or c.args.workers.now.items w any) (slice_index_or c.run_workers.new.workers.items w any)) c.requires.first (c.run_workers.ensures.may_work w any below)))
-    (λ any. subst (λ (n : ℕ). MayWork n (slice_index_or c.run_workers.new.workers.items 0 any) (slice_index_or c.finish-2.new.workers.items 0 any)) numbered (c.finish-2.ensures.may_work any)) c.finish-2.ensures.others
+pub returns-clause-workers : goal.returns-clause-workers
+returns-clause-workers g c =
+    let count = g.B.Basis.sizes.workers in
+    let pass = c.args.pass.now in
+    let mid : AreBetween c.args.executor.now.manager.now g.B.Basis.owner count (pass.first + parts_of pass) c.run_workers.new.workers.items =
+    between_tasks g.B.Basis.owner c.args.executor.now.manager.now count (parts_of pass) pass.first c.args.workers.now.items c.run_workers.new.workers.items (omega (arith, c.requires.some)) c.requires.owner c.requires.workers
+    c.run_workers.ensures.workers c.run_workers.ensures.may_work c.run_workers.ensures.free in
+    between_passes g.B.Basis.owner c.args.executor.now.manager.now count (parts_of pass) pass.first c.run_workers.new.workers.items c.finish-2.new.workers.items c.requires.owner mid
+    c.finish-2.ensures.workers c.finish-2.ensures.may_work c.finish-2.ensures.free c.finish-2.ensures.others

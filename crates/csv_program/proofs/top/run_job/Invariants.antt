@@ -1,6 +1,7 @@
 use Rattle.std.proofs.Common.{None, length}
+use Rattle.job_plan.specs.Plans.{passes_in}
 use Rattle.csv_program.specs.Tasks.{owner_of}
 use Rattle.csv_program.proofs.top.run_job.Given as goal
 
-abbrev pub ghosts-run_query : goal.ghosts-run_query
-ghosts-run_query g a = record { sizes = a.pool; owner = owner_of a.pool.workers (length a.parts.now); rows = λ _ _. None }
+abbrev pub ghosts-run_queries : goal.ghosts-run_queries
+ghosts-run_queries g a = record { sizes = a.pool; owner = owner_of a.pool.workers (length a.parts.now) (length (passes_in a.plan.now)); rows = λ _ _. None }

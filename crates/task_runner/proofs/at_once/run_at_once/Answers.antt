@@ -20,7 +20,7 @@ each_place-requires-clause-accepts g c κs within = λ k w p below one other is_
 
 pub returns : goal.returns
 returns g c =
-    let inner : PassView = pass_with c.pass.inside.plan.now c.pass.inside.queries.now c.pass.inside.parts.now c.pass.inside.first in
+    let inner : PassView = pass_with c.pass.inside.plan.now c.pass.inside.dataset c.pass.inside.queries.now c.pass.inside.parts.now c.pass.inside.first in
     record {
       ran = ran_alike g.C.Consumer.state g.D.Disk.files g.D.Disk.faults g.B.Basis.sizes c.args.count inner c.args.pass.now c.pass.view_is _ _ _ _ _
           (places_in_lists (Ran g.C.Consumer.state g.D.Disk.files g.D.Disk.faults g.B.Basis.sizes c.args.count inner) 0

@@ -1,7 +1,6 @@
-use Rattle.std.proofs.Common.{map, subst}
+use Rattle.std.proofs.Common.{map}
 use Rattle.run_file.specs.Several.{run_at}
 use Rattle.task_runner.specs.OneWorker.{DoesOne, Scene, scene_of}
-use Rattle.task_runner.specs.PassViews.{PassView}
 use Rattle.task_runner.proofs.worker.next_task.Goals as goal
 
 pub returns-in-Ok-clause-adds : goal.returns-in-Ok-clause-adds
@@ -12,16 +11,13 @@ returns-in-Ok-clause-adds g c =
     let before : Scene = scene_of c.args.worker.now (map g.C.Consumer.state post.consumers.items) (g.D.Disk.files post.disk) (g.D.Disk.faults post.disk) in
     let new = c.run_task.new.post in
     let after : Scene = scene_of c.run_task.new.worker (map g.C.Consumer.state new.consumers.items) (g.D.Disk.files new.disk) (g.D.Disk.faults new.disk) in
-    let inner : PassView = record { plan = c.pass.inside.plan.now; queries = c.pass.inside.queries.now; parts = c.pass.inside.parts.now; first = c.pass.inside.first } in (
-      found,
-      subst (λ (view : PassView). DoesOne view (run_at view.parts c.args.part) c.args.part before after found) c.pass.view_is (record {
-        stays = record { consumers = done.consumers; free = done.free; pin = done.pin; sees = done.sees; disk = done.disk };
-        count = done.count;
-        tells = λ rows hold. done.answer rows hold;
-        made = done.made;
-        only = done.only;
-        fed = done.fed;
-        works = done.works;
-      }),
-      c.in-Ok.ensures.items,
-    )
+    let one : DoesOne c.args.pass.now (run_at c.args.pass.now.parts c.args.part) c.args.part before after found = record {
+      stays = record { consumers = done.consumers; free = done.free; pin = done.pin; sees = done.sees; disk = done.disk };
+      count = done.count;
+      tells = λ rows hold. done.answer rows hold;
+      made = done.made;
+      only = done.only;
+      fed = done.fed;
+      works = done.works;
+    } in
+    (found, one, c.in-Ok.ensures.items)

@@ -1,4 +1,4 @@
-//! A job of one query over a landed input.
+//! The queries of a job over a landed input.
 
 ghost use Rattle.std.specs.Prelude.{◌≡◌, ◌≤◌, ◌<◌, ◌+◌, ◌*◌, ◌-◌, ◌^◌, ℕ, All, List, [], None, Some, IfNone, IfSome, length, map};
 ghost use Rattle.std.specs.Io.KnownBytes.{Appends, Keeps};
@@ -7,20 +7,21 @@ ghost use Rattle.fault_count.specs.Faults.{Rose};
 ghost use Rattle.pool_ledger.specs.Journal.{history_of};
 ghost use Rattle.pool_ledger.specs.Legal.{IsLegal};
 ghost use Rattle.job_plan.specs.Planning.{columns_of};
-ghost use Rattle.job_plan.specs.Plans.{form_in, kept_in};
-ghost use Rattle.landing.specs.Landed.{AreChecked, AreLanded};
+ghost use Rattle.job_plan.specs.Plans.{first_task_of, form_in, passes_in};
+ghost use Rattle.landing.specs.Landed.{AreChecked, AreLanded, partition_of};
 ghost use Rattle.task_runner.specs.Consumers.{HasConsumers, KeepsConsumers};
-ghost use Rattle.task_runner.specs.Pass.{FeedsParts, KeepsAll, states_at};
+ghost use Rattle.task_runner.specs.Pass.{KeepsAll, states_at};
 ghost use Rattle.csv_program.specs.Endings.{MayEndAs, ending_of_totals, printed_in, totals_of};
+ghost use Rattle.csv_program.specs.Feeds.{FeedsPlan};
 ghost use Rattle.csv_program.specs.Posts.{AllTell, post_faults, post_files};
-ghost use Rattle.csv_program.specs.QueryResults.{alone_over};
+ghost use Rattle.csv_program.specs.QueryResults.{HasPasses};
 ghost use Rattle.csv_program.specs.Statuses.{IsCut, IsDamaged, IsDamagedOn, IsDiskFault, IsNoRoom, IsOfTasks, MakesPool, WritesNothing};
 ghost use Rattle.csv_program.specs.Tasks.{BeginsAll, FollowsPlan, ShowsShort, owner_of};
 ghost use Rattle.csv_program.specs.Telling.{status_of_work};
 
 use crate::outcome::{Outcome, Status, unpooled};
 use crate::pool::run_tasks;
-use crate::table::print_answer;
+use crate::table::print_answers;
 use byte_io::Sink;
 use consumer_trait::Consumer;
 use job_answer::short_shapes_are_told;
@@ -32,10 +33,10 @@ use spill_disk::Disk;
 use std::alloc::Global;
 use std::sync::Wait;
 use std::thread::Threads;
-use task_runner::{Pass, Post, WorkFault};
+use task_runner::{Post, WorkFault};
 
-/// Does the tasks of a plan of one query over landed partitions, in a pool of these sizes, checks the sums, and prints the table.
-pub fn run_query<
+/// Does the tasks of a plan over landed partitions, in a pool of these sizes, checks the sums, and prints the tables.
+pub fn run_queries<
     K: Disk + Send,
     D: Disk + Send,
     C: Consumer + Send,
@@ -53,14 +54,15 @@ pub fn run_query<
     output: &mut W,
 ) -> Outcome
     requires basis { pool ≡ B.sizes }
-    requires owner { (task : ℕ) → B.owner task ≡ owner_of pool.workers (length parts.now) task }
+    requires owner { (task : ℕ) → B.owner task ≡ owner_of pool.workers (length parts.now) (length (passes_in plan.now)) task }
     requires rows { (dataset part : ℕ) → B.rows dataset part ≡ None }
     requires some { 1 ≤ pool.workers }
     requires posts { pool.workers ≤ length posts.old.items }
     requires few_posts { length posts.old.items < 2 ^ 32 - 1 }
     requires few { length parts.now ≤ 10000000 }
     requires short { All (λ run. run.greatest ≤ 36 + 4 * columns_of (form_in plan.now) + 65536) parts.now }
-    requires one { length (kept_in plan.now) ≡ 1 }
+    requires first { first_task_of plan.now ≡ 0 }
+    requires passes { HasPasses plan.now }
     requires consumers { All (λ post. HasConsumers (map C.state post.consumers.items)) posts.old.items }
     ensures ending { (part_rows : ℕ) (rows : List (List (List ℕ))) → 1 ≤ part_rows →
         AllTell pool.workers (post_files D.files posts.old) →
@@ -93,12 +95,16 @@ pub fn run_query<
     ensures setup { IfSome result.setup (λ setup. setup ≡ pool) }
     ensures none { IfNone result.setup (result.journal ≡ []) }
     ensures legal { IfSome result.setup (λ setup. IsLegal pool (history_of result.journal)) }
-    ensures tasks { FollowsPlan pool.workers (length parts.now) result.journal }
-    ensures all { result.status ≡ Status.Done → BeginsAll (length parts.now) result.journal }
+    ensures tasks { FollowsPlan pool.workers (length parts.now) (length (passes_in plan.now)) result.journal }
+    ensures all { result.status ≡ Status.Done → BeginsAll (length parts.now) (length (passes_in plan.now)) result.journal }
 
     // The posts.
-    ensures fed { result.status ≡ Status.Done → (worker : ℕ) → worker < pool.workers → FeedsParts (states_at C.state posts.old.items worker)
-        (states_at C.state posts.new.items worker) (alone_over plan.now parts.now) pool.workers worker }
+    ensures fed { result.status ≡ Status.Done → (part_rows : ℕ) (rows : List (List (List ℕ))) →
+        AllTell pool.workers (post_files D.files posts.old) →
+        AreLanded (post_files D.files posts.old) part_rows pool.workers parts.now rows → AreChecked (form_in plan.now) rows →
+        (worker : ℕ) → worker < pool.workers → FeedsPlan (states_at C.state posts.old.items worker)
+        (states_at C.state posts.new.items worker) plan.now (length parts.now) (λ part. partition_of part_rows part rows)
+        pool.workers worker }
     ensures others { (place : ℕ) → pool.workers ≤ place
         → states_at C.state posts.new.items place ≡ states_at C.state posts.old.items place }
     ensures consumers { (place : ℕ) → KeepsConsumers (states_at C.state posts.old.items place) (states_at C.state posts.new.items place) }
@@ -106,19 +112,12 @@ pub fn run_query<
     ensures later { (place : ℕ) → post_faults D.faults posts.old place ≤ post_faults D.faults posts.new place }
 {
     short_shapes_are_told();
-    // The one query is the first of the one pass.
-    let pass = Pass {
-        plan,
-        queries: &[0],
-        parts,
-        first: 0,
-    };
-    let (told, journal) = run_tasks::<K, D, C, B, R>(rt, alloc, pool, store, &pass, posts);
+    let (told, journal) = run_tasks::<K, D, C, B, R>(rt, alloc, pool, store, plan, parts, posts);
     let Some(journal) = journal else {
         return unpooled(alloc, Status::NoMemory);
     };
     let status = match told {
-        Ok(answers) => print_answer(alloc, posts, plan, answers[0].as_ref(), output),
+        Ok(answers) => print_answers(alloc, posts, plan, &answers, output),
         Err(fault) => Status::from(fault),
     };
     Outcome {

@@ -1,80 +1,71 @@
-use Rattle.std.proofs.Common.{◌≤◌, ◌≡◌, ◌∙◌, ℕ, List, Option, None, Ok, get_or, length, ap, subst, sym, arith}
-use Rattle.std.proofs.lemmas.List.{get_or_default}
-use Rattle.std.specs.Prelude.{IfOk, IfSome, OnOk, Result}
+use Rattle.std.proofs.Common.{◌≤◌, ◌≡◌, ◌∙◌, ℕ, List, Option, Ok, length, ap, subst, sym}
+use Rattle.std.specs.Prelude.{IfSome, OnOk}
+use Rattle.std.specs.Global.{Vec}
 use Rattle.std.specs.Io.KnownBytes.{Appends}
 use Rattle.byte_io.specs.Sinks.{AppendsPrefix}
 use Rattle.pool_ledger.specs.declared.entry.Entry.{Entry as JournalEntry}
 use Rattle.job_plan.specs.Columns.{Fields}
-use Rattle.job_plan.specs.Plans.{form_in, kept_at, kind_at}
+use Rattle.job_plan.specs.Plans.{form_in, kind_at, passes_in}
 use Rattle.landing.specs.Landed.{AreChecked, AreLanded, partition_of}
-use Rattle.job_answer.specs.Laws.{wide_total}
 use Rattle.result_table.specs.Results.{HasResult}
 use Rattle.run_file.specs.declared.run.Run.{Run}
-use Rattle.task_runner.specs.Workers.{IfSound, answer_at}
-use Rattle.std.specs.Global.{Vec}
 use Rattle.consumer_trait.specs.States.{State}
 use Rattle.task_runner.specs.Consumers.{KeepsConsumers}
-use Rattle.task_runner.specs.Pass.{FeedsParts, states_at}
+use Rattle.task_runner.specs.Pass.{states_at}
+use Rattle.task_runner.specs.Workers.{IfSound, answer_at}
 use Rattle.task_runner.specs.declared.post.Post.{Post}
-use Rattle.csv_program.proofs.PostDisks.{states_same}
-use Rattle.task_runner.specs.declared.work_fault.WorkFault.{WorkFault}
-use Rattle.csv_program.specs.Endings.{MayEndAs, ending_of_totals, key_of_total, printed_in, totals_of}
+use Rattle.csv_program.specs.Endings.{MayEndAs, ending_of_totals, printed_in, totals_of, wide_of}
+use Rattle.csv_program.specs.Feeds.{FeedsPlan}
 use Rattle.csv_program.specs.Posts.{AllTell, post_files}
-use Rattle.csv_program.specs.QueryResults.{HaveResults, alone_over}
+use Rattle.csv_program.specs.QueryResults.{HaveResults, totals_of_parts}
 use Rattle.csv_program.specs.Statuses.{IsCut}
 use Rattle.csv_program.specs.Tasks.{BeginsAll}
 use Rattle.csv_program.specs.declared.outcome.Status.{Status}
+use Rattle.csv_program.proofs.EndedRuns.{fault_not_done, follows_none, may_end, ok_holds, unprinted_work, prefix_of_nothing, sound_more, sound_ok}
+use Rattle.csv_program.proofs.PostDisks.{states_same}
+use Rattle.csv_program.proofs.StillThere.{keeps_alike, keeps_then}
 use Rattle.csv_program.proofs.ToldTotals.{holds_parts, told_plan}
 use Rattle.csv_program.proofs.Wholes.{whole_totals}
-use Rattle.csv_program.proofs.EndedRuns.{fault_not_done, follows_none, may_end, ok_holds, unprinted_work, prefix_of_nothing, sound_more, sound_ok}
-use Rattle.csv_program.proofs.StillThere.{keeps_alike, keeps_then}
-use Rattle.csv_program.proofs.query.run_query.Goals.{in-Ok, in-Err}
-use Rattle.csv_program.proofs.query.run_query.Given as given
-use Rattle.csv_program.proofs.query.run_query.Goals as goal
+use Rattle.csv_program.proofs.queries.run_queries.Goals.{in-Ok, in-Err}
+use Rattle.csv_program.proofs.queries.run_queries.Given as given
+use Rattle.csv_program.proofs.queries.run_queries.Goals as goal
 
 pub returns-in_default-clause-tasks : goal.returns-in_default-clause-tasks
-returns-in_default-clause-tasks g c = follows_none c.args.pool.workers (length c.args.parts.now) c.unpooled.result.journal c.unpooled.ensures.journal
+returns-in_default-clause-tasks g c = follows_none c.args.pool.workers (length c.args.parts.now) (length (passes_in c.args.plan.now)) c.unpooled.result.journal c.unpooled.ensures.journal
 
--- the answer of the tasks is a run of what all entries come to
+-- the answers of the tasks are runs of what all entries come to
 sound : (g : given.Over) (c : goal.Joined-told-2 g) (part_rows : ℕ) (rows : List Fields) → 1 ≤ part_rows → AllTell c.args.pool.workers (post_files g.D.Disk.files c.args.posts.now)
     → AreLanded (post_files g.D.Disk.files c.args.posts.now) part_rows c.args.pool.workers c.args.parts.now rows → AreChecked (form_in c.args.plan.now) rows
-    → IfSound (λ answers. HasResult (post_files g.D.Disk.files c.run_tasks-told.new.posts) (kind_at c.args.plan.now 0) (answer_at answers.items 0) (totals_of c.args.plan.now rows)) c.run_tasks-told.result.0
+    → IfSound (λ answers. HaveResults (post_files g.D.Disk.files c.run_tasks-told.new.posts) c.args.plan.now (totals_of c.args.plan.now rows) answers.items) c.run_tasks-told.result.0
 sound g c part_rows rows some tell landed checked =
     let plan = c.args.plan.now in
     let parts = c.args.parts.now in
     let files = post_files g.D.Disk.files c.args.posts.now in
     let after = post_files g.D.Disk.files c.run_tasks-told.new.posts in
     let each : ℕ → List Fields = λ part. partition_of part_rows part rows in
-    sound_more (λ answers. HaveResults after (alone_over plan parts) each answers.items) (λ answers. HasResult after (kind_at plan 0) (answer_at answers.items 0) (totals_of plan rows))
-    (λ answers has. subst (HasResult after (kind_at plan 0) (answer_at answers.items 0)) (whole_totals plan rows part_rows _ some landed.count) (has 0 (omega arith)))
+    sound_more (λ answers. HaveResults after plan (totals_of_parts plan (length parts) each) answers.items) (λ answers. HaveResults after plan (totals_of plan rows) answers.items)
+    (λ answers has query below. subst (HasResult after (kind_at plan query) (answer_at answers.items query)) (whole_totals plan rows part_rows _ query some landed.count) (has query below))
     c.run_tasks-told.result.0
     (c.run_tasks-told.ensures.answer each (holds_parts files plan part_rows c.args.pool.workers parts rows c.requires.some tell landed checked))
 
--- the result that is printed
-printed : (g : given.Over) (c : goal.Joined-told-2 g) (rows : List Fields) (answers : Vec (Option Run)) (seen : Option Run) → c.run_tasks-told.result.0 ≡ Ok answers → seen ≡ answer_at answers.items 0
-    → IfSound (λ answers. HasResult (post_files g.D.Disk.files c.run_tasks-told.new.posts) (kind_at c.args.plan.now 0) (answer_at answers.items 0) (totals_of c.args.plan.now rows)) c.run_tasks-told.result.0
-    → HasResult (post_files g.D.Disk.files c.run_tasks-told.new.posts) (kind_at c.args.plan.now 0) seen (totals_of c.args.plan.now rows)
+-- the results that are printed
+printed : (g : given.Over) (c : goal.Joined-told-2 g) (rows : List Fields) (answers : Vec (Option Run)) (seen : List (Option Run)) → c.run_tasks-told.result.0 ≡ Ok answers → seen ≡ answers.items
+    → IfSound (λ answers. HaveResults (post_files g.D.Disk.files c.run_tasks-told.new.posts) c.args.plan.now (totals_of c.args.plan.now rows) answers.items) c.run_tasks-told.result.0
+    → HaveResults (post_files g.D.Disk.files c.run_tasks-told.new.posts) c.args.plan.now (totals_of c.args.plan.now rows) seen
 printed g c rows answers seen is same known =
-    let has = λ (answer : Option Run). HasResult (post_files g.D.Disk.files c.run_tasks-told.new.posts) (kind_at c.args.plan.now 0) answer (totals_of c.args.plan.now rows) in
-    subst has (sym same) (sound_ok (λ answers. has (answer_at answers.items 0)) c.run_tasks-told.result.0 answers is known)
-
-count_of : (result : Result (Vec (Option Run)) WorkFault) (answers : Vec (Option Run)) → result ≡ Ok answers → IfOk result (λ answers. length answers.items ≡ 1) → length answers.items ≡ 1
-count_of result answers is count = rw is at count
-
--- the answer at the one place
-alone_at : (answers : List (Option Run)) (seen found : Option Run) → length answers ≡ 1 → found ≡ get_or answers 0 found → seen ≡ found → seen ≡ answer_at answers 0
-alone_at answers seen found one at same = same ∙ at ∙ get_or_default answers 0 found None (omega (arith, one))
+    let has = λ (list : List (Option Run)). HaveResults (post_files g.D.Disk.files c.run_tasks-told.new.posts) c.args.plan.now (totals_of c.args.plan.now rows) list in
+    subst has (sym same) (sound_ok (λ answers. has answers.items) c.run_tasks-told.result.0 answers is known)
 
 pub returns-clause-ending : goal.returns-clause-ending
 returns-clause-ending g c part_rows rows some tell landed checked =
     let plan = c.args.plan.now in
-    let says = λ (answers : Vec (Option Run)). HasResult (post_files g.D.Disk.files c.run_tasks-told.new.posts) (kind_at plan 0) (answer_at answers.items 0) (totals_of plan rows) in
+    let says = λ (answers : Vec (Option Run)). HaveResults (post_files g.D.Disk.files c.run_tasks-told.new.posts) plan (totals_of plan rows) answers.items in
     let known = sound g c part_rows rows some tell landed checked in
     elim c.match-told-2.branch [
       | in-Ok w ↦
           subst (λ (ended : Status). MayEndAs (ending_of_totals plan (totals_of plan rows)) ended) (sym w.status-is)
-          (w.print_answer-status.ensures.ending (totals_of plan rows) (printed g c rows w.in-Ok.answers _ w.in-Ok.is (alone_at w.in-Ok.answers.items _ w.index.result.now (count_of c.run_tasks-told.result.0 w.in-Ok.answers w.in-Ok.is c.run_tasks-told.ensures.count) w.index.ensures w.as_ref.ensures.value) known) (told_plan plan rows c.short_shapes_are_told.ensures c.requires.one checked))
-      | in-Err w ↦ may_end _ (key_of_total (wide_total (kept_at plan 0) (totals_of plan rows))) c.match-told-2.status
+          (w.print_answers-status.ensures.ending (totals_of plan rows) (printed g c rows w.in-Ok.answers _ w.in-Ok.is w.deref.ensures.value known) (told_plan plan rows c.short_shapes_are_told.ensures checked))
+      | in-Err w ↦ may_end _ (wide_of plan (totals_of plan rows)) c.match-told-2.status
           (unprinted_work says c.run_tasks-told.result.0 w.in-Err.fault c.match-told-2.status w.in-Err.is known (w.status-is ∙ w.from-status.ensures))
     ]
 
@@ -85,7 +76,7 @@ returns-clause-done g c part_rows rows some tell landed checked done =
     elim c.match-told-2.branch [
       | in-Ok w ↦
           subst (λ (output : g.row.W.Denot). Appends (g.W.Sink.written c.args.output.now) (g.W.Sink.written output) (printed_in (ending_of_totals plan (totals_of plan rows)))) (sym w.output-is)
-          (w.print_answer-status.ensures.done (totals_of plan rows) (printed g c rows w.in-Ok.answers _ w.in-Ok.is (alone_at w.in-Ok.answers.items _ w.index.result.now (count_of c.run_tasks-told.result.0 w.in-Ok.answers w.in-Ok.is c.run_tasks-told.ensures.count) w.index.ensures w.as_ref.ensures.value) known) (sym w.status-is ∙ done))
+          (w.print_answers-status.ensures.done (totals_of plan rows) (printed g c rows w.in-Ok.answers _ w.in-Ok.is w.deref.ensures.value known) (sym w.status-is ∙ done))
       | in-Err w ↦ absurd (fault_not_done w.in-Err.fault c.match-told-2.status (w.status-is ∙ w.from-status.ensures) done)
     ]
 
@@ -96,13 +87,13 @@ returns-clause-prefix g c part_rows rows some tell landed checked cut =
     elim c.match-told-2.branch [
       | in-Ok w ↦
           subst (λ (output : g.row.W.Denot). AppendsPrefix (g.W.Sink.written c.args.output.now) (g.W.Sink.written output) (printed_in (ending_of_totals plan (totals_of plan rows)))) (sym w.output-is)
-          (w.print_answer-status.ensures.prefix (totals_of plan rows) (printed g c rows w.in-Ok.answers _ w.in-Ok.is (alone_at w.in-Ok.answers.items _ w.index.result.now (count_of c.run_tasks-told.result.0 w.in-Ok.answers w.in-Ok.is c.run_tasks-told.ensures.count) w.index.ensures w.as_ref.ensures.value) known) (subst IsCut w.status-is cut))
+          (w.print_answers-status.ensures.prefix (totals_of plan rows) (printed g c rows w.in-Ok.answers _ w.in-Ok.is w.deref.ensures.value known) (subst IsCut w.status-is cut))
       | in-Err w ↦ prefix_of_nothing g.W.Sink.written c.args.output.now c.match-told-2.output _ w.output-is
     ]
 
 pub returns-clause-all : goal.returns-clause-all
 returns-clause-all g c done = elim c.match-told-2.branch [
-  | in-Ok w ↦ ok_holds c.run_tasks-told.result.0 w.in-Ok.answers w.in-Ok.is (subst (λ (journal : Option (List JournalEntry)). OnOk c.run_tasks-told.result.0 (IfSome journal (BeginsAll (length c.args.parts.now)))) c.in-Some.is c.run_tasks-told.ensures.all)
+  | in-Ok w ↦ ok_holds c.run_tasks-told.result.0 w.in-Ok.answers w.in-Ok.is (subst (λ (journal : Option (List JournalEntry)). OnOk c.run_tasks-told.result.0 (IfSome journal (BeginsAll (length c.args.parts.now) (length (passes_in c.args.plan.now))))) c.in-Some.is c.run_tasks-told.ensures.all)
   | in-Err w ↦ absurd (fault_not_done w.in-Err.fault c.match-told-2.status (w.status-is ∙ w.from-status.ensures) done)
 ]
 
@@ -111,15 +102,16 @@ states_stay : (g : given.Over) (c : goal.Joined-told-2 g) (place : ℕ) → stat
 states_stay g c place = elim c.match-told-2.branch [
   | in-Ok w ↦
       ap (λ (posts : Vec (Post g.row.D.Denot g.row.C.Denot)). states_at g.C.Consumer.state posts.items place) w.posts-is
-      ∙ states_same g.C.Consumer.state c.run_tasks-told.new.posts.items w.print_answer-status.new.posts.items w.print_answer-status.ensures.consumers place
+      ∙ states_same g.C.Consumer.state c.run_tasks-told.new.posts.items w.print_answers-status.new.posts.items w.print_answers-status.ensures.consumers place
   | in-Err w ↦ ap (λ (posts : Vec (Post g.row.D.Denot g.row.C.Denot)). states_at g.C.Consumer.state posts.items place) w.posts-is
 ]
 
 pub returns-clause-fed : goal.returns-clause-fed
-returns-clause-fed g c done worker below = elim c.match-told-2.branch [
+returns-clause-fed g c done part_rows rows tell landed checked worker below = elim c.match-told-2.branch [
   | in-Ok w ↦
-      subst (λ (states : List State). FeedsParts (states_at g.C.Consumer.state c.args.posts.now.items worker) states (alone_over c.args.plan.now c.args.parts.now) c.args.pool.workers worker) (sym (states_stay g c worker))
-      (ok_holds c.run_tasks-told.result.0 w.in-Ok.answers w.in-Ok.is c.run_tasks-told.ensures.fed worker below)
+      subst (λ (states : List State). FeedsPlan (states_at g.C.Consumer.state c.args.posts.now.items worker) states c.args.plan.now (length c.args.parts.now) (λ part. partition_of part_rows part rows) c.args.pool.workers worker) (sym (states_stay g c worker))
+      (ok_holds c.run_tasks-told.result.0 w.in-Ok.answers w.in-Ok.is c.run_tasks-told.ensures.fed (λ part. partition_of part_rows part rows)
+      (holds_parts (post_files g.D.Disk.files c.args.posts.now) c.args.plan.now part_rows c.args.pool.workers c.args.parts.now rows c.requires.some tell landed checked) worker below)
   | in-Err w ↦ absurd (fault_not_done w.in-Err.fault c.match-told-2.status (w.status-is ∙ w.from-status.ensures) done)
 ]
 
@@ -139,6 +131,6 @@ returns-clause-files g c =
     (elim c.match-told-2.branch [
       | in-Ok w ↦
           keeps_alike worked after
-          (λ place. ap (λ (posts : Vec (Post g.row.D.Denot g.row.C.Denot)). post_files g.D.Disk.files posts place) w.posts-is ∙ w.print_answer-status.ensures.files place)
+          (λ place. ap (λ (posts : Vec (Post g.row.D.Denot g.row.C.Denot)). post_files g.D.Disk.files posts place) w.posts-is ∙ w.print_answers-status.ensures.files place)
       | in-Err w ↦ keeps_alike worked after (λ place. ap (λ (posts : Vec (Post g.row.D.Denot g.row.C.Denot)). post_files g.D.Disk.files posts place) w.posts-is)
     ])

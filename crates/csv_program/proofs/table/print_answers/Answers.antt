@@ -1,25 +1,24 @@
 use Rattle.std.proofs.Common.{◌∙◌, sym, arith}
 use Rattle.fault_count.specs.Faults.{Rose}
-use Rattle.job_plan.specs.Plans.{kind_at}
 use Rattle.csv_program.specs.Posts.{post_faults, post_files}
 use Rattle.csv_program.proofs.PostDisks.{disk_fault_as, faults_same, files_same, rose_as}
-use Rattle.csv_program.proofs.Printed.{result_kept}
-use Rattle.csv_program.proofs.table.print_answer.Goals as goal
+use Rattle.csv_program.proofs.Printed.{results_kept}
+use Rattle.csv_program.proofs.table.print_answers.Goals as goal
 
 pub returns-clause-ending : goal.returns-clause-ending
-returns-clause-ending g c entries has told =
+returns-clause-ending g c totals has told =
     let same = files_same c.args.posts.now c.take_consumers.new.posts c.take_consumers.ensures.disks g.D.Disk.files in
-    c.check_and_print-status.ensures.ending entries (result_kept (post_files g.D.Disk.files c.args.posts.now) (post_files g.D.Disk.files c.take_consumers.new.posts) (kind_at c.args.plan.now 0) _ entries same has) told
+    c.check_and_print-status.ensures.ending totals (results_kept (post_files g.D.Disk.files c.args.posts.now) (post_files g.D.Disk.files c.take_consumers.new.posts) c.args.plan.now c.args.answers.now totals same has) told
 
 pub returns-clause-done : goal.returns-clause-done
-returns-clause-done g c entries has done =
+returns-clause-done g c totals has done =
     let same = files_same c.args.posts.now c.take_consumers.new.posts c.take_consumers.ensures.disks g.D.Disk.files in
-    c.check_and_print-status.ensures.done entries (result_kept (post_files g.D.Disk.files c.args.posts.now) (post_files g.D.Disk.files c.take_consumers.new.posts) (kind_at c.args.plan.now 0) _ entries same has) done
+    c.check_and_print-status.ensures.done totals (results_kept (post_files g.D.Disk.files c.args.posts.now) (post_files g.D.Disk.files c.take_consumers.new.posts) c.args.plan.now c.args.answers.now totals same has) done
 
 pub returns-clause-prefix : goal.returns-clause-prefix
-returns-clause-prefix g c entries has cut =
+returns-clause-prefix g c totals has cut =
     let same = files_same c.args.posts.now c.take_consumers.new.posts c.take_consumers.ensures.disks g.D.Disk.files in
-    c.check_and_print-status.ensures.prefix entries (result_kept (post_files g.D.Disk.files c.args.posts.now) (post_files g.D.Disk.files c.take_consumers.new.posts) (kind_at c.args.plan.now 0) _ entries same has) cut
+    c.check_and_print-status.ensures.prefix totals (results_kept (post_files g.D.Disk.files c.args.posts.now) (post_files g.D.Disk.files c.take_consumers.new.posts) c.args.plan.now c.args.answers.now totals same has) cut
 
 pub returns-clause-disk : goal.returns-clause-disk
 returns-clause-disk g c =

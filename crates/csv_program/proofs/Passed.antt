@@ -1,0 +1,107 @@
+-- One pass more of a plan: what its call asks for, and what it adds.
+use Rattle.std.proofs.Common.{◌≡◌, ◌∙◌, ℕ, ◌+◌, ◌*◌, ◌<◌, ◌≤◌, List, [], Option, Err, length, ap, subst, arith}
+use Rattle.std.specs.Prelude.{All, slice_index_or}
+use Rattle.std.proofs.Math.Logic.{∥∥₁_elim}
+use Rattle.std.proofs.Math.Nat.{mul-le-mul_right}
+use Rattle.std.proofs.Props.{props}
+use Rattle.std.proofs.lemmas.List.{length-map}
+use Rattle.spill_disk.specs.Files.{Files}
+use Rattle.run_file.specs.declared.run.Run.{Run}
+use Rattle.consumer_trait.specs.States.{State}
+use Rattle.row_filter.specs.Chains.{links_of}
+use Rattle.job_plan.specs.Columns.{Fields}
+use Rattle.job_plan.specs.Planning.{FitsQueries, columns_of}
+use Rattle.job_plan.specs.Plans.{chain_in, first_task_of, form_in, kept_in, passes_in, queries_in, task_of}
+use Rattle.job_plan.specs.declared.query_plan.Plan.{Plan}
+use Rattle.task_runner.specs.Pass.{FeedsParts, KeepsAll}
+use Rattle.task_runner.specs.PassViews.{PassView, pass_with}
+use Rattle.task_runner.specs.Queries.{IsPass}
+use Rattle.task_runner.specs.Workers.{IfSound}
+use Rattle.task_runner.specs.declared.work_fault.WorkFault.{WorkFault}
+use Rattle.task_runner.specs.declared.work_fault.WorkFault.TheVariants.{NoRoom, DiskFault, Damaged, NoMemory}
+use Rattle.csv_program.specs.Passing.{ArePut, HavePass}
+use Rattle.csv_program.specs.QueryResults.{HasPasses, HoldsParts, totals_of_parts}
+use Rattle.csv_program.proofs.FedByPasses.{FeedsUpTo, feeds_more}
+use Rattle.csv_program.proofs.Gathered.{HaveUpTo, have_more, own_of_parts}
+use Rattle.csv_program.proofs.Served.{few_in_pass}
+
+-- ---- the numbers of tasks
+
+-- the first task of a pass stands behind those of the passes before it
+pub first_is : (plan : Plan) (partitions k first : ℕ) → first_task_of plan ≡ 0 → first ≡ first_task_of plan + task_of partitions k 0 → first ≡ k * (partitions + 1)
+first_is plan partitions k first zero is = omega (arith, zero, is)
+
+-- and the first of the next pass behind its own
+pub next_is : (partitions k first : ℕ) → first ≡ k * (partitions + 1) → first + partitions + 1 ≡ (k + 1) * (partitions + 1)
+next_is partitions k first is = omega (arith, is)
+
+pub next_least : (partitions k passes first : ℕ) → first ≡ k * (partitions + 1) → k < passes → first + partitions + 1 ≤ passes * (partitions + 1)
+next_least partitions k passes first is below =
+    let most = mul-le-mul_right (partitions + 1) below in
+    let next = next_is partitions k first is in
+    omega (arith, most, next)
+
+-- ---- the pass
+
+few_queries : (plan : Plan) → length (kept_in plan) ≤ 8
+few_queries plan =
+    let few : length plan.queries.items ≤ 8 = ∥∥₁_elim plan.planned (hlevel props) (λ known. known.few) in
+    let size = length-map plan.queries.items (λ planned. planned.kept) in
+    omega (arith, few, size)
+
+pub is_pass : (plan : Plan) (k dataset : ℕ) (queries : List ℕ) (parts : List Run) (first : ℕ) → HasPasses plan → k < length (passes_in plan) → length (passes_in plan) ≤ 8 → dataset ≤ length (links_of (chain_in plan))
+    → queries ≡ slice_index_or (queries_in plan) k [] → FitsQueries (length (kept_in plan)) queries → first ≡ k * (length parts + 1) → length parts ≤ 10000000
+    → All (λ run. run.greatest ≤ 36 + 4 * columns_of (form_in plan) + 65536) parts → IsPass (pass_with plan dataset queries parts first)
+is_pass plan k dataset queries parts first has below most there are fit is few short =
+    let size = ap length are in
+    let part = few_in_pass plan k has below in
+    let all = few_queries plan in
+    let low : k ≤ 7 = omega (arith, below, most) in
+    let tasks = mul-le-mul_right (length parts + 1) low in
+    record {
+      there = there;
+      queries = record {
+        some = fit.some;
+        few = omega (arith, size, part, all);
+        known = λ i inside. fit.named i 0 inside;
+      };
+      few = few;
+      numbered = omega (arith, is, tasks, few);
+      short = short;
+    }
+
+-- the pass is that of its number
+pub pass_is : (plan : Plan) (k dataset : ℕ) (queries : List ℕ) (parts : List Run) (first : ℕ) → dataset ≡ slice_index_or (passes_in plan) k 0 → queries ≡ slice_index_or (queries_in plan) k []
+    → pass_with plan dataset queries parts first ≡ pass_with plan (slice_index_or (passes_in plan) k 0) (slice_index_or (queries_in plan) k []) parts first
+pass_is plan k dataset queries parts first is are =
+    ap (λ (d : ℕ). pass_with plan d queries parts first) is ∙ ap (λ (q : List ℕ). pass_with plan (slice_index_or (passes_in plan) k 0) q parts first) are
+
+-- ---- what it adds
+
+-- the consumers were fed by one pass more
+pub feeds_step : (states mids states' : List State) (files : ℕ → Option Files) (plan : Plan) (k dataset : ℕ) (queries : List ℕ) (parts : List Run) (first workers w : ℕ) (rows : ℕ → List Fields) → HasPasses plan → k < length (passes_in plan)
+    → dataset ≡ slice_index_or (passes_in plan) k 0 → queries ≡ slice_index_or (queries_in plan) k [] → w < workers → HoldsParts files plan parts workers rows
+    → FeedsUpTo states mids plan (length parts) rows workers w k → FeedsParts mids states' (files w) (pass_with plan dataset queries parts first) workers w → FeedsUpTo states states' plan (length parts) rows workers w (k + 1)
+feeds_step states mids states' files plan k dataset queries parts first workers w rows has below is are known holds before feeds =
+    let pass = pass_with plan (slice_index_or (passes_in plan) k 0) (slice_index_or (queries_in plan) k []) parts first in
+    feeds_more states mids states' (files w) plan parts first rows workers w k has below before
+    (subst (λ (pass : PassView). FeedsParts mids states' (files w) pass workers w) (pass_is plan k dataset queries parts first is are) feeds)
+    (own_of_parts files pass workers w rows known holds)
+
+-- and the queries of one pass more were answered
+pub have_step : (before after : ℕ → Option Files) (plan : Plan) (k dataset : ℕ) (queries : List ℕ) (parts : List Run) (first : ℕ) (rows : ℕ → List Fields) (found old new : List (Option Run)) → HasPasses plan → k < length (passes_in plan)
+    → dataset ≡ slice_index_or (passes_in plan) k 0 → queries ≡ slice_index_or (queries_in plan) k [] → KeepsAll before after → HavePass after (pass_with plan dataset queries parts first) rows found → ArePut queries found old new (length queries)
+    → HaveUpTo before plan (totals_of_parts plan (length parts) rows) k old → HaveUpTo after plan (totals_of_parts plan (length parts) rows) (k + 1) new
+have_step before after plan k dataset queries parts first rows found old new has below is are kept have put sofar =
+    have_more plan k parts first rows has below before after found old new kept
+    (subst (λ (pass : PassView). HavePass after pass rows found) (pass_is plan k dataset queries parts first is are) have)
+    (subst (λ (q : List ℕ). ArePut q found old new (length q)) are put) sofar
+
+-- ---- a pass that gave up
+
+-- the soundness of a fault says nothing of answers
+pub sound_fault : {T U : Type 0} (says : T → Type 0) (tells : U → Type 0) (fault : WorkFault) → IfSound says (Err fault) → IfSound tells (Err fault)
+sound_fault says tells (NoRoom asked held floor) sound = tt
+sound_fault says tells (DiskFault post) sound = tt
+sound_fault says tells (Damaged damage) sound = sound
+sound_fault says tells NoMemory sound = tt
