@@ -1,6 +1,6 @@
 //! Which rows of a block are used: those that may be rows of the partition.
 
-ghost use Rattle.std.specs.Prelude.{◌≡◌, ◌<◌, ◌≤◌, ◌^◌, ◌+◌, ◌↔◌, true, length, IfNone, IfSome, IsTrue};
+ghost use Rattle.std.specs.Prelude.{◌≡◌, ◌<◌, ◌+◌, ◌↔◌, true, length, IfNone, IfSome, IsTrue};
 ghost use Rattle.row_page.specs.Views.{fields_in};
 ghost use Rattle.run_file.specs.Forms.{IsWellFormed};
 ghost use Rattle.lineage.specs.Checking.{AreRight, AreRightFor, number_of};

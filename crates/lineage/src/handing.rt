@@ -1,6 +1,6 @@
 //! The rows of a dataset in a partition, handed out and given back.
 
-ghost use Rattle.std.specs.Prelude.{◌≡◌, ◌≢◌, ◌<◌, ◌≤◌, ◌^◌, ℕ, IfOk, List, OnOk, length};
+ghost use Rattle.std.specs.Prelude.{◌≡◌, ◌<◌, ◌≤◌, ℕ, IfOk, List, OnOk, length};
 ghost use Rattle.memory_core.specs.Caches.{AreGiven};
 ghost use Rattle.memory_lock.specs.Workers.{HasNoPin, KeepsTask, SeesMore, own_entries};
 ghost use Rattle.row_filter.specs.Chains.{links_of};
@@ -26,8 +26,8 @@ use std::sync::Wait;
 
 /// The rows of a dataset in a partition: those of its block, where it is kept and the block is in memory or has a copy, and
 /// else computed from its parent's rows by its filter, up to the input, whose rows are read from the partition's landed run on
-/// this disk. What was computed of a kept dataset is kept as its block, if there is room. A block whose rows can't be the
-/// partition's is not used. The rows of a parent are given back before a child is kept.
+/// this disk. What was computed of a kept dataset, or read back, is kept as its block, if there is room. A block whose rows can't
+/// be the partition's is not used. The rows of a parent are given back before a child is kept.
 ///
 /// After Spark: `RDD.iterator`, which reads a cached partition or computes it from its parents'.
 pub fn rows_of<K: Disk, D: Disk, B: Basis, R: Wait>(

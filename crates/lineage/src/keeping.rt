@@ -1,9 +1,9 @@
 //! Rows that were computed, as a block.
 
-ghost use Rattle.std.specs.Prelude.{◌≡◌, ◌≤◌, ◌≢◌, IfOk, OnOk, length};
+ghost use Rattle.std.specs.Prelude.{◌≡◌, ◌≤◌, IfOk, OnOk, length};
 ghost use Rattle.std.specs.Arc.{arc_value};
 ghost use Rattle.memory_core.specs.Caches.{AreGiven};
-ghost use Rattle.row_filter.specs.Chains.{level_at, links_of};
+ghost use Rattle.row_filter.specs.Chains.{links_of};
 ghost use Rattle.task_pool.specs.Workers.{KeepsPin};
 ghost use Rattle.lineage.specs.Entries.{WorksOn};
 ghost use Rattle.lineage.specs.Handed.{IsBlockWith};

@@ -1,6 +1,6 @@
 //! The input's rows in a partition, as they landed.
 
-ghost use Rattle.std.specs.Prelude.{◌≡◌, ◌<◌, ℕ, IfOk, List, length};
+ghost use Rattle.std.specs.Prelude.{◌<◌, ℕ, IfOk, List, length};
 ghost use Rattle.lineage.specs.Handed.{AreFormed, GivesPage, HasCauseIn, LeavesFiles};
 ghost use Rattle.lineage.specs.LineageViews.{run_for};
 ghost use Rattle.lineage.specs.Standing.{HoldsInput};

@@ -1,6 +1,5 @@
 // One worker with one task, which hands out rows as a script says.
-ghost use Rattle.std.specs.Prelude.{◌≡◌, ◌≤◌, ◌<◌, [], ℕ, Some, None, IfOk, length};
-ghost use Rattle.row_filter.specs.Chains.{links_of};
+ghost use Rattle.std.specs.Prelude.{◌≡◌, ◌<◌, [], ℕ, Some, None, IfOk};
 ghost use Rattle.memory_lock.specs.Crew.{IsWorker};
 ghost use Rattle.memory_lock.specs.Workers.{HasNoPin, IsOpen, KeepsTask, SeesMore};
 ghost use Rattle.lineage.specs.LineageViews.{IsLineage};
