@@ -18,7 +18,7 @@ WORK = {'workers': (1, 16, 4), 'heap': (1, 2**40, 2**30), 'reserved': (0, 2**40,
         'fraction': (1, 1000, 600), 'storage': (0, 1000, 500), 'part-rows': (1, 10**6, 10**4)}
 RUN = dict(WORK, **{'max-rows': (1, 10**7, 10**7)})
 # Each program's options, flags and positional words.
-PROGRAMS = {'run': (RUN, (), ('JOB',)), 'trial': (WORK, (), ('N',)), 'plan': ({}, (), ('JOB',)), 'audit': ({}, (), ())}
+PROGRAMS = {'run': (RUN, ('journal',), ('JOB',)), 'trial': (WORK, (), ('N',)), 'plan': ({}, (), ('JOB',)), 'audit': ({}, (), ())}
 ODD = ('', '-', '--', '---', '--=', '--=4', '-h', '--help', '-V', '--version', '--journal', '--journal=', '--journal=x', '-x',
        '-5', '--worker', '--worker=4', '--workerss=4', '--Workers=4', '--workers', '--heap', '--workers=', '--workers=4=5',
        '--heap=-1', '--heap=+5', '--heap= 5', '--heap=5k', '--storage=0x1', '--workers=000000000000000000004',
@@ -81,12 +81,13 @@ def given(words, options, flags, places):
 
 
 def said(program, words):
-    """What the words behind the first one say: the options' numbers, then the rows, or the job in brackets."""
+    """What the words behind the first one say: the options' numbers, the flags, then the rows, or the job in brackets."""
     options, flags, places = PROGRAMS[program]
     found = given(words, options, flags, places)
     parts = []
     for name, (least, greatest, default) in options.items():
         parts.append(str(number(found[name], least, greatest) if name in found else default))
+    parts += [name for name in flags if name in found]
     for place in places:
         parts.append(str(number(found[place], 1, 10**6)) if place == 'N' else '[%s]' % found[place])
     return ' '.join(parts) if parts else 'ok'
@@ -106,8 +107,8 @@ def drawn_value(draw, least, greatest, default):
 
 
 def drawn_good(draw, program):
-    options, _, places = PROGRAMS[program]
-    groups = []
+    options, flags, places = PROGRAMS[program]
+    groups = [['--' + name] for name in flags if draw.random() < 0.3]
     for name in draw.sample(list(options), draw.randint(0, min(3, len(options)))):
         value = drawn_value(draw, *options[name])
         groups.append(['--%s=%s' % (name, value)] if draw.random() < 0.5 else ['--' + name, value])
@@ -158,8 +159,8 @@ def telling(count):
         if line in seen or len(line) > 60:
             continue
         seen.add(line)
-        _, why = answer(words)
-        key = (words[0], why if why != 'good' else 'good %d' % len(words))
+        told, why = answer(words)
+        key = (words[0], why if why != 'good' else 'good %d%s' % (len(words), ' journal' * (' journal ' in told)))
         classes.setdefault(key, []).append(words)
     chosen, turn = [], 0
     while len(chosen) < count:
@@ -171,8 +172,8 @@ def telling(count):
 
 
 def table():
-    lines = ['// Lists of words, with bars between them, and what they say: the numbers of the options in the order of the fields, and',
-             '// the rows, or the job in brackets. They were drawn by a program that reads words by the rules alone,',
+    lines = ['// Lists of words, with bars between them, and what they say: the numbers of the options in the order of the fields, the',
+             '// flag, and the rows, or the job in brackets. They were drawn by a program that reads words by the rules alone,',
              '// tools/words_model.py, as good lists and their near misses, and are those that differ most.', '',
              'pub const DRAWN: &str = "\\']
     for words in telling(300):

@@ -1,5 +1,5 @@
 -- What the totals of all queries of a plan end as is how the job ends over its rows.
-use Rattle.std.proofs.Common.{◌≡◌, ◌∙◌, ◌+◌, ◌^◌, ◌<◌, ◌≤◌, ◌∷◌, [], ℕ, zero, suc, List, Option, Some, None, get_or, length, map, refl, sym, ap, subst, arith}
+use Rattle.std.proofs.Common.{◌≡◌, ◌∙◌, ◌+◌, ◌^◌, ◌<◌, ◌≤◌, ◌∷◌, [], ℕ, suc, List, Option, Some, None, length, map, refl, sym, ap, subst, arith}
 use Rattle.std.specs.List.{AllByRecursion, range_with_len}
 use Rattle.std.specs.Option.{option_or}
 use Rattle.std.specs.Prelude.{option_map, slice_index_or}
@@ -13,7 +13,7 @@ use Rattle.job_answer.specs.Planned.{PlansDeriveRows}
 use Rattle.job_answer.proofs.NumberedRows.{landed-numbered}
 use Rattle.job_plan.specs.Columns.{Fields}
 use Rattle.job_plan.specs.Entries.{entry_of, field_bytes}
-use Rattle.job_plan.specs.Plans.{IsPlanOf, chain_in, datasets_of, form_in, kept_at, kept_in, kind_at, no_shape, places_in}
+use Rattle.job_plan.specs.Plans.{IsPlanOf, chain_in, form_in, kept_at, kept_in, kind_at, no_shape, places_in}
 use Rattle.job_plan.specs.Rows.{AreBytes, landed_rows}
 use Rattle.job_plan.specs.declared.query_plan.Plan.{Plan}
 use Rattle.job_text.specs.Jobs.{IsJob}
@@ -114,7 +114,7 @@ ending_is job max_rows plan landed records most tell derive whole are formed few
     } in
     let several : length (kept_in plan) ≡ length job.queries = count_is job header plan made in
     let tells : (query : ℕ) → query < length job.queries → TellsAnswer job header plan rows query (totals query) = λ query below.
-        subst (TellsAnswer job header plan rows query) (sym (totals_are job header plan rows query derive whole made)) (tell job header plan rows query over (omega (arith, below, several))) in
+    subst (TellsAnswer job header plan rows query) (sym (totals_are job header plan rows query derive whole made)) (tell job header plan rows query over (omega (arith, below, several))) in
     let text : tables_of plan totals ≡ output job header rows =
     ap (λ (n : ℕ). joined (map (λ query. table_of plan query (totals query)) (range_with_len 0 n))) several
     ∙ ap joined (tables_are (λ query. table_of plan query (totals query)) (λ query. text_of (table_rows job header rows query)) 0 job.queries (λ k below. ap (λ (query : ℕ). table_of plan query (totals query)) (from_none k) ∙ ap text_of (tells k below).table))

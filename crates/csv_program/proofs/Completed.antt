@@ -56,34 +56,42 @@ not_short pool journal asked held floor all shows =
 
 -- ---- the status
 
-by_status : (ended : Status) (pool : Sizes) (journal : List Entry) (reads writes : Type 0) (disks : ℕ → Type 0) → (reads → ⊥) → (writes → ⊥) → ((post : ℕ) → disks post → ⊥) → GrantsAll journal
-    → (ended ≡ status.ReadFault → reads) → (ended ≡ status.WriteFault → writes) → IsDiskFault ended disks → IsNoRoom ended (ShowsShort pool journal) → IsOutside ended → ended ≡ status.NoMemory
-by_status (status.NoRoom asked held floor) pool journal reads writes disks no_reads no_writes no_disks all read write disk no_room outside = absurd (not_short pool journal asked held floor all no_room)
-by_status status.ReadFault pool journal reads writes disks no_reads no_writes no_disks all read write disk no_room outside = absurd (no_reads (read refl))
-by_status status.WriteFault pool journal reads writes disks no_reads no_writes no_disks all read write disk no_room outside = absurd (no_writes (write refl))
-by_status (status.DiskFault post) pool journal reads writes disks no_reads no_writes no_disks all read write disk no_room outside = absurd (no_disks post disk)
-by_status status.NoMemory pool journal reads writes disks no_reads no_writes no_disks all read write disk no_room outside = refl
-by_status _ pool journal reads writes disks no_reads no_writes no_disks all read write disk no_room outside = absurd outside
+-- what rose where a status tells a fault of the input, of the output, of the journal's sink or of a post's disk
+record Causes (ended : Status) (reads writes records : Type 0) (disks : ℕ → Type 0) : Type 0 where
+  pub read : ended ≡ status.ReadFault → reads
+  pub write : ended ≡ status.WriteFault → writes
+  pub record_is : ended ≡ status.JournalFault → records
+  pub disk : IsDiskFault ended disks
 
-pub completes : (ended : Status) (ending : Ending) (text : List ℕ) (pool : Sizes) (journal : List Entry) (input input' output output' : ℕ) (posts posts' : ℕ → ℕ) → ending ≡ Prints text
-    → FailsNothing input input' output output' posts posts' → GrantsAll journal → (ended ≡ status.ReadFault → Rose input input') → (ended ≡ status.WriteFault → Rose output output')
+by_status : (ended : Status) (pool : Sizes) (journal : List Entry) (reads writes records : Type 0) (disks : ℕ → Type 0) → (reads → ⊥) → (writes → ⊥) → (records → ⊥) → ((post : ℕ) → disks post → ⊥) → GrantsAll journal
+    → Causes ended reads writes records disks → IsNoRoom ended (ShowsShort pool journal) → IsOutside ended → ended ≡ status.NoMemory
+by_status (status.NoRoom asked held floor) pool journal reads writes records disks no_reads no_writes no_records no_disks all causes no_room outside = absurd (not_short pool journal asked held floor all no_room)
+by_status status.ReadFault pool journal reads writes records disks no_reads no_writes no_records no_disks all causes no_room outside = absurd (no_reads (causes.read refl))
+by_status status.WriteFault pool journal reads writes records disks no_reads no_writes no_records no_disks all causes no_room outside = absurd (no_writes (causes.write refl))
+by_status status.JournalFault pool journal reads writes records disks no_reads no_writes no_records no_disks all causes no_room outside = absurd (no_records (causes.record_is refl))
+by_status (status.DiskFault post) pool journal reads writes records disks no_reads no_writes no_records no_disks all causes no_room outside = absurd (no_disks post causes.disk)
+by_status status.NoMemory pool journal reads writes records disks no_reads no_writes no_records no_disks all causes no_room outside = refl
+by_status _ pool journal reads writes records disks no_reads no_writes no_records no_disks all causes no_room outside = absurd outside
+
+pub completes : (ended : Status) (ending : Ending) (text : List ℕ) (pool : Sizes) (journal : List Entry) (input input' output output' sink sink' : ℕ) (posts posts' : ℕ → ℕ) → ending ≡ Prints text
+    → FailsNothing input input' output output' sink sink' posts posts' → GrantsAll journal → (ended ≡ status.ReadFault → Rose input input') → (ended ≡ status.WriteFault → Rose output output') → (ended ≡ status.JournalFault → Rose sink sink')
     → IsDiskFault ended (λ post. Rose (posts post) (posts' post)) → IsNoRoom ended (ShowsShort pool journal) → MayEndAs ending ended → (ended ≡ status.Done) ⊎ (ended ≡ status.NoMemory)
-completes ended ending text pool journal input input' output output' posts posts' prints nothing all read write disk no_room (inl outside) =
-    inr (by_status ended pool journal (Rose input input') (Rose output output') (λ post. Rose (posts post) (posts' post)) nothing.reads nothing.writes nothing.disks all read write disk no_room
-    (subst (λ (e : Ending). ComesBefore e ended) prints outside))
-completes ended ending text pool journal input input' output output' posts posts' prints nothing all read write disk no_room (inr ends) =
+completes ended ending text pool journal input input' output output' sink sink' posts posts' prints nothing all read write records disk no_room (inl outside) =
+    inr (by_status ended pool journal (Rose input input') (Rose output output') (Rose sink sink') (λ post. Rose (posts post) (posts' post)) nothing.reads nothing.writes nothing.records nothing.disks all
+    (record { read = read; write = write; record_is = records; disk = disk }) no_room (subst (λ (e : Ending). ComesBefore e ended) prints outside))
+completes ended ending text pool journal input input' output output' sink sink' posts posts' prints nothing all read write records disk no_room (inr ends) =
     inl (subst (λ (e : Ending). EndsAs e ended) prints ends)
 
 -- of a call of a job
-pub completes_call : {D C : Type 0} (files : D → Option Files) (posts : Vec (Post D C)) (left : Option (List ℕ)) (call : Call) (asked : RunCall) (ended : Status) (journal : List Entry) (input input' output output' : ℕ) (faults faults' : ℕ → ℕ)
-    → call ≡ Runs asked → (ended ≡ status.ReadFault → Rose input input') → (ended ≡ status.WriteFault → Rose output output')
+pub completes_call : {D C : Type 0} (files : D → Option Files) (posts : Vec (Post D C)) (left : Option (List ℕ)) (call : Call) (asked : RunCall) (ended : Status) (journal : List Entry) (input input' output output' sink sink' : ℕ) (faults faults' : ℕ → ℕ)
+    → call ≡ Runs asked → (ended ≡ status.ReadFault → Rose input input') → (ended ≡ status.WriteFault → Rose output output') → (ended ≡ status.JournalFault → Rose sink sink')
     → IsDiskFault ended (λ post. Rose (faults post) (faults' post)) → IsNoRoom ended (ShowsShort asked.pool journal)
     → IfSome left (λ bytes. AllTell asked.pool.workers (post_files files posts) → MayEndAs (ending_of asked bytes) ended)
     → ForRun call (λ asked. IfSome left (λ bytes. AllTell asked.pool.workers (post_files files posts) → (text : List ℕ) → ending_of asked bytes ≡ Prints text
-    → FailsNothing input input' output output' faults faults' → GrantsAll journal → (ended ≡ status.Done) ⊎ (ended ≡ status.NoMemory)))
-completes_call files posts None call asked ended journal input input' output output' faults faults' is read write disk no_room ends = for_run call asked _ is _
-completes_call files posts (Some bytes) call asked ended journal input input' output output' faults faults' is read write disk no_room ends =
+    → FailsNothing input input' output output' sink sink' faults faults' → GrantsAll journal → (ended ≡ status.Done) ⊎ (ended ≡ status.NoMemory)))
+completes_call files posts None call asked ended journal input input' output output' sink sink' faults faults' is read write records disk no_room ends = for_run call asked _ is _
+completes_call files posts (Some bytes) call asked ended journal input input' output output' sink sink' faults faults' is read write records disk no_room ends =
     for_run call asked
     (λ asked. AllTell asked.pool.workers (post_files files posts) → (text : List ℕ) → ending_of asked bytes ≡ Prints text
-    → FailsNothing input input' output output' faults faults' → GrantsAll journal → (ended ≡ status.Done) ⊎ (ended ≡ status.NoMemory))
-    is (λ tell text prints nothing all. completes ended (ending_of asked bytes) text asked.pool journal input input' output output' faults faults' prints nothing all read write disk no_room (ends tell))
+    → FailsNothing input input' output output' sink sink' faults faults' → GrantsAll journal → (ended ≡ status.Done) ⊎ (ended ≡ status.NoMemory))
+    is (λ tell text prints nothing all. completes ended (ending_of asked bytes) text asked.pool journal input input' output output' sink sink' faults faults' prints nothing all read write records disk no_room (ends tell))

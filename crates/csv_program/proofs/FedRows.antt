@@ -1,5 +1,5 @@
 -- How often consumers are fed by a plan is how often they are by its job.
-use Rattle.std.proofs.Common.{◌≡◌, ◌∙◌, ◌+◌, ◌*◌, ◌∷◌, [], ℕ, zero, suc, Bool, true, false, cond, List, get_or, length, map, take, drop, refl, sym, ap, subst, arith}
+use Rattle.std.proofs.Common.{◌≡◌, ◌∙◌, ◌+◌, ◌*◌, ◌∷◌, [], ℕ, zero, suc, Bool, true, false, cond, List, length, take, drop, refl, sym, ap, subst, arith}
 use Rattle.std.specs.Prelude.{◌==◌, slice_index_or, sum_by, if◌then◌else◌}
 use Rattle.std.specs.List.{filter, list_any, range_with_len}
 use Rattle.std.proofs.Math.ListN as lists

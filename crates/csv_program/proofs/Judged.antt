@@ -7,14 +7,14 @@ use Rattle.job_plan.specs.Plans.{places_in}
 use Rattle.job_plan.specs.Rows.{landed_rows}
 use Rattle.job_plan.specs.declared.query_plan.Plan.{Plan}
 use Rattle.job_text.specs.declared.job.Job.{Job}
-use Rattle.landing.specs.Checks.{Checked, Refused, checked}
+use Rattle.landing.specs.Checks.{Refused, checked}
 use Rattle.landing.specs.Landed.{AreLanded, AreRowsOf, IsOfInput, partition_count}
 use Rattle.spill_disk.specs.Files.{Files}
 use Rattle.run_file.specs.declared.run.Run.{Run}
 use Rattle.landing.specs.declared.fault.LandFault.{LandFault}
 use Rattle.landing.specs.declared.fault.LandFault.TheVariants as fault
 use Rattle.csv_program.specs.Endings.{ComesBefore, EndsAs, Ending, HasTooWide, Prints, Refuses, ending_of, ending_of_checked, MayEndAs, partitions_of_checked, status_of}
-use Rattle.csv_program.specs.Statuses.{IsJudged, IsOfTasks, IsOutside, IsUnlanded, IsUnprinted}
+use Rattle.csv_program.specs.Statuses.{IsDamaged, IsJudged, IsOfTasks, IsOutside, IsUnlanded, IsUnprinted}
 use Rattle.csv_program.specs.declared.call.RunCall.{RunCall}
 use Rattle.csv_program.specs.declared.outcome.Status.{Status}
 use Rattle.csv_program.specs.declared.outcome.Status.TheVariants as status
@@ -93,6 +93,7 @@ none_of_tasks status.Done is = refl
 none_of_tasks (status.SumTooWide query key) is = refl
 none_of_tasks (status.NoRoom asked held floor) is = refl
 none_of_tasks status.WriteFault is = refl
+none_of_tasks status.JournalFault is = refl
 none_of_tasks (status.DiskFault post) is = refl
 none_of_tasks (status.Damaged post file kept found) is = refl
 none_of_tasks status.NoMemory is = refl
@@ -152,3 +153,27 @@ partitions_are job max_rows part_rows plan landed records are =
 pub some_always : {A P : Type 0} (o : Option A) → P → IfSome o (λ x. P)
 some_always None p = _
 some_always (Some x) p = p
+
+refused_undamaged : (why : LandFault) (post file kept found : ℕ) → status.Damaged post file kept found ≡ status_of why → ⊥
+refused_undamaged fault.NoHeader post file kept found is = cc is
+refused_undamaged (fault.NoColumn column) post file kept found is = cc is
+refused_undamaged (fault.Ragged row) post file kept found is = cc is
+refused_undamaged (fault.RowTooLong row) post file kept found is = cc is
+refused_undamaged (fault.BadNumber row column) post file kept found is = cc is
+refused_undamaged fault.TooManyRows post file kept found is = cc is
+refused_undamaged fault.ReadFault post file kept found is = cc is
+refused_undamaged (fault.DiskFault disk) post file kept found is = cc is
+refused_undamaged fault.NoMemory post file kept found is = cc is
+
+never_damaged : (ending : Ending) (post file kept found : ℕ) → MayEndAs ending (status.Damaged post file kept found) → ⊥
+never_damaged (Refuses why) post file kept found (inl before) = before
+never_damaged (Refuses why) post file kept found (inr is) = refused_undamaged why post file kept found is
+never_damaged (HasTooWide query key) post file kept found (inl before) = before
+never_damaged (HasTooWide query key) post file kept found (inr is) = cc is
+never_damaged (Prints text) post file kept found (inl before) = before
+never_damaged (Prints text) post file kept found (inr is) = cc is
+
+-- no ending is told as damage
+pub ends_undamaged : (ending : Ending) (ended : Status) → MayEndAs ending ended → IsDamaged ended (λ kept found. ⊥)
+ends_undamaged ending (status.Damaged post file kept found) may = never_damaged ending post file kept found may
+ends_undamaged ending _ may = _

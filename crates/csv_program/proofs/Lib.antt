@@ -13,6 +13,7 @@ pub mod Judged
 pub mod FedRows
 pub mod Planned
 pub mod Printed
+pub mod Gaining
 pub mod Aside
 pub mod Journals
 pub mod Deeds

@@ -1,5 +1,5 @@
 -- Tables one behind the other, piece by piece, and the first total that is too wide.
-use Rattle.std.proofs.Common.{◌≡◌, ◌∙◌, ◌+◌, ◌++◌, ◌-◌, ◌<◌, ◌∷◌, [], ℕ, zero, suc, List, Option, Some, None, length, map, append-nil, append_assoc, refl, sym, ap, subst, arith}
+use Rattle.std.proofs.Common.{◌≡◌, ◌∙◌, ◌+◌, ◌++◌, ◌-◌, ◌<◌, ◌∷◌, [], ℕ, zero, suc, List, Option, Some, None, length, map, append-nil, refl, sym, ap, arith}
 use Rattle.std.specs.Prelude.{option_map}
 use Rattle.std.specs.List.{flat_map, range_with_len}
 use Rattle.std.specs.Option.{option_or}
@@ -72,8 +72,7 @@ pieces_split plan totals query count below =
     let piece : ℕ → List ℕ = λ query. piece_of plan query (totals query) in
     let left = count - suc query in
     let whole : count ≡ suc query + left = omega (arith, below) in
-    let behind : List ℕ = range_with_len (0 + suc query) left in
-    (
+    let behind : List ℕ = range_with_len (0 + suc query) left in (
       flat_map piece behind,
       ap (λ (n : ℕ). flat_map piece (range_with_len 0 n)) whole ∙ ap (flat_map piece) (range_split 0 (suc query) left)
           ∙ flat_map-append piece (range_with_len 0 (suc query)) behind ∙ ap (λ (front : List ℕ). front ++ flat_map piece behind) (pieces_more plan totals query),

@@ -1,5 +1,5 @@
 -- What the tasks of a landed input come to, and that it can be told.
-use Rattle.std.proofs.Common.{◌≡◌, ◌*◌, ◌%◌, ◌≤◌, ◌<◌, ◌∷◌, [], ℕ, zero, suc, List, Option, None, length, map, take, drop, arith}
+use Rattle.std.proofs.Common.{◌*◌, ◌%◌, ◌≤◌, ◌<◌, ◌∷◌, [], ℕ, zero, suc, List, Option, length, map, take, drop, arith}
 use Rattle.std.specs.Prelude.{All, Bool, true, false, cond, slice_index_or}
 use Rattle.std.specs.List.{AllByRecursion, filter, list_all}
 use Rattle.std.proofs.Props.{props}
@@ -9,7 +9,6 @@ use Rattle.std.proofs.lemmas.List.{length-map}
 use Rattle.spill_disk.specs.Files.{Files}
 use Rattle.run_file.specs.Forms.{HasForm}
 use Rattle.run_file.specs.declared.run.Run.{Run}
-use Rattle.run_file.specs.Several.{run_at}
 use Rattle.job_text.specs.Jobs.{IsShape}
 use Rattle.job_text.specs.declared.job.Shape.{Shape}
 use Rattle.job_text.specs.declared.job.Shape.TheVariants.{Group, Order}

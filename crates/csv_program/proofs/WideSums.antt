@@ -1,5 +1,5 @@
 -- A sum that is too wide, and what comes before it is told.
-use Rattle.std.proofs.Common.{◌≡◌, ◌<◌, ℕ, List, Option, Some, None, length, refl, sym, ap, subst, inl, inr}
+use Rattle.std.proofs.Common.{◌≡◌, ◌<◌, ℕ, List, Option, Some, None, length, refl, sym, subst, inl, inr}
 use Rattle.std.specs.Prelude.{◌⊎◌}
 use Rattle.aggregate.specs.Totals.{Entry}
 use Rattle.job_answer.specs.Laws.{wide_total}

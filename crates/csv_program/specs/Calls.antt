@@ -34,6 +34,7 @@ run_of words job = record {
   job = job;
   max_rows = words.max_rows;
   part_rows = words.options.part_rows;
+  journal = words.journal;
 }
 
 -- a call without words that `run` takes, or with fewer posts than workers; one whose text is refused at a place; one whose heap is

@@ -10,10 +10,11 @@ use Rattle.csv_program.specs.Tasks.{BeginsAll, FollowsPlan}
 use Rattle.csv_program.specs.declared.outcome.Status.{Status}
 use Rattle.csv_program.specs.declared.outcome.Status.TheVariants as status
 
--- no count of faults rose: neither the input's nor the output's, nor that of a post's disk
-pub record FailsNothing (input input' output output' : ℕ) (posts posts' : ℕ → ℕ) : Type 0 where
+-- no count of faults rose: neither the input's nor the output's, nor that of the journal's sink or of a post's disk
+pub record FailsNothing (input input' output output' journal journal' : ℕ) (posts posts' : ℕ → ℕ) : Type 0 where
   pub reads : Rose input input' → ⊥
   pub writes : Rose output output' → ⊥
+  pub records : Rose journal journal' → ⊥
   pub disks : (post : ℕ) → Rose (posts post) (posts' post) → ⊥
 
 -- an attempt is granted all that it asks; a wait is granted nothing

@@ -3,6 +3,7 @@ pub mod Calls
 pub mod PlanCalls
 pub mod Statuses
 pub mod Telling
+pub mod Written
 pub mod Tables
 pub mod Endings
 pub mod Tasks

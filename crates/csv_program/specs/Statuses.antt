@@ -23,15 +23,17 @@ number_of (status.SumTooWide query key) = 11
 number_of (status.NoRoom asked held floor) = 12
 number_of status.ReadFault = 13
 number_of status.WriteFault = 14
+number_of status.JournalFault = 15
 number_of (status.DiskFault post) = 16
 number_of (status.Damaged post file kept found) = 17
 number_of status.NoMemory = 18
 
--- a fault of the input, the output or a post's disk, want of room in the pool, or want of memory
+-- a fault of the input, the output, the journal's sink or a post's disk, want of room in the pool, or want of memory
 abbrev pub IsOutside : Status → Type 0
 IsOutside (status.NoRoom asked held floor) = ⊤
 IsOutside status.ReadFault = ⊤
 IsOutside status.WriteFault = ⊤
+IsOutside status.JournalFault = ⊤
 IsOutside (status.DiskFault post) = ⊤
 IsOutside status.NoMemory = ⊤
 IsOutside _ = ⊥
@@ -57,6 +59,7 @@ IsOfTasks status.Done = ⊤
 IsOfTasks (status.SumTooWide query key) = ⊤
 IsOfTasks (status.NoRoom asked held floor) = ⊤
 IsOfTasks status.WriteFault = ⊤
+IsOfTasks status.JournalFault = ⊤
 IsOfTasks (status.DiskFault post) = ⊤
 IsOfTasks (status.Damaged post file kept found) = ⊤
 IsOfTasks status.NoMemory = ⊤
@@ -77,6 +80,12 @@ IsOfTables (status.DiskFault post) = ⊤
 IsOfTables (status.Damaged post file kept found) = ⊤
 IsOfTables status.NoMemory = ⊤
 IsOfTables _ = ⊥
+
+-- the status may be that of a journal that couldn't be written whole
+abbrev pub IsOfJournal : Status → Type 0
+IsOfJournal status.JournalFault = ⊤
+IsOfJournal status.NoMemory = ⊤
+IsOfJournal _ = ⊥
 
 -- the status tells that this total of a query is too wide
 abbrev pub TellsWide : ℕ → Option Entry → Status → Type 0
@@ -132,6 +141,7 @@ MakesPool status.Done = ⊤
 MakesPool (status.SumTooWide query key) = ⊤
 MakesPool (status.NoRoom asked held floor) = ⊤
 MakesPool status.WriteFault = ⊤
+MakesPool status.JournalFault = ⊤
 MakesPool (status.Damaged post file kept found) = ⊤
 MakesPool _ = ⊥
 

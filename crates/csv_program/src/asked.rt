@@ -59,6 +59,7 @@ fn call_for(alloc: Global, said: RunWords<'_>) -> Result<RunCall, Status>
             job,
             max_rows: said.max_rows,
             part_rows: said.options.part_rows,
+            journal: said.journal,
         }),
         Err(HeapTooSmall) => Err(Status::HeapTooSmall),
     }

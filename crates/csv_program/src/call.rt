@@ -14,4 +14,6 @@ pub struct RunCall {
     pub max_rows: u64,
     /// How many rows make a partition, at least 1; the last one may have fewer.
     pub part_rows: u64,
+    /// Whether the pool's journal is to be written.
+    pub journal: bool,
 }

@@ -9,6 +9,7 @@ mod outcome;
 mod plan;
 mod pool;
 mod queries;
+mod record;
 mod spill;
 mod sums;
 mod table;
@@ -17,14 +18,14 @@ mod tests;
 mod top;
 
 use audit_program::{AuditStatus, audit_call};
-use byte_io::{StdSink, StdSource};
+use byte_io::{FileSink, StdSink, StdSource};
 use outcome::Status;
 use plan::plan_call;
 use spill::prepare;
 use std::alloc::{AllocError, Global};
 use std::fmt::Display;
 use std::process::ExitCode;
-use std::rt::Env;
+use std::rt::{Env, Files};
 use std::{env, io};
 use top::run;
 use words::begins_with;
@@ -73,6 +74,12 @@ fn end_audit(rt: &impl Eprint, ended: AuditStatus) -> ExitCode {
     }
 }
 
+// The sink of the journal, whose file is made by the first write.
+fn journal_sink<R: Files + AllocGlobal + Clone + Drop>(rt: &R) -> Result<FileSink<R>, AllocError> {
+    let path = String::from_str(rt.alloc(), "journal.csv")?;
+    Ok(FileSink::new(rt.clone()?, path))
+}
+
 fn main(rt: HostRuntime) -> ExitCode {
     let words = match words_of_call(&rt) {
         Ok(words) => words,
@@ -101,12 +108,17 @@ fn main(rt: HostRuntime) -> ExitCode {
     };
     let mut input = StdSource::new(rt.reader());
     let mut output = StdSink::new(io::writer(&rt));
+    let Ok(mut journal) = journal_sink(&rt) else {
+        let status = Status::NoMemory;
+        return end_with(&rt, status.number(), &status);
+    };
     let status = run(
         &rt,
         rt.alloc(),
         &texts,
         &mut input,
         &mut output,
+        &mut journal,
         &mut posts,
         store,
     )

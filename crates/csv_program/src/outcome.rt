@@ -78,6 +78,9 @@ pub enum Status {
     /// A write of the output failed.
     #[error("output failed")]
     WriteFault,
+    /// A write of the journal failed.
+    #[error("journal failed")]
+    JournalFault,
     /// A call of the disk of this post failed.
     #[error("disk of post {post} failed")]
     DiskFault {
@@ -127,6 +130,7 @@ impl Status {
             Status::NoRoom { .. } => 12,
             Status::ReadFault => 13,
             Status::WriteFault => 14,
+            Status::JournalFault => 15,
             Status::DiskFault { .. } => 16,
             Status::Damaged { .. } => 17,
             Status::NoMemory => 18,

@@ -6,6 +6,7 @@ ghost use Rattle.byte_io.specs.Sinks.{AppendsPrefix};
 ghost use Rattle.fault_count.specs.Faults.{Rose};
 ghost use Rattle.pool_ledger.specs.Journal.{history_of};
 ghost use Rattle.pool_ledger.specs.Legal.{IsLegal};
+ghost use Rattle.journal_audit.specs.Text.{text_of};
 ghost use Rattle.job_plan.specs.Planning.{columns_of};
 ghost use Rattle.job_plan.specs.Plans.{first_task_of, form_in, passes_in};
 ghost use Rattle.landing.specs.Landed.{AreChecked, AreLanded, partition_of};
@@ -18,16 +19,18 @@ ghost use Rattle.csv_program.specs.QueryResults.{HasPasses};
 ghost use Rattle.csv_program.specs.Statuses.{IsCut, IsDamaged, IsDamagedOn, IsDiskFault, IsNoRoom, IsOfTasks, MakesPool, WritesNothing};
 ghost use Rattle.csv_program.specs.Tasks.{BeginsAll, FollowsPlan, ShowsShort, owner_of};
 ghost use Rattle.csv_program.specs.Telling.{status_of_work};
+ghost use Rattle.csv_program.specs.Written.{Gains};
 
+use crate::call::RunCall;
 use crate::outcome::{Outcome, Status, unpooled};
 use crate::pool::run_tasks;
+use crate::record::Record;
 use crate::table::print_answers;
 use byte_io::Sink;
 use consumer_trait::Consumer;
 use job_answer::short_shapes_are_told;
 use job_plan::Plan;
 use memory_lock::Basis;
-use pool_ledger::Setup;
 use run_file::Run;
 use spill_disk::Disk;
 use std::alloc::Global;
@@ -35,29 +38,32 @@ use std::sync::Wait;
 use std::thread::Threads;
 use task_runner::{Post, WorkFault};
 
-/// Does the tasks of a plan over landed partitions, in a pool of these sizes, checks the sums, and prints the tables.
+/// Does the tasks of a plan over landed partitions, in the pool of what is asked for, checks the sums, writes the journal, if that
+/// is asked for, and prints the tables.
 pub fn run_queries<
     K: Disk + Send,
     D: Disk + Send,
     C: Consumer + Send,
+    J: Sink,
     W: Sink,
     B: Basis + Send + Sync,
     R: Threads + Wait + Sync,
 >(
     rt: &R,
     alloc: Global,
-    pool: Setup,
+    asked: &RunCall,
     store: K,
     plan: &Plan,
     parts: &[Run],
     posts: &mut Vec<Post<D, C>>,
+    journal: &mut J,
     output: &mut W,
 ) -> Outcome
-    requires basis { pool ≡ B.sizes }
-    requires owner { (task : ℕ) → B.owner task ≡ owner_of pool.workers (length parts.now) (length (passes_in plan.now)) task }
+    requires basis { asked.now.pool ≡ B.sizes }
+    requires owner { (task : ℕ) → B.owner task ≡ owner_of asked.now.pool.workers (length parts.now) (length (passes_in plan.now)) task }
     requires rows { (dataset part : ℕ) → B.rows dataset part ≡ None }
-    requires some { 1 ≤ pool.workers }
-    requires posts { pool.workers ≤ length posts.old.items }
+    requires some { 1 ≤ asked.now.pool.workers }
+    requires posts { asked.now.pool.workers ≤ length posts.old.items }
     requires few_posts { length posts.old.items < 2 ^ 32 - 1 }
     requires few { length parts.now ≤ 10000000 }
     requires short { All (λ run. run.greatest ≤ 36 + 4 * columns_of (form_in plan.now) + 65536) parts.now }
@@ -65,64 +71,76 @@ pub fn run_queries<
     requires passes { HasPasses plan.now }
     requires consumers { All (λ post. HasConsumers (map C.state post.consumers.items)) posts.old.items }
     ensures ending { (part_rows : ℕ) (rows : List (List (List ℕ))) → 1 ≤ part_rows →
-        AllTell pool.workers (post_files D.files posts.old) →
-        AreLanded (post_files D.files posts.old) part_rows pool.workers parts.now rows → AreChecked (form_in plan.now) rows →
+        AllTell asked.now.pool.workers (post_files D.files posts.old) →
+        AreLanded (post_files D.files posts.old) part_rows asked.now.pool.workers parts.now rows → AreChecked (form_in plan.now) rows →
         MayEndAs (ending_of_totals plan.now (totals_of plan.now rows)) result.status }
 
     // What is written.
     ensures done { (part_rows : ℕ) (rows : List (List (List ℕ))) → 1 ≤ part_rows →
-        AllTell pool.workers (post_files D.files posts.old) →
-        AreLanded (post_files D.files posts.old) part_rows pool.workers parts.now rows → AreChecked (form_in plan.now) rows →
+        AllTell asked.now.pool.workers (post_files D.files posts.old) →
+        AreLanded (post_files D.files posts.old) part_rows asked.now.pool.workers parts.now rows → AreChecked (form_in plan.now) rows →
         result.status ≡ Status.Done →
         Appends (W.written output.old) (W.written output.new) (printed_in (ending_of_totals plan.now (totals_of plan.now rows))) }
     ensures prefix { (part_rows : ℕ) (rows : List (List (List ℕ))) → 1 ≤ part_rows →
-        AllTell pool.workers (post_files D.files posts.old) →
-        AreLanded (post_files D.files posts.old) part_rows pool.workers parts.now rows → AreChecked (form_in plan.now) rows →
+        AllTell asked.now.pool.workers (post_files D.files posts.old) →
+        AreLanded (post_files D.files posts.old) part_rows asked.now.pool.workers parts.now rows → AreChecked (form_in plan.now) rows →
         IsCut result.status →
         AppendsPrefix (W.written output.old) (W.written output.new) (printed_in (ending_of_totals plan.now (totals_of plan.now rows))) }
     ensures nothing { WritesNothing result.status → Keeps (W.written output.old) (W.written output.new) }
+    ensures gains { IfSome result.setup (λ setup. Gains asked.now.journal result.status (text_of setup result.journal)
+        (J.written journal.old) (J.written journal.new)) }
+    ensures unpooled { IfNone result.setup (Keeps (J.written journal.old) (J.written journal.new)) }
 
     // The causes of statuses.
     ensures write { result.status ≡ Status.WriteFault → Rose (W.faults output.old) (W.faults output.new) }
+    ensures recorded { result.status ≡ Status.JournalFault → Rose (J.faults journal.old) (J.faults journal.new) }
     ensures disk { IsDiskFault result.status (λ post. Rose (post_faults D.faults posts.old post) (post_faults D.faults posts.new post)) }
     ensures damaged { IsDamaged result.status (λ kept found. found < kept) }
-    ensures named { IsDamagedOn result.status (λ post. post < pool.workers) }
-    ensures no_room { IsNoRoom result.status (ShowsShort pool result.journal) }
+    ensures named { IsDamagedOn result.status (λ post. post < asked.now.pool.workers) }
+    ensures no_room { IsNoRoom result.status (ShowsShort asked.now.pool result.journal) }
     ensures of_tasks { IsOfTasks result.status }
 
     // The pool and its journal.
-    ensures made { MakesPool result.status → result.setup ≡ Some pool }
-    ensures setup { IfSome result.setup (λ setup. setup ≡ pool) }
+    ensures made { MakesPool result.status → result.setup ≡ Some asked.now.pool }
+    ensures setup { IfSome result.setup (λ setup. setup ≡ asked.now.pool) }
     ensures none { IfNone result.setup (result.journal ≡ []) }
-    ensures legal { IfSome result.setup (λ setup. IsLegal pool (history_of result.journal)) }
-    ensures tasks { FollowsPlan pool.workers (length parts.now) (length (passes_in plan.now)) result.journal }
+    ensures legal { IfSome result.setup (λ setup. IsLegal asked.now.pool (history_of result.journal)) }
+    ensures tasks { FollowsPlan asked.now.pool.workers (length parts.now) (length (passes_in plan.now)) result.journal }
     ensures all { result.status ≡ Status.Done → BeginsAll (length parts.now) (length (passes_in plan.now)) result.journal }
 
     // The posts.
     ensures fed { result.status ≡ Status.Done → (part_rows : ℕ) (rows : List (List (List ℕ))) →
-        AllTell pool.workers (post_files D.files posts.old) →
-        AreLanded (post_files D.files posts.old) part_rows pool.workers parts.now rows → AreChecked (form_in plan.now) rows →
-        (worker : ℕ) → worker < pool.workers → FeedsPlan (states_at C.state posts.old.items worker)
+        AllTell asked.now.pool.workers (post_files D.files posts.old) →
+        AreLanded (post_files D.files posts.old) part_rows asked.now.pool.workers parts.now rows → AreChecked (form_in plan.now) rows →
+        (worker : ℕ) → worker < asked.now.pool.workers → FeedsPlan (states_at C.state posts.old.items worker)
         (states_at C.state posts.new.items worker) plan.now (length parts.now) (λ part. partition_of part_rows part rows)
-        pool.workers worker }
-    ensures others { (place : ℕ) → pool.workers ≤ place
+        asked.now.pool.workers worker }
+    ensures others { (place : ℕ) → asked.now.pool.workers ≤ place
         → states_at C.state posts.new.items place ≡ states_at C.state posts.old.items place }
     ensures consumers { (place : ℕ) → KeepsConsumers (states_at C.state posts.old.items place) (states_at C.state posts.new.items place) }
     ensures files { KeepsAll (post_files D.files posts.old) (post_files D.files posts.new) }
     ensures later { (place : ℕ) → post_faults D.faults posts.old place ≤ post_faults D.faults posts.new place }
 {
     short_shapes_are_told();
-    let (told, journal) = run_tasks::<K, D, C, B, R>(rt, alloc, pool, store, plan, parts, posts);
-    let Some(journal) = journal else {
+    let pool = asked.pool;
+    let (told, entries) = run_tasks::<K, D, C, B, R>(rt, alloc, pool, store, plan, parts, posts);
+    let Some(entries) = entries else {
         return unpooled(alloc, Status::NoMemory);
     };
     let status = match told {
-        Ok(answers) => print_answers(alloc, posts, plan, &answers, output),
+        Ok(answers) => {
+            let record = Record {
+                asked: asked.journal,
+                setup: pool,
+                journal: &entries,
+            };
+            print_answers(alloc, posts, plan, &answers, &record, journal, output)
+        }
         Err(fault) => Status::from(fault),
     };
     Outcome {
         status,
         setup: Some(pool),
-        journal,
+        journal: entries,
     }
 }

@@ -6,6 +6,7 @@ ghost use Rattle.aggregate.specs.Totals.{Entry};
 ghost use Rattle.byte_io.specs.Sinks.{AppendsPrefix};
 ghost use Rattle.fault_count.specs.Faults.{Rose};
 ghost use Rattle.job_plan.specs.Plans.{kept_at, kept_in, kind_at};
+ghost use Rattle.journal_audit.specs.Text.{text_of};
 ghost use Rattle.job_plan.specs.Telling.{IsTold};
 ghost use Rattle.result_table.specs.Results.{HasResult};
 ghost use Rattle.run_file.specs.Shelved.{LeavesFiles, faults_on, files_on};
@@ -13,9 +14,11 @@ ghost use Rattle.csv_program.specs.Endings.{CanBeTold, MayEndAs, ending_of_total
 ghost use Rattle.csv_program.specs.Posts.{IsDiskOf, post_faults, post_files};
 ghost use Rattle.csv_program.specs.QueryResults.{HaveResults};
 ghost use Rattle.csv_program.specs.Tables.{gap_before, piece_of};
+ghost use Rattle.csv_program.specs.Written.{Gains};
 ghost use Rattle.csv_program.specs.Statuses.{IsCut, IsDamaged, IsDamagedOn, IsDiskFault, IsNoRoom, IsOfTables, IsOfTasks, IsOutside, WritesNothing};
 
 use crate::outcome::Status;
+use crate::record::{Record, write_journal};
 use crate::sums::check_sums;
 use byte_io::{Sink, SinkError, write_all_counted};
 use consumer_trait::Consumer;
@@ -121,12 +124,14 @@ fn print_tables<D: Disk, H: Shelf<D>, W: Sink>(
     Ok(())
 }
 
-// Checks the sums of the results, and prints the tables where none is too wide.
-fn check_and_print<D: Disk, H: Shelf<D>, W: Sink>(
+// Checks the sums of the results, and where none is too wide writes the journal, if it is asked for, and prints the tables.
+fn check_and_print<D: Disk, H: Shelf<D>, J: Sink, W: Sink>(
     alloc: Global,
     shelf: &mut H,
     plan: &Plan,
     answers: &[Option<Run>],
+    kept: &Record<'_>,
+    journal: &mut J,
     output: &mut W,
 ) -> Status
     requires all { length answers.now ≡ length (kept_in plan.now) }
@@ -141,7 +146,10 @@ fn check_and_print<D: Disk, H: Shelf<D>, W: Sink>(
         HaveResults (files_on H.disk_of D.files shelf.old) plan.now totals answers.now → IsCut result →
         AppendsPrefix (W.written output.old) (W.written output.new) (printed_in (ending_of_totals plan.now totals)) }
     ensures nothing { WritesNothing result → Keeps (W.written output.old) (W.written output.new) }
+    ensures gains { Gains kept.now.asked result (text_of kept.now.setup kept.now.journal.now) (J.written journal.old)
+        (J.written journal.new) }
     ensures write { result ≡ Status.WriteFault → Rose (W.faults output.old) (W.faults output.new) }
+    ensures recorded { result ≡ Status.JournalFault → Rose (J.faults journal.old) (J.faults journal.new) }
     ensures disk { IsDiskFault result (λ post. Rose (faults_on H.disk_of D.faults shelf.old post) (faults_on H.disk_of D.faults shelf.new post)) }
     ensures damaged { IsDamaged result (λ kept found. found < kept) }
     ensures named { (count : ℕ) → All (λ answer. IfSome answer (λ run. run.disk < count)) answers.now →
@@ -151,21 +159,26 @@ fn check_and_print<D: Disk, H: Shelf<D>, W: Sink>(
     ensures shelf { LeavesFiles H.count_of H.named H.disk_of D.files D.faults shelf.old shelf.new }
 {
     match check_sums(alloc, shelf, plan, answers) {
-        Ok(()) => match print_tables(alloc, shelf, plan, answers, output) {
-            Ok(()) => Status::Done,
+        Ok(()) => match write_journal(alloc, kept, journal) {
+            Ok(()) => match print_tables(alloc, shelf, plan, answers, output) {
+                Ok(()) => Status::Done,
+                Err(ended) => ended,
+            },
             Err(ended) => ended,
         },
         Err(ended) => ended,
     }
 }
 
-/// Checks the sums of the queries' results on the disks of posts, and prints their tables, with a line feed between two. Nothing is
-/// written before all sums are checked.
-pub fn print_answers<D: Disk, C: Consumer, W: Sink>(
+/// Checks the sums of the queries' results on the disks of posts, writes the pool's journal, if it is asked for, and prints the
+/// tables, with a line feed between two. Nothing is written before all sums are checked, and no table before the journal.
+pub fn print_answers<D: Disk, C: Consumer, J: Sink, W: Sink>(
     alloc: Global,
     posts: &mut Vec<Post<D, C>>,
     plan: &Plan,
     answers: &[Option<Run>],
+    kept: &Record<'_>,
+    journal: &mut J,
     output: &mut W,
 ) -> Status
     requires all { length answers.now ≡ length (kept_in plan.now) }
@@ -181,7 +194,10 @@ pub fn print_answers<D: Disk, C: Consumer, W: Sink>(
         HaveResults (post_files D.files posts.old) plan.now totals answers.now → IsCut result →
         AppendsPrefix (W.written output.old) (W.written output.new) (printed_in (ending_of_totals plan.now totals)) }
     ensures nothing { WritesNothing result → Keeps (W.written output.old) (W.written output.new) }
+    ensures gains { Gains kept.now.asked result (text_of kept.now.setup kept.now.journal.now) (J.written journal.old)
+        (J.written journal.new) }
     ensures write { result ≡ Status.WriteFault → Rose (W.faults output.old) (W.faults output.new) }
+    ensures recorded { result ≡ Status.JournalFault → Rose (J.faults journal.old) (J.faults journal.new) }
     ensures disk { IsDiskFault result (λ post. Rose (post_faults D.faults posts.old post) (post_faults D.faults posts.new post)) }
     ensures damaged { IsDamaged result (λ kept found. found < kept) }
     ensures named { (count : ℕ) → All (λ answer. IfSome answer (λ run. run.disk < count)) answers.now →
@@ -195,7 +211,7 @@ pub fn print_answers<D: Disk, C: Consumer, W: Sink>(
     let Ok(mut aside) = take_consumers(alloc, posts) else {
         return Status::NoMemory;
     };
-    let status = check_and_print(alloc, posts, plan, answers, output);
+    let status = check_and_print(alloc, posts, plan, answers, kept, journal, output);
     swap_consumers(posts, &mut aside);
     status
 }

@@ -5,6 +5,7 @@ mod generated;
 mod journals;
 mod plain;
 mod plans;
+mod records;
 mod refusals;
 mod running;
 mod statuses;

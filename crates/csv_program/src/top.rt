@@ -4,6 +4,7 @@ ghost use Rattle.std.specs.Prelude.{◌≡◌, ◌≢◌, ◌⊎◌, ◌≤◌, 
 ghost use Rattle.std.specs.Io.KnownBytes.{Appends, IsAtEnd, Keeps};
 ghost use Rattle.byte_io.specs.Sinks.{AppendsPrefix};
 ghost use Rattle.fault_count.specs.Faults.{Rose};
+ghost use Rattle.journal_audit.specs.Text.{text_of};
 ghost use Rattle.landing.specs.Landed.{IsOfInput};
 ghost use Rattle.landing.specs.declared.fault.LandFault.{LandFault};
 ghost use Rattle.pool_ledger.specs.Journal.{history_of};
@@ -19,6 +20,7 @@ ghost use Rattle.csv_program.specs.Feeds.{FeedsRun};
 ghost use Rattle.csv_program.specs.Posts.{AllTell, post_faults, post_files};
 ghost use Rattle.csv_program.specs.Statuses.{IsCut, IsDamaged, IsDamagedOn, IsDiskFault, IsJudged, IsNoRoom, IsUnlanded, MakesPool, WritesNothing};
 ghost use Rattle.csv_program.specs.Tasks.{BeginsAll, FollowsPlan, ShowsShort, passes_of};
+ghost use Rattle.csv_program.specs.Written.{Gains};
 
 use crate::asked::read_call;
 use crate::call::RunCall;
@@ -55,12 +57,20 @@ pub(crate) fn land_status(fault: LandFault) -> Status
 }
 
 // Runs a job in its pool.
-fn run_job<X: Threads + Wait + Sync, S: Source, W: Sink, D: Disk + Send, C: Consumer + Send>(
+fn run_job<
+    X: Threads + Wait + Sync,
+    S: Source,
+    W: Sink,
+    J: Sink,
+    D: Disk + Send,
+    C: Consumer + Send,
+>(
     rt: &X,
     alloc: Global,
     asked: &RunCall,
     input: &mut S,
     output: &mut W,
+    journal: &mut J,
     posts: &mut Vec<Post<D, C>>,
     store: D,
 ) -> Outcome
@@ -84,10 +94,14 @@ fn run_job<X: Threads + Wait + Sync, S: Source, W: Sink, D: Disk + Send, C: Cons
         AllTell asked.now.pool.workers (post_files D.files posts.old) →
         AppendsPrefix (W.written output.old) (W.written output.new) (printed_in (ending_of asked.now bytes))) }
     ensures nothing { WritesNothing result.status → Keeps (W.written output.old) (W.written output.new) }
+    ensures gains { IfSome result.setup (λ setup. Gains asked.now.journal result.status (text_of setup result.journal)
+        (J.written journal.old) (J.written journal.new)) }
+    ensures kept { IfNone result.setup (Keeps (J.written journal.old) (J.written journal.new)) }
 
     // The causes of statuses.
     ensures read { result.status ≡ Status.ReadFault → Rose (S.faults input.old) (S.faults input.new) }
     ensures write { result.status ≡ Status.WriteFault → Rose (W.faults output.old) (W.faults output.new) }
+    ensures recorded { result.status ≡ Status.JournalFault → Rose (J.faults journal.old) (J.faults journal.new) }
     ensures disk { IsDiskFault result.status (λ post.
         Rose (post_faults D.faults posts.old post) (post_faults D.faults posts.new post)) }
     ensures damaged { IsDamaged result.status (λ kept found. found < kept) }
@@ -121,14 +135,15 @@ fn run_job<X: Threads + Wait + Sync, S: Source, W: Sink, D: Disk + Send, C: Cons
     plans_derive_rows();
     match land_on(alloc, asked, input, posts) {
         Ok(landed) => {
-            run_queries::<D, D, C, W, Brand, X>(
+            run_queries::<D, D, C, J, W, Brand, X>(
                 rt,
                 alloc,
-                asked.pool,
+                asked,
                 store,
                 &landed.plan,
                 &landed.parts,
                 posts,
+                journal,
                 output,
             )
         }
@@ -147,14 +162,24 @@ fn run_job<X: Threads + Wait + Sync, S: Source, W: Sink, D: Disk + Send, C: Cons
 /// removed, and the runs that tables are printed from stay. Each post has sixteen consumers, of which the first eight serve
 /// group queries and the others order queries. No block is cached yet, so the store disk isn't called.
 ///
+/// With `--journal` the text of the pool's journal is written to `journal` when all sums are known to fit, before the first table.
+///
 /// The pool and its journal are after Spark's unified memory manager, and the spills after its TaskMemoryManager; the job language
 /// and the statuses are this project's own. Want of memory has no clause; a test shows that a run with ample memory answers.
-pub fn run<X: Threads + Wait + Sync, S: Source, W: Sink, D: Disk + Send, C: Consumer + Send>(
+pub fn run<
+    X: Threads + Wait + Sync,
+    S: Source,
+    W: Sink,
+    J: Sink,
+    D: Disk + Send,
+    C: Consumer + Send,
+>(
     rt: &X,
     alloc: Global,
     words: &[&str],
     input: &mut S,
     output: &mut W,
+    journal: &mut J,
     posts: &mut Vec<Post<D, C>>,
     store_disk: D,
 ) -> Outcome
@@ -183,12 +208,13 @@ pub fn run<X: Threads + Wait + Sync, S: Source, W: Sink, D: Disk + Send, C: Cons
         IfSome (S.left input.old) (λ bytes. AllTell asked.pool.workers (post_files D.files posts.old) → (text : List ℕ) →
         ending_of asked bytes ≡ Prints text →
         FailsNothing (S.faults input.old) (S.faults input.new) (W.faults output.old) (W.faults output.new)
-        (post_faults D.faults posts.old) (post_faults D.faults posts.new) →
+        (J.faults journal.old) (J.faults journal.new) (post_faults D.faults posts.old) (post_faults D.faults posts.new) →
         GrantsAll result.journal → (result.status ≡ Status.Done) ⊎ (result.status ≡ Status.NoMemory))) }
 
     // The causes of the other statuses.
     ensures read { result.status ≡ Status.ReadFault → Rose (S.faults input.old) (S.faults input.new) }
     ensures write { result.status ≡ Status.WriteFault → Rose (W.faults output.old) (W.faults output.new) }
+    ensures recorded { result.status ≡ Status.JournalFault → Rose (J.faults journal.old) (J.faults journal.new) }
     ensures disk { IsDiskFault result.status (λ post. Rose (post_faults D.faults posts.old post) (post_faults D.faults posts.new post)) }
     ensures damaged { IsDamaged result.status (λ kept found. found < kept) }
     ensures named { ForRun (call_of (length posts.old.items) (texts words.now)) (λ asked.
@@ -199,12 +225,18 @@ pub fn run<X: Threads + Wait + Sync, S: Source, W: Sink, D: Disk + Send, C: Cons
 
     // What was written.
     ensures unread { ForNoRun (call_of (length posts.old.items) (texts words.now))
-        ((input.new ≡ input.old) × (output.new ≡ output.old) × (posts.new ≡ posts.old)) }
+        ((input.new ≡ input.old) × (output.new ≡ output.old) × (journal.new ≡ journal.old) × (posts.new ≡ posts.old)) }
     ensures nothing { WritesNothing result.status → Keeps (W.written output.old) (W.written output.new) }
     ensures prefix { IsCut result.status →
         ForRun (call_of (length posts.old.items) (texts words.now)) (λ asked.
         IfSome (S.left input.old) (λ bytes. AllTell asked.pool.workers (post_files D.files posts.old) →
         AppendsPrefix (W.written output.old) (W.written output.new) (printed_in (ending_of asked bytes)))) }
+
+    // What the journal's sink gained.
+    ensures gains { ForRun (call_of (length posts.old.items) (texts words.now)) (λ asked.
+        IfSome result.setup (λ pool. Gains asked.journal result.status (text_of pool result.journal)
+        (J.written journal.old) (J.written journal.new))) }
+    ensures kept { IfNone result.setup (Keeps (J.written journal.old) (J.written journal.new)) }
 
     // The pool, and its journal.
     ensures made { MakesPool result.status → IsSome result.setup }
@@ -235,7 +267,7 @@ pub fn run<X: Threads + Wait + Sync, S: Source, W: Sink, D: Disk + Send, C: Cons
 {
     legal_journals_are_safe();
     match read_call(alloc, posts.len(), words) {
-        Ok(asked) => run_job(rt, alloc, &asked, input, output, posts, store_disk),
+        Ok(asked) => run_job(rt, alloc, &asked, input, output, journal, posts, store_disk),
         Err(status) => unpooled(alloc, status),
     }
 }

@@ -1,4 +1,4 @@
--- A flag's value is `true`: for grammars that have flags, of which no program's is one yet.
+-- A flag that words give has the value `true`, in any grammar that has flags.
 use Rattle.std.proofs.Common.{◌≡◌, ◌∙◌, ◌&&◌, ◌||◌, Bool, cond, codes, true, false, not, refl, sym, ap, List, [], ◌∷◌, Option, Some, None, is_some, true≢false}
 use Rattle.std.specs.List.{find, list_all}
 use Rattle.std.specs.Option.{option_map_or}
@@ -15,7 +15,7 @@ module _ (g : Grammar) where
   abbrev pub is_set : Use → Bool
   is_set u = not (is_bare (kind_in g u.name)) || bytes_eq u.value (codes "true")
 
-  abbrev AllSet : Option (List Use) → Type 0
+  abbrev pub AllSet : Option (List Use) → Type 0
   AllSet r = option_map_or (list_all is_set) r true ≡ true
 
   set_use : (u : Use) (r : Option (List Use)) → is_set u ≡ true → AllSet r → AllSet (with_use u r)

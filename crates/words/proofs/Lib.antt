@@ -11,6 +11,7 @@ pub mod Literal
 pub mod Flags
 pub mod AddedRules
 pub mod Plain
+pub mod FlagValues
 pub mod Digits
 pub mod MoreTexts
 pub mod Programs

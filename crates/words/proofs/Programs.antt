@@ -1,16 +1,21 @@
 -- The grammars of the programs: their commands are plain, and no value that begins with `-` comes to a reading.
-use Rattle.std.proofs.Common.{◌≡◌, ◌∙◌, ◌&&◌, ◌++◌, Bool, cond, codes, true, false, refl, ap, [], ◌∷◌, Option, Some, None, option_map}
+use Rattle.std.proofs.Common.{◌≡◌, ◌∙◌, ◌&&◌, ◌++◌, Bool, cond, codes, true, false, not, refl, ap, List, [], ◌∷◌, Option, Some, None, option_map, map}
 use Rattle.std.proofs.lemmas.List.Folds.{list_all-append}
 use Rattle.std.proofs.Math.Bool.{and-false}
 use Rattle.std.specs.Prelude.{option_and_then}
 use Rattle.std.specs.List.{list_all}
+use Rattle.clap.specs.Matches.{first_value}
+use Rattle.clap.specs.declared.parser.matches.Found.{Found}
 use Rattle.words.specs.Reading.{Text, value_of}
+use Rattle.words.specs.Commands.{with_flag}
 use Rattle.words.specs.Numbers.{fits, is_number}
 use Rattle.words.specs.Options.{max_rows_option, work_options}
-use Rattle.words.specs.Programs.{audit_grammar, job, plan_grammar, row_count, run_from, run_grammar, run_of, run_values, trial_from, trial_grammar, trial_of, trial_values}
-use Rattle.words.proofs.Grammars.{is_option}
+use Rattle.words.specs.Programs.{audit_grammar, job, journal_flag, plan_grammar, row_count, run_from, run_grammar, run_of, run_values, trial_from, trial_grammar, trial_of, trial_values}
+use Rattle.words.proofs.Grammars.{is_option, place_rules}
+use Rattle.words.proofs.Rules.{option_rule}
 use Rattle.words.proofs.Literal.{unfit}
-use Rattle.words.proofs.Plain.{Plain, Refuses, plain_of}
+use Rattle.words.proofs.FlagValues.{AnswersFlag, flag_alike, flag_value}
+use Rattle.words.proofs.Plain.{Plain, Refuses, Taken, plain_of}
 
 pub run_plain : Plain (codes "run") run_grammar
 run_plain = plain_of (codes "run") run_grammar (λ c. refl) (refl, refl, refl) refl (λ n rows. refl) refl (λ words. refl)
@@ -72,3 +77,13 @@ audit_refuses r u bad found = let k = bad.option in let no : ⊥ = cc k in absur
 pub as_it_is : {X : Type 0} (o : Option X) → o ≡ option_and_then (λ x. Some x) o
 as_it_is None = refl
 as_it_is (Some x) = refl
+
+-- ---- the flag
+
+-- the values that the words of a run give are those of the parse, and of `--journal` by its answer for the flag
+pub journal_alike : {words : List Text} {found : Found} (t : Taken run_grammar run_of words found) (given : Bool) → AnswersFlag found journal_flag given
+    → (λ (n : Text). value_of n t.uses) ≡ with_flag journal_flag given (first_value found)
+journal_alike t given answers =
+    flag_alike t journal_flag given
+    (flag_value t journal_flag given (map option_rule run_grammar.options) (place_rules 1 run_grammar.places) refl (refl, tt) refl refl refl answers)
+    (λ m other. ap (λ b. not b && true) other)

@@ -1,6 +1,7 @@
 -- A grammar as a command of `clap`: an argument for each name, and no help of its own.
 -- This project's own, in the words of `clap`'s contracts.
-use Rattle.std.specs.Prelude.{◌≡◌, ◌++◌, List, [], Some, map, true}
+use Rattle.std.specs.Prelude.{◌≡◌, ◌++◌, Bool, List, [], Option, Some, None, map, true, codes, if◌then◌else◌}
+use Rattle.std.specs.Str.{bytes_eq}
 use Rattle.clap.specs.Walk.{Rule, rows_of}
 use Rattle.clap.specs.Simple.{App, matches_of, new_rule, new_shape}
 use Rattle.clap.specs.Faults.{fault_of}
@@ -48,3 +49,8 @@ grammar_of names = record {
 -- words in which the command finds no fault, and what it finds
 abbrev pub Parses : App → List Text → Found → Type 0
 Parses app words found = (fault_of app words ≡ []) × (rows_of found ≡ matches_of app words)
+
+-- the values of names, where a flag is given or isn't: `clap` has a value for it in both cases
+abbrev pub with_flag : Text → Bool → (Text → Option Text) → Text → Option Text
+with_flag flag is_given look name =
+    if bytes_eq flag name then (if is_given then Some (codes "true") else None) else look name

@@ -12,11 +12,15 @@ use Rattle.words.specs.Options.{WorkReading, max_rows_option, work_options, work
 abbrev pub job : Text
 job = codes "JOB"
 
--- `run`: the options of the work, `--max-rows`, and a job
+-- the flag of a run that writes its journal
+abbrev pub journal_flag : Text
+journal_flag = codes "journal"
+
+-- `run`: the options of the work, `--max-rows`, `--journal`, and a job
 abbrev pub run_grammar : Grammar
 run_grammar = record {
   options = map (λ o. o.name) (work_options ++ max_rows_option ∷ []);
-  flags = [];
+  flags = journal_flag ∷ [];
   places = job ∷ [];
 }
 
@@ -24,6 +28,7 @@ run_grammar = record {
 pub record RunReading : Type 0 where
   pub options : WorkReading
   pub max_rows : ℕ
+  pub journal : Bool
   pub job : Text
 
 -- what they say, by what is given and the job
@@ -31,6 +36,7 @@ abbrev pub run_values : (Text → Option Text) → Text → RunReading
 run_values look text = record {
   options = work_values look;
   max_rows = number_of look max_rows_option;
+  journal = is_some (look journal_flag);
   job = text;
 }
 

@@ -19,7 +19,12 @@ work_reading w = record {
 
 -- the words of `run`
 abbrev pub run_reading : RunWords → RunReading
-run_reading r = record { options = work_reading r.options; max_rows = r.max_rows; job = r.job.now }
+run_reading r = record {
+  options = work_reading r.options;
+  max_rows = r.max_rows;
+  journal = r.journal;
+  job = r.job.now;
+}
 
 -- the words of `trial`
 abbrev pub trial_reading : TrialWords → TrialReading

@@ -3,7 +3,8 @@
 ghost use Rattle.std.specs.Prelude.{◌≡◌, ◌≤◌, IfOk, IfErr, Some, None, drop};
 ghost use Rattle.clap.specs.Words.{first_value, found_of};
 ghost use Rattle.words.specs.Calls.{run_call};
-ghost use Rattle.words.specs.Programs.{run_from, run_words};
+ghost use Rattle.words.specs.Commands.{with_flag};
+ghost use Rattle.words.specs.Programs.{journal_flag, run_from, run_words};
 ghost use Rattle.words.specs.Texts.{texts};
 ghost use Rattle.words.specs.Options.{AreInRange};
 ghost use Rattle.words.specs.Views.{run_reading, work_reading};
@@ -24,6 +25,8 @@ pub struct RunWords<'a> {
     pub options: WorkOptions,
     /// How many rows the input has at most: `--max-rows`, 1 to 10,000,000, else 10,000,000.
     pub max_rows: u64,
+    /// Whether the run writes its journal: `--journal`, which takes no value.
+    pub journal: bool,
     /// The text of the job: any text, also the empty one.
     pub job: &'a str,
 }
@@ -47,19 +50,21 @@ pub fn read_run_words<'a>(alloc: Global, words: &'a [&'a str]) -> Result<RunWord
             "part-rows",
             "max-rows",
         ],
-        flags: &[],
+        flags: &["journal"],
         places: &["JOB"],
     };
     let matches = parse(alloc, "run", names, words)?;
-    run_from(&matches)
+    run_from(&matches, matches.get_flag("journal"))
 }
 
-// What is found among the words.
-fn run_from<'a>(matches: &ArgMatches<'a>) -> Result<RunWords<'a>, WordsFault>
-    ensures ok { IfOk result (λ r. run_from (first_value (found_of matches.now)) ≡ Some (run_reading r)) }
+// What is found among the words, where `--journal` is given or isn't.
+fn run_from<'a>(matches: &ArgMatches<'a>, journal: bool) -> Result<RunWords<'a>, WordsFault>
+    ensures ok { IfOk result (λ r. run_from (with_flag journal_flag journal (first_value (found_of matches.now)))
+        ≡ Some (run_reading r)) }
     ensures ranges { IfOk result (λ r. AreInRange (work_reading r.options)) }
     ensures rows { IfOk result (λ r. r.max_rows ≤ 10000000) }
-    ensures bad { IfErr result (λ e. run_from (first_value (found_of matches.now)) ≡ None) }
+    ensures bad { IfErr result (λ e. run_from (with_flag journal_flag journal (first_value (found_of matches.now)))
+        ≡ None) }
 {
     let Some(job) = matches.get_str("JOB") else {
         return Err(WordsFault::BadWords);
@@ -67,6 +72,7 @@ fn run_from<'a>(matches: &ArgMatches<'a>) -> Result<RunWords<'a>, WordsFault>
     Ok(RunWords {
         options: work_from(matches)?,
         max_rows: number(matches, "max-rows", 1, 10_000_000, 10_000_000)?,
+        journal,
         job,
     })
 }

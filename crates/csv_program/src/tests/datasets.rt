@@ -3,7 +3,8 @@ use crate::tests::running::{CITIES, call_of, generated, run_on, run_with, told};
 use pool_ledger::Event;
 use std::test::Fail;
 
-const ORDERS: &[u8] = b"order_id,region,amount\r\n1001,North,250\r\n1002,South,-40\r\n1003,North,75\r\n1004,\"East, upper\",75\r\n";
+const ORDERS: &[u8] =
+    b"order_id,region,amount\r\n1001,North,250\r\n1002,South,-40\r\n1003,North,75\r\n1004,\"East, upper\",75\r\n";
 
 #[test]
 fn tables_stand_in_the_order_of_the_queries(rt: HostRuntime) -> Result<(), Fail> {
@@ -71,7 +72,8 @@ fn tables_stand_in_the_order_of_the_queries(rt: HostRuntime) -> Result<(), Fail>
 fn the_first_wide_sum_is_that_of_the_first_query(rt: HostRuntime) -> Result<(), Fail> {
     let alloc = rt.alloc();
     let input = b"k,n\nb,9223372036854775807\na,1\nb,1\n";
-    let job = "let b = input where k = 'b'; order k: k; group k: sum n from b; group k: count, sum n";
+    let job =
+        "let b = input where k = 'b'; order k: k; group k: sum n from b; group k: count, sum n";
     let ran = run_on(&rt, alloc, call_of(&["run", job], input))?;
     assert_eq!(rt;
         told(alloc, &ran.outcome.status)?.as_str(),
@@ -115,8 +117,13 @@ fn each_pass_has_its_tasks_and_a_final_one(rt: HostRuntime) -> Result<(), Fail> 
 fn pools_and_workers_agree_on_all_tables(rt: HostRuntime) -> Result<(), Fail> {
     let alloc = rt.alloc();
     let input = generated(alloc, 20_000)?;
-    let job = "let pos = input where price >= 0; let high = pos where price >= 500; group k: count, sum price from pos; order number price down: k, price from pos; group k: min price, max price from high; group k: count";
-    let ample = run_on(&rt, alloc, call_of(&["run", "--part-rows=1000", job], &input))?;
+    let job =
+        "let pos = input where price >= 0; let high = pos where price >= 500; group k: count, sum price from pos; order number price down: k, price from pos; group k: min price, max price from high; group k: count";
+    let ample = run_on(
+        &rt,
+        alloc,
+        call_of(&["run", "--part-rows=1000", job], &input),
+    )?;
     assert_eq!(rt; ample.outcome.status.number(), 0);
     for workers in ["--workers=1", "--workers=4", "--workers=16"] {
         for heap in ["--heap=100000", "--heap=1000000"] {

@@ -116,7 +116,7 @@ fn is_refused<X: Threads + Wait + Sync>(
 #[test]
 fn words_of_another_form_are_refused(rt: HostRuntime) -> Result<(), Fail> {
     let alloc = rt.alloc();
-    let lists: [&[&str]; 10] = [
+    let lists: [&[&str]; 11] = [
         &[],
         &["run"],
         &["plan", BOTH],
@@ -126,7 +126,8 @@ fn words_of_another_form_are_refused(rt: HostRuntime) -> Result<(), Fail> {
         &["run", "--workers=17", BOTH],
         &["run", "--work", "4", BOTH],
         &["run", "--heap", "5", "--heap=5", BOTH],
-        &["run", "--journal", BOTH],
+        &["run", "--journal", "--journal", BOTH],
+        &["run", "--journal=1", BOTH],
     ];
     for words in lists {
         assert!(rt; is_refused(&rt, alloc, 4, words)?);

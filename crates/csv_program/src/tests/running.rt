@@ -17,21 +17,23 @@ pub const CITIES: &[u8] = b"city,price\nOslo,3\nBergen,4\nOslo,5\n";
 
 pub const BOTH: &str = "group city: count, sum price";
 
-/// The words, the input, and the calls of the input, of the output and of post 0's disk that fail.
+/// The words, the input, and the calls of the input, of the output, of the journal's sink and of post 0's disk that fail.
 #[derive(Clone, Copy)]
 pub struct Call<'a> {
     pub words: &'a [&'a str],
     pub input: &'a [u8],
     pub reads: &'a [u64],
     pub writes: &'a [u64],
+    pub records: &'a [u64],
     pub disk: &'a [u64],
 }
 
-/// What a call left, what it wrote, and how many files post 0's disk made.
+/// What a call left, what it wrote to the output and as the journal, and how many files post 0's disk made.
 #[derive(Drop)]
 pub struct Ran {
     pub outcome: Outcome,
     pub written: Vec<u8>,
+    pub recorded: Vec<u8>,
     pub files: u64,
 }
 
@@ -42,6 +44,7 @@ pub fn call_of<'a>(words: &'a [&'a str], input: &'a [u8]) -> Call<'a> {
         input,
         reads: &[],
         writes: &[],
+        records: &[],
         disk: &[],
     }
 }
@@ -87,6 +90,7 @@ pub fn run_with<X: Threads + Wait + Sync>(
 ) -> Result<Ran, AllocError> {
     let mut source = MemorySource::new(call.input.to_vec(alloc)?, call.reads.to_vec(alloc)?);
     let mut sink = MemorySink::new(alloc, call.writes.to_vec(alloc)?);
+    let mut journal = MemorySink::new(alloc, call.records.to_vec(alloc)?);
     let mut posts = posts_of(alloc, posts, call.disk)?;
     let store = MemoryDisk::new(alloc, Vec::new(alloc));
     let outcome = run(
@@ -95,6 +99,7 @@ pub fn run_with<X: Threads + Wait + Sync>(
         call.words,
         &mut source,
         &mut sink,
+        &mut journal,
         &mut posts,
         store,
     );
@@ -105,6 +110,7 @@ pub fn run_with<X: Threads + Wait + Sync>(
     Ok(Ran {
         outcome,
         written: sink.bytes().to_vec(alloc)?,
+        recorded: journal.bytes().to_vec(alloc)?,
         files,
     })
 }

@@ -41,6 +41,7 @@ fn each_status_has_its_number_and_text(rt: HostRuntime) -> Result<(), Fail> {
     ))?;
     cases.push((Status::ReadFault, "13 input failed"))?;
     cases.push((Status::WriteFault, "14 output failed"))?;
+    cases.push((Status::JournalFault, "15 journal failed"))?;
     cases.push((Status::DiskFault { post: 2 }, "16 disk of post 2 failed"))?;
     cases.push((
         Status::Damaged {

@@ -45,8 +45,38 @@ an option with a letter more: run|--workerss=4|job -> bad
 an option in other letters: run|--Workers=4|job -> bad
 an option with one dash: run|-workers=4|job -> bad
 an option of a letter: run|-w|4|job -> bad
-the journal, which isn't written yet: run|--journal|job -> bad
+the journal: run|--journal|job -> 4 1073741824 314572800 600 500 10000 10000000 journal [job]
+the journal behind the job: run|job|--journal -> 4 1073741824 314572800 600 500 10000 10000000 journal [job]
+the journal between options: run|--workers|2|--journal|--heap=8|job -> 2 8 314572800 600 500 10000 10000000 journal [job]
+the journal behind the last option: run|job|--heap|8|--journal -> 4 8 314572800 600 500 10000 10000000 journal [job]
+the journal alone, which takes no word: run|--journal -> bad
+a job behind the journal that reads as a value: run|--journal|false -> 4 1073741824 314572800 600 500 10000 10000000 journal [false]
+a value behind the journal: run|--journal|true|job -> bad
+the journal twice: run|--journal|--journal|job -> bad
+the journal on both sides of the job: run|--journal|job|--journal -> bad
+nothing behind the journal's equals sign: run|--journal=|job -> bad
+a word behind the journal's equals sign: run|--journal=x|job -> bad
+a journal that is true: run|--journal=true|job -> bad
+a journal that is false: run|--journal=false|job -> bad
+the journal, and then with a value: run|--journal|--journal=x|job -> bad
+the journal's name as a value: run|--heap|--journal|job -> bad
+the journal's name as a value, and the journal: run|--heap|--journal|--journal|job -> bad
+the journal's name as a value behind the equals sign: run|--heap=--journal|job -> bad
+the journal's name as a job: run|--|--journal -> 4 1073741824 314572800 600 500 10000 10000000 [--journal]
+the journal, and its name as a job: run|--journal|--|--journal -> 4 1073741824 314572800 600 500 10000 10000000 journal [--journal]
+the journal's name behind the job and two dashes: run|job|--|--journal -> bad
+the journal's name without its dashes: run|journal -> 4 1073741824 314572800 600 500 10000 10000000 [journal]
+the journal with one dash: run|-journal|job -> bad
+a shortened journal: run|--journa|job -> bad
+the journal with a letter more: run|--journals|job -> bad
+the journal in other letters: run|--Journal|job -> bad
+the journal, and a number out of its range: run|--journal|--workers=17|job -> bad
 the journal of a trial: trial|--journal|7 -> bad
+the journal's name as a number of rows: trial|--|--journal -> bad
+the journal of a plan: plan|--journal|job -> bad
+the journal's name as the job of a plan: plan|--|--journal -> [--journal]
+the journal of an audit: audit|--journal -> bad
+the journal before the first word: --journal|run|job -> bad
 the rows of a run's input at a trial: trial|--max-rows|7|7 -> bad
 an option of a plan: plan|--workers=4|job -> bad
 an option of an audit: audit|--workers=4 -> bad

@@ -29,6 +29,7 @@ fn options_that_are_not_given_have_their_defaults(rt: HostRuntime) -> Result<(),
     let run = RunWords {
         options: DEFAULTS,
         max_rows: 10_000_000,
+        journal: false,
         job: "group city: count",
     };
     let words = ["run", "group city: count"];
@@ -51,7 +52,7 @@ fn options_that_are_not_given_have_their_defaults(rt: HostRuntime) -> Result<(),
 }
 
 #[test]
-fn each_option_that_is_given_has_its_number(rt: HostRuntime) -> Result<(), Fail> {
+fn what_is_given_stands_in_its_field(rt: HostRuntime) -> Result<(), Fail> {
     let alloc = rt.alloc();
     let words = [
         "run",
@@ -63,6 +64,7 @@ fn each_option_that_is_given_has_its_number(rt: HostRuntime) -> Result<(), Fail>
         "job",
         "--reserved",
         "0",
+        "--journal",
         "--heap=67108864",
         "--part-rows",
         "0050",
@@ -71,6 +73,7 @@ fn each_option_that_is_given_has_its_number(rt: HostRuntime) -> Result<(), Fail>
     let run = RunWords {
         options: GIVEN,
         max_rows: 3,
+        journal: true,
         job: "job",
     };
     assert_eq!(rt; read_run_words(alloc, words.as_slice())?, run);

@@ -6,7 +6,7 @@ use crate::{
 use std::alloc::Global;
 use std::test::Fail;
 
-// What a list says as the tables write it: numbers and then the job in brackets, `ok` for nothing, and `bad`.
+// What a list says as the tables write it: numbers, the flag and then the job in brackets, `ok` for nothing, and `bad`.
 pub fn told(alloc: Global, words: &[&str]) -> Result<String, Fail> {
     if begins_with(words, "trial") {
         told_trial(alloc, words)
@@ -25,7 +25,8 @@ fn told_run(alloc: Global, words: &[&str]) -> Result<String, Fail> {
         read => {
             let said = read?;
             let options = told_options(alloc, said.options)?;
-            Ok(format!(in alloc; "{options} {} [{}]", said.max_rows, said.job)?)
+            let journal = if said.journal { " journal" } else { "" };
+            Ok(format!(in alloc; "{options} {}{journal} [{}]", said.max_rows, said.job)?)
         }
     }
 }

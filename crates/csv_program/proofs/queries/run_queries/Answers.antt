@@ -4,6 +4,7 @@ use Rattle.std.specs.Global.{Vec}
 use Rattle.std.specs.Io.KnownBytes.{Appends}
 use Rattle.byte_io.specs.Sinks.{AppendsPrefix}
 use Rattle.pool_ledger.specs.declared.entry.Entry.{Entry as JournalEntry}
+use Rattle.journal_audit.specs.Text.{text_of}
 use Rattle.job_plan.specs.Columns.{Fields}
 use Rattle.job_plan.specs.Plans.{form_in, kind_at, passes_in}
 use Rattle.landing.specs.Landed.{AreChecked, AreLanded, partition_of}
@@ -20,8 +21,11 @@ use Rattle.csv_program.specs.Posts.{AllTell, post_files}
 use Rattle.csv_program.specs.QueryResults.{HaveResults, totals_of_parts}
 use Rattle.csv_program.specs.Statuses.{IsCut}
 use Rattle.csv_program.specs.Tasks.{BeginsAll}
+use Rattle.csv_program.specs.Telling.{status_of_work}
+use Rattle.csv_program.specs.Written.{Gains}
 use Rattle.csv_program.specs.declared.outcome.Status.{Status}
 use Rattle.csv_program.proofs.EndedRuns.{fault_not_done, follows_none, may_end, ok_holds, unprinted_work, prefix_of_nothing, sound_more, sound_ok}
+use Rattle.csv_program.proofs.Gaining.{fault_gains}
 use Rattle.csv_program.proofs.PostDisks.{states_same}
 use Rattle.csv_program.proofs.StillThere.{keeps_alike, keeps_then}
 use Rattle.csv_program.proofs.ToldTotals.{holds_parts, told_plan}
@@ -31,11 +35,11 @@ use Rattle.csv_program.proofs.queries.run_queries.Given as given
 use Rattle.csv_program.proofs.queries.run_queries.Goals as goal
 
 pub returns-in_default-clause-tasks : goal.returns-in_default-clause-tasks
-returns-in_default-clause-tasks g c = follows_none c.args.pool.workers (length c.args.parts.now) (length (passes_in c.args.plan.now)) c.unpooled.result.journal c.unpooled.ensures.journal
+returns-in_default-clause-tasks g c = follows_none c.args.asked.now.pool.workers (length c.args.parts.now) (length (passes_in c.args.plan.now)) c.unpooled.result.journal c.unpooled.ensures.journal
 
 -- the answers of the tasks are runs of what all entries come to
-sound : (g : given.Over) (c : goal.Joined-told-2 g) (part_rows : ℕ) (rows : List Fields) → 1 ≤ part_rows → AllTell c.args.pool.workers (post_files g.D.Disk.files c.args.posts.now)
-    → AreLanded (post_files g.D.Disk.files c.args.posts.now) part_rows c.args.pool.workers c.args.parts.now rows → AreChecked (form_in c.args.plan.now) rows
+sound : (g : given.Over) (c : goal.Joined-told-2 g) (part_rows : ℕ) (rows : List Fields) → 1 ≤ part_rows → AllTell c.args.asked.now.pool.workers (post_files g.D.Disk.files c.args.posts.now)
+    → AreLanded (post_files g.D.Disk.files c.args.posts.now) part_rows c.args.asked.now.pool.workers c.args.parts.now rows → AreChecked (form_in c.args.plan.now) rows
     → IfSound (λ answers. HaveResults (post_files g.D.Disk.files c.run_tasks-told.new.posts) c.args.plan.now (totals_of c.args.plan.now rows) answers.items) c.run_tasks-told.result.0
 sound g c part_rows rows some tell landed checked =
     let plan = c.args.plan.now in
@@ -46,7 +50,7 @@ sound g c part_rows rows some tell landed checked =
     sound_more (λ answers. HaveResults after plan (totals_of_parts plan (length parts) each) answers.items) (λ answers. HaveResults after plan (totals_of plan rows) answers.items)
     (λ answers has query below. subst (HasResult after (kind_at plan query) (answer_at answers.items query)) (whole_totals plan rows part_rows _ query some landed.count) (has query below))
     c.run_tasks-told.result.0
-    (c.run_tasks-told.ensures.answer each (holds_parts files plan part_rows c.args.pool.workers parts rows c.requires.some tell landed checked))
+    (c.run_tasks-told.ensures.answer each (holds_parts files plan part_rows c.args.asked.now.pool.workers parts rows c.requires.some tell landed checked))
 
 -- the results that are printed
 printed : (g : given.Over) (c : goal.Joined-told-2 g) (rows : List Fields) (answers : Vec (Option Run)) (seen : List (Option Run)) → c.run_tasks-told.result.0 ≡ Ok answers → seen ≡ answers.items
@@ -109,9 +113,9 @@ states_stay g c place = elim c.match-told-2.branch [
 pub returns-clause-fed : goal.returns-clause-fed
 returns-clause-fed g c done part_rows rows tell landed checked worker below = elim c.match-told-2.branch [
   | in-Ok w ↦
-      subst (λ (states : List State). FeedsPlan (states_at g.C.Consumer.state c.args.posts.now.items worker) states c.args.plan.now (length c.args.parts.now) (λ part. partition_of part_rows part rows) c.args.pool.workers worker) (sym (states_stay g c worker))
+      subst (λ (states : List State). FeedsPlan (states_at g.C.Consumer.state c.args.posts.now.items worker) states c.args.plan.now (length c.args.parts.now) (λ part. partition_of part_rows part rows) c.args.asked.now.pool.workers worker) (sym (states_stay g c worker))
       (ok_holds c.run_tasks-told.result.0 w.in-Ok.answers w.in-Ok.is c.run_tasks-told.ensures.fed (λ part. partition_of part_rows part rows)
-      (holds_parts (post_files g.D.Disk.files c.args.posts.now) c.args.plan.now part_rows c.args.pool.workers c.args.parts.now rows c.requires.some tell landed checked) worker below)
+      (holds_parts (post_files g.D.Disk.files c.args.posts.now) c.args.plan.now part_rows c.args.asked.now.pool.workers c.args.parts.now rows c.requires.some tell landed checked) worker below)
   | in-Err w ↦ absurd (fault_not_done w.in-Err.fault c.match-told-2.status (w.status-is ∙ w.from-status.ensures) done)
 ]
 
@@ -134,3 +138,17 @@ returns-clause-files g c =
           (λ place. ap (λ (posts : Vec (Post g.row.D.Denot g.row.C.Denot)). post_files g.D.Disk.files posts place) w.posts-is ∙ w.print_answers-status.ensures.files place)
       | in-Err w ↦ keeps_alike worked after (λ place. ap (λ (posts : Vec (Post g.row.D.Denot g.row.C.Denot)). post_files g.D.Disk.files posts place) w.posts-is)
     ])
+
+pub returns-clause-gains : goal.returns-clause-gains
+returns-clause-gains g c =
+    let asked = c.args.asked.now.journal in
+    let before = g.J.Sink.written c.args.journal.now in
+    let text = text_of c.args.asked.now.pool c.in-Some.entries in
+    elim c.match-told-2.branch [
+      | in-Ok w ↦
+          subst (λ (ended : Status). Gains asked ended text before (g.J.Sink.written c.match-told-2.journal)) (sym w.status-is)
+          (subst (λ (sink : g.row.J.Denot). Gains asked w.print_answers-status.result text before (g.J.Sink.written sink)) (sym w.journal-is) w.print_answers-status.ensures.gains)
+      | in-Err w ↦
+          subst (λ (ended : Status). Gains asked ended text before (g.J.Sink.written c.match-told-2.journal)) (sym (w.status-is ∙ w.from-status.ensures))
+          (subst (λ (sink : g.row.J.Denot). Gains asked (status_of_work w.in-Err.fault) text before (g.J.Sink.written sink)) (sym w.journal-is) (fault_gains asked w.in-Err.fault text before))
+    ]

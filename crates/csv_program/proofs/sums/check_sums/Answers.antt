@@ -1,7 +1,6 @@
-use Rattle.std.proofs.Common.{◌≡◌, ◌<◌, ℕ, List, Option, length, sym, subst, arith}
+use Rattle.std.proofs.Common.{◌≡◌, ◌<◌, Option, length, sym, subst, arith}
 use Rattle.std.specs.Option.{option_copied}
 use Rattle.std.proofs.lemmas.Result.{err_from_is_err_and}
-use Rattle.aggregate.specs.Totals.{Entry}
 use Rattle.job_plan.specs.Plans.{kept_in, kind_at}
 use Rattle.result_table.specs.Results.{HasResult}
 use Rattle.run_file.specs.Shelved.{files_on}

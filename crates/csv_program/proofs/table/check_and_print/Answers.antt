@@ -2,6 +2,7 @@ use Rattle.std.proofs.Common.{◌≡◌, ℕ, List, Option, None, sym, subst, in
 use Rattle.byte_io.specs.Sinks.{AppendsPrefix}
 use Rattle.run_file.specs.Shelved.{files_on}
 use Rattle.csv_program.specs.Endings.{MayEndAs, ending_with, printed_in, tables_of, wide_of}
+use Rattle.csv_program.proofs.Gaining.{printed_gains}
 use Rattle.csv_program.proofs.Printed.{results_kept}
 use Rattle.csv_program.proofs.table.check_and_print.Goals as goal
 
@@ -22,3 +23,7 @@ returns-in-Err-print_tables-clause-prefix g c totals has cut =
     let kept = results_kept (files c.args.shelf.now) (files c.check_sums.new.shelf) plan c.args.answers.now totals c.check_sums.ensures.shelf.same has in
     subst (λ (wide : Option (ℕ × List ℕ)). AppendsPrefix (g.W.Sink.written c.args.output.now) (g.W.Sink.written c.print_tables.new.output) (printed_in (ending_with (tables_of plan totals) wide))) (sym narrow)
     (c.in-Err-print_tables.ensures.err totals kept)
+
+pub returns-in-Err-print_tables-clause-gains : goal.returns-in-Err-print_tables-clause-gains
+returns-in-Err-print_tables-clause-gains g c =
+    printed_gains c.args.kept.now.asked c.in-Err-print_tables.ended _ (g.J.Sink.written c.args.journal.now) (g.J.Sink.written c.write_journal.new.sink) c.in-Err-print_tables.ensures.of_tables c.in-Ok-write_journal.ensures.ok

@@ -1,6 +1,7 @@
 use Rattle.std.proofs.Common.{◌∙◌, sym, arith}
 use Rattle.fault_count.specs.Faults.{Rose}
 use Rattle.csv_program.specs.Posts.{post_faults, post_files}
+use Rattle.csv_program.proofs.Gaining.{wanting_gains}
 use Rattle.csv_program.proofs.PostDisks.{disk_fault_as, faults_same, files_same, rose_as}
 use Rattle.csv_program.proofs.Printed.{results_kept}
 use Rattle.csv_program.proofs.table.print_answers.Goals as goal
@@ -44,3 +45,6 @@ returns-clause-later g c place =
     let last = faults_same c.check_and_print-status.new.shelf c.swap_consumers.new.posts c.swap_consumers.ensures.disks faults place in
     let later = c.check_and_print-status.ensures.shelf.later place in
     omega (arith, first, last, later)
+
+pub returns-in_default-clause-gains : goal.returns-in_default-clause-gains
+returns-in_default-clause-gains g c = wanting_gains c.args.kept.now.asked _ (g.J.Sink.written c.args.journal.now)

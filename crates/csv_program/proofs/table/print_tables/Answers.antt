@@ -1,10 +1,9 @@
-use Rattle.std.proofs.Common.{◌≡◌, ◌∙◌, ◌+◌, ◌<◌, ℕ, suc, List, Option, length, sym, ap, subst, arith}
+use Rattle.std.proofs.Common.{◌≡◌, ◌∙◌, ◌+◌, ◌<◌, ℕ, suc, Option, length, sym, ap, subst, arith}
 use Rattle.std.specs.Io.KnownBytes.{Appends}
 use Rattle.std.specs.List.{range_with_len}
 use Rattle.std.specs.Option.{option_copied}
 use Rattle.std.proofs.KnownBytes.{Appends-trans}
 use Rattle.std.proofs.lemmas.Result.{err_from_is_err_and}
-use Rattle.aggregate.specs.Totals.{Entry}
 use Rattle.job_plan.specs.Plans.{kept_in, kind_at}
 use Rattle.result_table.proofs.Blocks.{appends_none, front-more}
 use Rattle.result_table.proofs.Leaving.{leaves_self, leaves_trans}
@@ -13,11 +12,9 @@ use Rattle.run_file.specs.Shelved.{files_on}
 use Rattle.run_file.specs.declared.run.Run.{Run}
 use Rattle.task_runner.specs.Workers.{answer_at}
 use Rattle.csv_program.specs.Endings.{tables_of}
-use Rattle.csv_program.specs.QueryResults.{HaveResults}
 use Rattle.csv_program.specs.Tables.{piece_of}
 use Rattle.csv_program.proofs.Pieces.{pieces_all, pieces_in, pieces_more, pieces_split}
 use Rattle.csv_program.proofs.Printed.{result_kept}
-use Rattle.csv_program.proofs.table.print_tables.Given as given
 use Rattle.csv_program.proofs.table.print_tables.Goals as goal
 
 pub loop-query-init : goal.loop-query-init

@@ -24,8 +24,8 @@ pub returns-in-Ok-clause-called : goal.returns-in-Ok-clause-called
 returns-in-Ok-clause-called g c = for_run (call_of (length c.args.posts.now.items) (texts c.args.words.now)) c.in-Ok.asked _ (subst (λ (posts : ℕ). call_of posts (texts c.args.words.now) ≡ Runs c.in-Ok.asked) (omega (arith, c.len.ensures, c.args.posts.now.ok.0)) c.in-Ok.ensures.ok) c.run_job.ensures.called
 
 pub returns-in-Ok-clause-complete : goal.returns-in-Ok-clause-complete
-returns-in-Ok-clause-complete g c = completes_call g.D.Disk.files c.args.posts.now (g.S.Source.left c.args.input.now) (call_of (length c.args.posts.now.items) (texts c.args.words.now)) c.in-Ok.asked c.run_job.result.status c.run_job.result.journal (g.S.Source.faults c.args.input.now) _ (g.W.Sink.faults c.args.output.now) _
-    (post_faults g.D.Disk.faults c.args.posts.now) _ (subst (λ (posts : ℕ). call_of posts (texts c.args.words.now) ≡ Runs c.in-Ok.asked) (omega (arith, c.len.ensures, c.args.posts.now.ok.0)) c.in-Ok.ensures.ok) c.run_job.ensures.read c.run_job.ensures.write c.run_job.ensures.disk c.run_job.ensures.no_room c.run_job.ensures.ending
+returns-in-Ok-clause-complete g c = completes_call g.D.Disk.files c.args.posts.now (g.S.Source.left c.args.input.now) (call_of (length c.args.posts.now.items) (texts c.args.words.now)) c.in-Ok.asked c.run_job.result.status c.run_job.result.journal (g.S.Source.faults c.args.input.now) _ (g.W.Sink.faults c.args.output.now) _ (g.J.Sink.faults c.args.journal.now) _
+    (post_faults g.D.Disk.faults c.args.posts.now) _ (subst (λ (posts : ℕ). call_of posts (texts c.args.words.now) ≡ Runs c.in-Ok.asked) (omega (arith, c.len.ensures, c.args.posts.now.ok.0)) c.in-Ok.ensures.ok) c.run_job.ensures.read c.run_job.ensures.write c.run_job.ensures.recorded c.run_job.ensures.disk c.run_job.ensures.no_room c.run_job.ensures.ending
 
 pub returns-in-Ok-clause-named : goal.returns-in-Ok-clause-named
 returns-in-Ok-clause-named g c = for_run (call_of (length c.args.posts.now.items) (texts c.args.words.now)) c.in-Ok.asked _ (subst (λ (posts : ℕ). call_of posts (texts c.args.words.now) ≡ Runs c.in-Ok.asked) (omega (arith, c.len.ensures, c.args.posts.now.ok.0)) c.in-Ok.ensures.ok) c.run_job.ensures.named
@@ -57,6 +57,9 @@ returns-in-Ok-clause-prefix g c cut = for_run (call_of (length c.args.posts.now.
 pub returns-in-Ok-clause-fed : goal.returns-in-Ok-clause-fed
 returns-in-Ok-clause-fed g c done = for_run (call_of (length c.args.posts.now.items) (texts c.args.words.now)) c.in-Ok.asked _ (subst (λ (posts : ℕ). call_of posts (texts c.args.words.now) ≡ Runs c.in-Ok.asked) (omega (arith, c.len.ensures, c.args.posts.now.ok.0)) c.in-Ok.ensures.ok) (c.run_job.ensures.fed done)
 
+pub returns-in-Ok-clause-gains : goal.returns-in-Ok-clause-gains
+returns-in-Ok-clause-gains g c = for_run (call_of (length c.args.posts.now.items) (texts c.args.words.now)) c.in-Ok.asked _ (subst (λ (posts : ℕ). call_of posts (texts c.args.words.now) ≡ Runs c.in-Ok.asked) (omega (arith, c.len.ensures, c.args.posts.now.ok.0)) c.in-Ok.ensures.ok) c.run_job.ensures.gains
+
 -- ---- none
 
 pub returns-in-Err-clause-told : goal.returns-in-Err-clause-told
@@ -81,13 +84,16 @@ pub returns-in-Err-clause-undamaged : goal.returns-in-Err-clause-undamaged
 returns-in-Err-clause-undamaged g c = for_none (call_of (length c.args.posts.now.items) (texts c.args.words.now)) c.unpooled.result.status _ (subst (λ (posts : ℕ). IsWhyNot (call_of posts (texts c.args.words.now)) c.unpooled.result.status) (omega (arith, c.len.ensures, c.args.posts.now.ok.0)) (subst (IsWhyNot (call_of c.len.result (texts c.args.words.now))) (sym c.unpooled.ensures.status) c.in-Err.ensures.why)) (λ asked is tell. wanting_undamaged c.unpooled.result.status _ is)
 
 pub returns-in-Err-clause-unread : goal.returns-in-Err-clause-unread
-returns-in-Err-clause-unread g c = for_no_run (call_of (length c.args.posts.now.items) (texts c.args.words.now)) _ (refl, refl, refl)
+returns-in-Err-clause-unread g c = for_no_run (call_of (length c.args.posts.now.items) (texts c.args.words.now)) _ (refl, refl, refl, refl)
 
 pub returns-in-Err-clause-unpooled : goal.returns-in-Err-clause-unpooled
 returns-in-Err-clause-unpooled g c = for_no_run (call_of (length c.args.posts.now.items) (texts c.args.words.now)) _ c.unpooled.ensures.setup
 
 pub returns-in-Err-clause-setup : goal.returns-in-Err-clause-setup
 returns-in-Err-clause-setup g c = for_none (call_of (length c.args.posts.now.items) (texts c.args.words.now)) c.unpooled.result.status _ (subst (λ (posts : ℕ). IsWhyNot (call_of posts (texts c.args.words.now)) c.unpooled.result.status) (omega (arith, c.len.ensures, c.args.posts.now.ok.0)) (subst (IsWhyNot (call_of c.len.result (texts c.args.words.now))) (sym c.unpooled.ensures.status) c.in-Err.ensures.why)) (λ asked is. none_has c.unpooled.result.setup _ c.unpooled.ensures.setup)
+
+pub returns-in-Err-clause-gains : goal.returns-in-Err-clause-gains
+returns-in-Err-clause-gains g c = for_none (call_of (length c.args.posts.now.items) (texts c.args.words.now)) c.unpooled.result.status _ (subst (λ (posts : ℕ). IsWhyNot (call_of posts (texts c.args.words.now)) c.unpooled.result.status) (omega (arith, c.len.ensures, c.args.posts.now.ok.0)) (subst (IsWhyNot (call_of c.len.result (texts c.args.words.now))) (sym c.unpooled.ensures.status) c.in-Err.ensures.why)) (λ asked is. none_has c.unpooled.result.setup _ c.unpooled.ensures.setup)
 
 pub returns-in-Err-clause-tasks : goal.returns-in-Err-clause-tasks
 returns-in-Err-clause-tasks g c = for_none (call_of (length c.args.posts.now.items) (texts c.args.words.now)) c.unpooled.result.status _ (subst (λ (posts : ℕ). IsWhyNot (call_of posts (texts c.args.words.now)) c.unpooled.result.status) (omega (arith, c.len.ensures, c.args.posts.now.ok.0)) (subst (IsWhyNot (call_of c.len.result (texts c.args.words.now))) (sym c.unpooled.ensures.status) c.in-Err.ensures.why)) (λ asked is. none_has c.unpooled.result.setup _ c.unpooled.ensures.setup)

@@ -9,13 +9,13 @@ use Rattle.landing.specs.Landed.{AreRowsOf}
 use Rattle.run_file.specs.declared.run.Run.{Run}
 use Rattle.task_runner.specs.Consumers.{HasConsumers, KeepsConsumers}
 use Rattle.task_runner.specs.Pass.{states_at}
-use Rattle.csv_program.specs.Endings.{Ending, MayEndAs, ending_of, printed_in}
+use Rattle.csv_program.specs.Endings.{Ending, MayEndAs, ending_of, ending_of_totals, printed_in, totals_of}
 use Rattle.csv_program.specs.Feeds.{FeedsJob, FeedsRun}
 use Rattle.csv_program.specs.Posts.{post_files}
 use Rattle.csv_program.specs.Tasks.{BeginsAll, FollowsPlan}
 use Rattle.csv_program.proofs.AllTotals.{ending_is}
 use Rattle.csv_program.proofs.FedRows.{feeds_job}
-use Rattle.csv_program.proofs.Judged.{if_each, known_is, landed_as, partitions_are, refusal_called, refusal_ends, refusal_is, refusal_may, some_always, tasks_judged, tasks_refuse_nothing}
+use Rattle.csv_program.proofs.Judged.{ends_undamaged, if_each, known_is, landed_as, partitions_are, refusal_called, refusal_ends, refusal_is, refusal_may, some_always, tasks_judged, tasks_refuse_nothing}
 use Rattle.csv_program.proofs.PlannedPasses.{passes_are, passes_planned}
 use Rattle.csv_program.proofs.PostDisks.{consumers_as, keeps_same, states_same}
 use Rattle.csv_program.proofs.StillThere.{keeps_then}
@@ -142,3 +142,11 @@ returns-in-Ok-clause-called g c = if_each (g.S.Source.left c.args.input.now) _ (
 
 pub returns-in-Ok-clause-judged : goal.returns-in-Ok-clause-judged
 returns-in-Ok-clause-judged g c = tasks_judged c.run_queries.result.status c.run_queries.ensures.of_tasks
+
+pub returns-in-Ok-clause-undamaged : goal.returns-in-Ok-clause-undamaged
+returns-in-Ok-clause-undamaged g c tell =
+    let l = c.in-Ok.ensures.lands in
+    let asked = c.args.asked.now in
+    let there = landed_as (post_files g.D.Disk.files c.land_on.new.posts) asked.part_rows _ asked.pool.workers _ c.deref.result.now l.rows refl (sym c.deref.ensures.value) l.are_landed in
+    ends_undamaged (ending_of_totals c.in-Ok.landed.plan (totals_of c.in-Ok.landed.plan l.rows)) c.run_queries.result.status
+    (c.run_queries.ensures.ending asked.part_rows l.rows c.requires.run.parts (λ place below. c.land_on.ensures.tells place ∙ tell place below) there l.are_checked)

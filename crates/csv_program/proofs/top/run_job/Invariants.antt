@@ -4,4 +4,4 @@ use Rattle.csv_program.specs.Tasks.{owner_of}
 use Rattle.csv_program.proofs.top.run_job.Given as goal
 
 abbrev pub ghosts-run_queries : goal.ghosts-run_queries
-ghosts-run_queries g a = record { sizes = a.pool; owner = owner_of a.pool.workers (length a.parts.now) (length (passes_in a.plan.now)); rows = λ _ _. None }
+ghosts-run_queries g a = record { sizes = a.asked.now.pool; owner = owner_of a.asked.now.pool.workers (length a.parts.now) (length (passes_in a.plan.now)); rows = λ _ _. None }
