@@ -1,5 +1,6 @@
 // Disks, runs, and runs that are merged.
 mod calls;
+mod checks;
 mod disks;
 mod entries;
 mod folders;
@@ -12,3 +13,4 @@ mod owner;
 mod reading;
 mod runs;
 mod veils;
+mod words;

@@ -2,6 +2,7 @@
 ghost use Rattle.std.specs.Prelude.{◌≡◌, IfSome, OnOk};
 ghost use Rattle.spill_disk.specs.Files.{IsThere};
 
+use crate::tests::words::{otherwise, parted};
 use spill_disk::{Disk, DiskError};
 use std::alloc::Global;
 use std::test::Fail;
@@ -19,13 +20,27 @@ pub fn other_answer<D: Disk>(
 {
     let mut made = made;
     for word in calls.split(' ') {
-        let (call, wanted) = word.split_once('=').ok_or("a call without an answer")?;
-        let answer = answer_to(alloc, disk, &mut made, call)?;
-        if answer.as_str() != wanted {
-            return Ok(Some(format!(in alloc; "{call}={answer}")?));
+        let other = answered_otherwise(alloc, disk, &mut made, word)?;
+        if other.is_some() {
+            return Ok(other);
         }
     }
     Ok(None)
+}
+
+// The call of a word with the answer that it got, where that is another one.
+fn answered_otherwise<D: Disk>(
+    alloc: Global,
+    disk: &mut D,
+    made: &mut Option<u64>,
+    word: &str,
+) -> Result<Option<String>, Fail>
+    requires { IfSome made.old (IsThere (D.files disk.old)) }
+    ensures { OnOk result (IfSome made.new (IsThere (D.files disk.new))) }
+{
+    let (call, wanted) = parted(word)?;
+    let answer = answer_to(alloc, disk, made, call)?;
+    otherwise(alloc, call, wanted, answer)
 }
 
 // What the disk answers to a call.
@@ -38,22 +53,24 @@ fn answer_to<D: Disk>(
     requires { IfSome made.old (IsThere (D.files disk.old)) }
     ensures { OnOk result (IfSome made.new (IsThere (D.files disk.new))) }
 {
-    let (kind, rest) = call.split_once(':').unwrap_or((call, ""));
-    if kind == "create" {
+    if call == "create" {
         return create(alloc, disk, made);
     }
-    if kind == "append" {
-        return append(alloc, disk, *made, rest);
+    if let Some(text) = call.strip_prefix("append:") {
+        return append(alloc, disk, *made, text);
     }
-    if kind == "read" {
-        return read(alloc, disk, rest);
-    }
-    if kind != "remove" {
-        return Err("an unknown call".into());
+    if let Some(numbers) = call.strip_prefix("read:") {
+        return read(alloc, disk, numbers);
     }
     *made = None;
-    let file: u64 = rest.parse()?;
-    done(alloc, disk.remove(file))
+    remove(alloc, disk, call)
+}
+
+fn remove<D: Disk>(alloc: Global, disk: &mut D, call: &str) -> Result<String, Fail> {
+    match call.strip_prefix("remove:") {
+        Some(file) => done(alloc, disk.remove(file.parse()?)),
+        None => Err("an unknown call".into()),
+    }
 }
 
 fn create<D: Disk>(alloc: Global, disk: &mut D, made: &mut Option<u64>) -> Result<String, Fail>
@@ -88,14 +105,32 @@ fn append<D: Disk>(
 fn read<D: Disk>(alloc: Global, disk: &mut D, numbers: &str) -> Result<String, Fail>
     ensures { D.files disk.new ≡ D.files disk.old }
 {
-    let (file, rest) = numbers.split_once(':').ok_or("a read without a place")?;
-    let (place, room) = rest.split_once(':').ok_or("a read without room")?;
-    let room: u8 = room.parse()?;
+    let [file, place, room] = three_of(numbers)?;
+    if room > 255 {
+        return Err("a read with much room".into());
+    }
     let mut bytes = vec![in alloc; 0u8; room as usize]?;
-    match disk.read_at(file.parse()?, place.parse()?, &mut bytes) {
+    match disk.read_at(file, place, &mut bytes) {
         Ok(count) => shown(alloc, count, &bytes),
         Err(error) => failed(alloc, error),
     }
+}
+
+// Three numbers with a `:` between them.
+fn three_of(text: &str) -> Result<[u64; 3], Fail> {
+    let mut numbers = [0u64; 3];
+    let mut place = 0usize;
+    for number in text.split(':') {
+        if place >= 3 {
+            return Err("more than three numbers".into());
+        }
+        numbers[place] = number.parse()?;
+        place += 1;
+    }
+    if place < 3 {
+        return Err("fewer than three numbers".into());
+    }
+    Ok(numbers)
 }
 
 fn shown(alloc: Global, count: usize, bytes: &[u8]) -> Result<String, Fail> {

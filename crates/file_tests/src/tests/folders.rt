@@ -1,9 +1,9 @@
 // Disks in folders.
 use crate::tests::calls::other_answer;
+use crate::tests::checks::{agrees, is_so};
 use spill_disk::{Disk, FolderDisk};
 use std::alloc::Global;
 use std::fs;
-use std::process::Abort;
 use std::rt::Files;
 use std::test::Fail;
 
@@ -17,6 +17,15 @@ pub fn disk_in(rt: &HostRuntime, name: &str) -> Result<FolderDisk<HostRuntime>, 
     Ok(FolderDisk::new(rt.clone()?, rt.alloc(), folder))
 }
 
+fn there_is(rt: &HostRuntime, name: &str) -> Result<bool, Fail> {
+    Ok(fs::exists(rt, name)?)
+}
+
+/// Takes an empty folder away.
+pub fn remove(rt: &HostRuntime, name: &str) -> Result<(), Fail> {
+    Ok(fs::remove_dir(rt, name)?)
+}
+
 // The first of these calls that a disk in a folder answers otherwise; `made` is the file that was made last before.
 fn answered_otherwise<R: Files + Drop>(
     alloc: Global,
@@ -27,6 +36,19 @@ fn answered_otherwise<R: Files + Drop>(
     other_answer(alloc, disk, Some(made), calls)
 }
 
+// Makes these calls, each of which is answered as it says.
+fn answers<R: Files + Drop>(
+    alloc: Global,
+    disk: &mut FolderDisk<R>,
+    made: u64,
+    calls: &str,
+) -> Result<(), Fail> {
+    match answered_otherwise(alloc, disk, made, calls)? {
+        Some(other) => Err(other.into()),
+        None => Ok(()),
+    }
+}
+
 fn add_rows<R: Files + Drop>(disk: &mut FolderDisk<R>, file: u64) -> Result<(), Fail> {
     for i in 0..ROWS {
         let row = [(i % 251) as u8; ROW];
@@ -35,38 +57,30 @@ fn add_rows<R: Files + Drop>(disk: &mut FolderDisk<R>, file: u64) -> Result<(), 
     Ok(())
 }
 
-// The first row that isn't read as it was added.
-fn first_other_row<R: Files + Drop>(
-    disk: &mut FolderDisk<R>,
-    file: u64,
-) -> Result<Option<u64>, Fail> {
+// Whether the row of this place is read as it was added.
+fn is_read<R: Files + Drop>(disk: &mut FolderDisk<R>, file: u64, place: u64) -> Result<bool, Fail> {
     let mut row = [0u8; ROW];
-    for i in 0..ROWS {
-        let count = disk.read_at(file, i * 40, &mut row)?;
-        if count != ROW || row != [(i % 251) as u8; ROW] {
-            return Ok(Some(i));
-        }
-    }
-    Ok(None)
+    let count = disk.read_at(file, place.wrapping_mul(40), &mut row)?;
+    Ok(count == ROW && row == [(place % 251) as u8; ROW])
 }
 
-// The first call that is answered otherwise while a long file and a short one are written, read and removed.
-fn long_otherwise<R: Files + Drop>(
-    rt: &impl Abort,
-    alloc: Global,
-    disk: &mut FolderDisk<R>,
-) -> Result<Option<String>, Fail> {
-    assert_eq!(rt;
-        answered_otherwise(alloc, disk, 0, "create=0 create=1")?,
-        None
-    );
+// Reads the rows, each of which is as it was added.
+fn read_rows<R: Files + Drop>(disk: &mut FolderDisk<R>, file: u64) -> Result<(), Fail> {
+    for place in 0..ROWS {
+        if !is_read(disk, file, place)? {
+            return Err("another row".into());
+        }
+    }
+    Ok(())
+}
+
+// Writes a long file and a short one, and reads and removes what it wrote.
+fn write_long<R: Files + Drop>(alloc: Global, disk: &mut FolderDisk<R>) -> Result<(), Fail> {
+    answers(alloc, disk, 0, "create=0 create=1")?;
     add_rows(disk, 0)?;
-    assert_eq!(rt;
-        answered_otherwise(alloc, disk, 1, "append:other=ok")?,
-        None
-    );
-    assert_eq!(rt; first_other_row(disk, 0)?, None);
-    answered_otherwise(alloc, disk, 1, LONG)
+    answers(alloc, disk, 1, "append:other=ok")?;
+    read_rows(disk, 0)?;
+    answers(alloc, disk, 1, LONG)
 }
 
 // The end of the long file; what was collected is read; a number that wasn't given out is removed.
@@ -86,35 +100,28 @@ fn is_left<R: Files + Drop>(
     Ok(other.is_none())
 }
 
-fn leaves_one<A: Abort + Files, R: Files + Drop>(
-    rt: &A,
-    alloc: Global,
-    disk: &mut FolderDisk<R>,
-) -> Result<bool, Fail> {
-    assert_eq!(rt; long_otherwise(rt, alloc, disk)?, None);
-    is_left(rt, alloc, disk)
+fn leaves_one(rt: &HostRuntime) -> Result<bool, Fail> {
+    let mut disk = disk_in(rt, "disk")?;
+    write_long(rt.alloc(), &mut disk)?;
+    is_left(rt, rt.alloc(), &mut disk)
 }
 
 #[test]
 fn a_folder_disk_gives_back_a_long_file_row_by_row_and_removes_it(
     rt: HostRuntime,
 ) -> Result<(), Fail> {
-    let mut disk = disk_in(&rt, "disk")?;
-    let left = leaves_one(&rt, rt.alloc(), &mut disk);
-    drop(disk);
-    assert!(rt; left?, "the other file alone, and then none");
-    assert!(rt; fs::exists(&rt, "disk")?);
-    fs::remove_dir(&rt, "disk")?;
-    Ok(())
+    is_so(&rt, leaves_one(&rt), "the other file alone, and then none")?;
+    is_so(&rt, there_is(&rt, "disk"), "the folder")?;
+    remove(&rt, "disk")
 }
 
 // Makes 70 files of three bytes, with the numbers from 0 on.
 fn make_files<R: Files + Drop>(disk: &mut FolderDisk<R>) -> Result<(), Fail> {
-    for i in 0..70u64 {
-        if disk.create()? != i {
+    for i in 0..70u8 {
+        if disk.create()? != u64::from(i) {
             return Err("another number".into());
         }
-        disk.append(i, &[i as u8; 2])?;
+        disk.append(u64::from(i), &[i; 2])?;
     }
     for i in 0..70u64 {
         disk.append(69 - i, &[100; 1])?;
@@ -122,33 +129,30 @@ fn make_files<R: Files + Drop>(disk: &mut FolderDisk<R>) -> Result<(), Fail> {
     Ok(())
 }
 
-// Reads them and takes them away. The first one that isn't read as it was written.
-fn first_other_file<R: Files + Drop>(disk: &mut FolderDisk<R>) -> Result<Option<u64>, Fail> {
-    for i in 0..70u64 {
-        let mut buf = [0u8; 4];
-        let count = disk.read_at(i, 0, &mut buf)?;
-        if count != 3 || buf != [i as u8, i as u8, 100, 0] {
-            return Ok(Some(i));
-        }
-        disk.remove(i)?;
-    }
-    Ok(None)
+// Whether a file is read as it was written. It is taken away.
+fn is_file<R: Files + Drop>(disk: &mut FolderDisk<R>, number: u8) -> Result<bool, Fail> {
+    let mut buf = [0u8; 4];
+    let count = disk.read_at(u64::from(number), 0, &mut buf)?;
+    disk.remove(u64::from(number))?;
+    Ok(count == 3 && buf == [number, number, 100, 0])
 }
 
-// The first of 70 files that isn't read as it was written.
-fn made_otherwise<R: Files + Drop>(disk: &mut FolderDisk<R>) -> Result<Option<u64>, Fail> {
-    make_files(disk)?;
-    first_other_file(disk)
+// Whether each of 70 files is read as it was written.
+fn are_files(rt: &HostRuntime) -> Result<bool, Fail> {
+    let mut disk = disk_in(rt, "many")?;
+    make_files(&mut disk)?;
+    for number in 0..70u8 {
+        if !is_file(&mut disk, number)? {
+            return Ok(false);
+        }
+    }
+    Ok(true)
 }
 
 #[test]
 fn a_folder_disk_has_more_files_than_are_kept_open(rt: HostRuntime) -> Result<(), Fail> {
-    let mut disk = disk_in(&rt, "many")?;
-    let other = made_otherwise(&mut disk);
-    drop(disk);
-    assert_eq!(rt; other?, None);
-    fs::remove_dir(&rt, "many")?;
-    Ok(())
+    is_so(&rt, are_files(&rt), "70 files")?;
+    remove(&rt, "many")
 }
 
 // Puts a folder in the place of a file.
@@ -160,29 +164,23 @@ fn put_folder(rt: &impl Files) -> Result<(), Fail> {
 
 // The first call that is answered otherwise while a folder stands in a file's place, which can't be removed as a file.
 // The disk has the file open.
-fn stuck_otherwise<A: Abort + Files, R: Files + Drop>(
-    rt: &A,
-    alloc: Global,
-    disk: &mut FolderDisk<R>,
-) -> Result<Option<String>, Fail> {
-    assert_eq!(rt;
-        answered_otherwise(alloc, disk, 0, "create=0 append:abc=ok")?,
-        None
-    );
+fn stuck_otherwise(rt: &HostRuntime) -> Result<Option<String>, Fail> {
+    let mut disk = disk_in(rt, "stuck")?;
+    answers(rt.alloc(), &mut disk, 0, "create=0 append:abc=ok")?;
     put_folder(rt)?;
-    let calls = "remove:0=failed read:0:0:4=3:abc.";
-    assert_eq!(rt; answered_otherwise(alloc, disk, 0, calls)?, None);
+    answers(
+        rt.alloc(),
+        &mut disk,
+        0,
+        "remove:0=failed read:0:0:4=3:abc.",
+    )?;
     fs::remove_dir(rt, "stuck/0")?;
-    answered_otherwise(alloc, disk, 0, "remove:0=ok")
+    answered_otherwise(rt.alloc(), &mut disk, 0, "remove:0=ok")
 }
 
 // A file that is gone is no fault.
 #[test]
 fn a_removal_that_fails_leaves_what_was_collected(rt: HostRuntime) -> Result<(), Fail> {
-    let mut disk = disk_in(&rt, "stuck")?;
-    let other = stuck_otherwise(&rt, rt.alloc(), &mut disk);
-    drop(disk);
-    assert_eq!(rt; other?, None);
-    fs::remove_dir(&rt, "stuck")?;
-    Ok(())
+    agrees(&rt, stuck_otherwise(&rt), "a folder in a file's place")?;
+    remove(&rt, "stuck")
 }

@@ -1,4 +1,6 @@
 // Forms of rows, and fields that are numbers.
+use crate::tests::checks::{equals, is_so};
+use crate::tests::words::parted;
 use aggregate::{Agg, AggList, Kind};
 use row_page::RowBuf;
 use run_file::{Form, NumberList, is_decimal, parse_number};
@@ -50,6 +52,18 @@ fn landed_takes(alloc: Global, row: &RowBuf) -> Result<bool, Fail> {
     takes(&landed, row, 100)
 }
 
+// Whether it takes a landed row.
+fn is_landed(alloc: Global, zeros: u8, column: &str) -> Result<bool, Fail> {
+    let row = landed_of(alloc, zeros, column)?;
+    landed_takes(alloc, &row)
+}
+
+// Whether it takes an entry.
+fn is_landed_entry(alloc: Global) -> Result<bool, Fail> {
+    let row = entry_of(alloc, 16)?;
+    landed_takes(alloc, &row)
+}
+
 // Entries whose value has 16 bytes, with the greatest costs 49, 48 and 100, and one whose value has 15.
 fn counts_taken(alloc: Global) -> Result<[bool; 4], Fail> {
     Ok([
@@ -63,19 +77,20 @@ fn counts_taken(alloc: Global) -> Result<[bool; 4], Fail> {
 // A row that is whole, one whose second column is no whole number, one with a row number of 7 bytes, and an entry.
 fn landed_taken(alloc: Global) -> Result<[bool; 4], Fail> {
     Ok([
-        landed_takes(alloc, &landed_of(alloc, 8, "-12")?)?,
-        landed_takes(alloc, &landed_of(alloc, 8, "1.5")?)?,
-        landed_takes(alloc, &landed_of(alloc, 7, "1")?)?,
-        landed_takes(alloc, &entry_of(alloc, 16)?)?,
+        is_landed(alloc, 8, "-12")?,
+        is_landed(alloc, 8, "1.5")?,
+        is_landed(alloc, 7, "1")?,
+        is_landed_entry(alloc)?,
     ])
 }
 
 // An entry with a value of 16 bytes costs 49: 24, 5 and 20.
 #[test]
 fn a_form_takes_its_rows_and_no_others(rt: HostRuntime) -> Result<(), Fail> {
-    assert_eq!(rt; counts_taken(rt.alloc())?, [true, false, true, false]);
-    assert_eq!(rt; landed_taken(rt.alloc())?, [true, false, false, false]);
-    Ok(())
+    let counts = [true, false, true, false];
+    equals(&rt, counts_taken(rt.alloc()), counts, "counts")?;
+    let landed = [true, false, false, false];
+    equals(&rt, landed_taken(rt.alloc()), landed, "landed rows")
 }
 
 // Fields, and the numbers that they are.
@@ -87,12 +102,16 @@ const NUMBERS: &str = "0=0,7=7,+5=5,-0=0,-41=-41,007=7,922337203685477579=922337
 1/=none,1:=none,\
 -999999999999999999=-999999999999999999,99999999999999999:=none,1000000000000000000=1000000000000000000";
 
-// The number that a field is, where the two calls agree whether it is one.
-fn number_text(alloc: Global, field: &[u8]) -> Result<String, Fail> {
-    match (parse_number(field), is_decimal(field)) {
-        (Some(number), true) => Ok(format!(in alloc; "{number}")?),
-        (None, false) => Ok("none".to_string(alloc)?),
-        _ => Ok("both a number and none".to_string(alloc)?),
+// Whether a field is the number that stands behind its `=`, where the two calls agree whether it is one.
+fn is_number(row: &str) -> Result<bool, Fail> {
+    let (field, wanted) = parted(row)?;
+    let number = parse_number(field.as_bytes());
+    if is_decimal(field.as_bytes()) != number.is_some() {
+        return Ok(false);
+    }
+    match number {
+        Some(number) => Ok(number == wanted.parse()?),
+        None => Ok(wanted == "none"),
     }
 }
 
@@ -100,9 +119,7 @@ fn number_text(alloc: Global, field: &[u8]) -> Result<String, Fail> {
 #[test]
 fn a_number_is_a_sign_and_digits_of_64_bits(rt: HostRuntime) -> Result<(), Fail> {
     for row in NUMBERS.split(',') {
-        let (field, wanted) = row.split_once('=').ok_or("a field without a number")?;
-        let number = number_text(rt.alloc(), field.as_bytes())?;
-        assert_eq!(rt; number.as_str(), wanted, "{field}");
+        is_so(&rt, is_number(row), row)?;
     }
     Ok(())
 }

@@ -19,14 +19,18 @@ pub fn group_of(alloc: Global, agg: Agg) -> Result<Kind, Fail> {
     Ok(Kind::Group(AggList::of(alloc, &[agg])?))
 }
 
+// A pair as `a:1`.
+fn pair_of(word: &str) -> Result<Pair, Fail> {
+    let (key, number) = word.split_once(':').ok_or("a pair without a number")?;
+    let key = key.as_bytes().first().ok_or("a pair without a key")?;
+    Ok((*key, number.parse()?))
+}
+
 // The pairs of a text as `a:1 c:-1`.
 fn list_of(alloc: Global, text: &str) -> Result<Vec<Pair>, Fail> {
     let mut list = Vec::new(alloc);
-    for word in text.split(' ') {
-        if let Some((key, number)) = word.split_once(':') {
-            let key = *key.as_bytes().first().ok_or("a pair without a key")?;
-            list.push((key, number.parse()?))?;
-        }
+    for word in text.split_whitespace() {
+        list.push(pair_of(word)?)?;
     }
     Ok(list)
 }
@@ -91,28 +95,44 @@ pub fn put_lists<D: Disk>(
     Ok(runs)
 }
 
-/// All pairs, by key, those of one key in the order of the lists.
-pub fn all_sorted(alloc: Global, lists: &Vec<Vec<Pair>>) -> Result<Vec<Pair>, Fail> {
-    let mut all: Vec<Pair> = Vec::new(alloc);
+// All pairs, list by list.
+fn all_of(alloc: Global, lists: &Vec<Vec<Pair>>) -> Result<Vec<Pair>, Fail> {
+    let mut all = Vec::new(alloc);
     for list in lists {
         all.extend_from_slice(list)?;
     }
+    Ok(all)
+}
+
+/// All pairs, by key, those of one key in the order of the lists.
+pub fn all_sorted(alloc: Global, lists: &Vec<Vec<Pair>>) -> Result<Vec<Pair>, Fail> {
+    let mut all = all_of(alloc, lists)?;
     all.sort_by_key(|pair: &Pair| pair.0)?;
+    Ok(all)
+}
+
+// Adds a number to the sum of its key.
+fn add(sums: &mut BTreeMap<u8, i64>, key: u8, number: i64) -> Result<(), Fail> {
+    let sum: &mut i64 = sums.entry(key)?.or_insert(0);
+    *sum = sum.wrapping_add(number);
+    Ok(())
+}
+
+// The keys and their sums.
+fn pairs_in(alloc: Global, sums: &BTreeMap<u8, i64>) -> Result<Vec<Pair>, Fail> {
+    let mut all = Vec::new(alloc);
+    for (key, sum) in sums {
+        all.push((*key, *sum))?;
+    }
     Ok(all)
 }
 
 /// The sum of each key's numbers.
 pub fn all_summed(alloc: Global, lists: &Vec<Vec<Pair>>) -> Result<Vec<Pair>, Fail> {
+    let all = all_of(alloc, lists)?;
     let mut sums = BTreeMap::new(alloc);
-    for list in lists {
-        for (key, number) in list {
-            let sum: &mut i64 = sums.entry(*key)?.or_insert(0);
-            *sum = sum.wrapping_add(*number);
-        }
+    for (key, number) in &all {
+        add(&mut sums, *key, *number)?;
     }
-    let mut all = Vec::new(alloc);
-    for (key, sum) in &sums {
-        all.push((*key, *sum))?;
-    }
-    Ok(all)
+    pairs_in(alloc, &sums)
 }

@@ -2,6 +2,7 @@
 ghost use Rattle.std.specs.Prelude.{◌≡◌, ◌≤◌, ◌-◌, ◌^◌, IfOk};
 ghost use Rattle.run_file.specs.Several.{AreOn};
 
+use crate::tests::checks::{agrees, equals};
 use crate::tests::entries::{push_entry, put_run};
 use crate::tests::lists::{
     Pair, all_sorted, all_summed, group_of, page_of, page_of_text, put_lists,
@@ -79,62 +80,98 @@ fn make_lists(alloc: Global, count: u32, strictly: bool) -> Result<Vec<Vec<Pair>
     Ok(lists)
 }
 
-#[test]
-fn without_a_run_there_is_none_and_one_stays(rt: HostRuntime) -> Result<(), Fail> {
-    let alloc = rt.alloc();
+// Whether a run's file has the pairs of a text.
+fn holds(
+    alloc: Global,
+    disk: &mut MemoryDisk,
+    run: &Run,
+    text: &str,
+    is_short: bool,
+) -> Result<bool, Fail> {
+    let page = page_of_text(alloc, text, is_short)?;
+    Ok(bytes_of(alloc, disk, run)?.as_slice() == page.bytes())
+}
+
+// Whether no runs come to none, one run to itself, and its file stays as it was.
+fn stays(alloc: Global) -> Result<[bool; 3], Fail> {
     let mut disk = MemoryDisk::new(alloc, Vec::new(alloc));
     let run = put_text(alloc, &mut disk, 0, "a:1 b:2", true)?;
-    let none = merge_on(alloc, &mut disk, Vec::new(alloc), &Kind::Order, 2);
-    assert_eq!(rt; none, Ok(None));
-    let same = merge_on(alloc, &mut disk, vec![in alloc; run]?, &Kind::Order, 2);
-    assert_eq!(rt; same, Ok(Some(run)));
-    let page = page_of_text(alloc, "a:1 b:2", true)?;
-    assert_eq!(rt; bytes_of(alloc, &mut disk, &run)?.as_slice(), page.bytes());
-    Ok(())
+    let none = merge_on(alloc, &mut disk, Vec::new(alloc), &Kind::Order, 2)?;
+    let runs = vec![in alloc; run]?;
+    let same = merge_on(alloc, &mut disk, runs, &Kind::Order, 2)?;
+    let is_whole = holds(alloc, &mut disk, &run, "a:1 b:2", true)?;
+    Ok([none.is_none(), same == Some(run), is_whole])
+}
+
+#[test]
+fn without_a_run_there_is_none_and_one_stays(rt: HostRuntime) -> Result<(), Fail> {
+    equals(
+        &rt,
+        stays(rt.alloc()),
+        [true, true, true],
+        "none, one, its file",
+    )
+}
+
+// A run of `a` and `c`, one of `b` and `c`, and the run that they come to.
+fn put_merged(alloc: Global, disk: &mut MemoryDisk) -> Result<[Run; 3], Fail> {
+    let first = put_text(alloc, disk, 0, "a:1 c:1", false)?;
+    let second = put_text(alloc, disk, 0, "b:1 c:1", false)?;
+    let runs = vec![in alloc; first, second]?;
+    let kind = group_of(alloc, Agg::Count)?;
+    let run = merge_on(alloc, disk, runs, &kind, 2)?.ok_or("no run")?;
+    Ok([first, second, run])
+}
+
+// The count of the run that they come to, 1 where it has the combined pairs, 1 each where the first and the second one
+// are gone, and how many bytes a bystander has.
+fn combined(alloc: Global) -> Result<[u64; 5], Fail> {
+    let mut disk = MemoryDisk::new(alloc, Vec::new(alloc));
+    let bystander = put_text(alloc, &mut disk, 0, "z:9", false)?;
+    let [first, second, run] = put_merged(alloc, &mut disk)?;
+    let is_combined = holds(alloc, &mut disk, &run, "a:1 b:1 c:2", false)?;
+    let first_goes = is_gone(&mut disk, first.file)?;
+    let second_goes = is_gone(&mut disk, second.file)?;
+    let left = bytes_of(alloc, &mut disk, &bystander)?.len();
+    Ok([
+        run.count,
+        u64::from(is_combined),
+        u64::from(first_goes),
+        u64::from(second_goes),
+        left as u64,
+    ])
 }
 
 #[test]
 fn equal_keys_of_a_group_are_combined_and_only_the_inputs_go(rt: HostRuntime) -> Result<(), Fail> {
-    let alloc = rt.alloc();
-    let mut disk = MemoryDisk::new(alloc, Vec::new(alloc));
-    let bystander = put_text(alloc, &mut disk, 0, "z:9", false)?;
-    let first = put_text(alloc, &mut disk, 0, "a:1 c:1", false)?;
-    let second = put_text(alloc, &mut disk, 0, "b:1 c:1", false)?;
-    let runs = vec![in alloc; first, second]?;
-    let merged = merge_on(alloc, &mut disk, runs, &group_of(alloc, Agg::Count)?, 2)?;
-    let run = merged.ok_or("no run")?;
-    assert_eq!(rt; run.count, 3);
-    let expected = page_of_text(alloc, "a:1 b:1 c:2", false)?;
-    assert_eq!(rt;
-        bytes_of(alloc, &mut disk, &run)?.as_slice(),
-        expected.bytes()
-    );
-    assert!(rt; is_gone(&mut disk, first.file)?);
-    assert!(rt; is_gone(&mut disk, second.file)?);
-    assert_eq!(rt; bytes_of(alloc, &mut disk, &bystander)?.len(), 29);
-    Ok(())
+    equals(
+        &rt,
+        combined(rt.alloc()),
+        [3, 1, 1, 1, 29],
+        "entries, pairs, inputs, bytes",
+    )
 }
 
 // Whether these lists come to a run of these pairs, where so many are merged at once, and no other file is left: neither
-// of an input, nor of a round between.
+// of an input, nor of a round between. The inputs have the first numbers.
 fn come_to(
     alloc: Global,
     kind: &Kind,
     lists: &Vec<Vec<Pair>>,
     fan_in: usize,
     expected: &Page,
-) -> Result<bool, Fail>
-    requires { 2 ≤ fan_in }
-{
+) -> Result<bool, Fail> {
+    if fan_in < 2 {
+        return Err("one at once".into());
+    }
     let mut disk = MemoryDisk::new(alloc, Vec::new(alloc));
     let is_short = matches!(kind, Kind::Order);
     let runs = put_lists(alloc, &mut disk, lists, is_short, 0, 0)?;
-    let inputs = runs.clone()?;
     let run = merge_on(alloc, &mut disk, runs, kind, fan_in)?.ok_or("no run")?;
-    if bytes_of(alloc, &mut disk, &run)?.as_slice() != expected.bytes() {
+    if run.file < lists.len() as u64 || !is_alone(&mut disk, &run)? {
         return Ok(false);
     }
-    Ok(is_alone(&mut disk, &run)? && inputs.iter().all(|input| input.file != run.file))
+    Ok(bytes_of(alloc, &mut disk, &run)?.as_slice() == expected.bytes())
 }
 
 fn is_alone(disk: &mut MemoryDisk, run: &Run) -> Result<bool, Fail> {
@@ -146,25 +183,33 @@ fn is_alone(disk: &mut MemoryDisk, run: &Run) -> Result<bool, Fail> {
     Ok(true)
 }
 
+// The numbers of runs and of those at once, where such runs come to something else.
+fn other_of(alloc: Global, comes: bool, count: u32, fan_in: usize) -> Result<Option<String>, Fail> {
+    if comes {
+        return Ok(None);
+    }
+    Ok(Some(format!(in alloc; "{count} runs, {fan_in} at once")?))
+}
+
+fn other_in_order(alloc: Global, count: u32, fan_in: usize) -> Result<Option<String>, Fail> {
+    let lists = make_lists(alloc, count, false)?;
+    let sorted = page_of(alloc, &all_sorted(alloc, &lists)?, true)?;
+    let comes = come_to(alloc, &Kind::Order, &lists, fan_in, &sorted)?;
+    other_of(alloc, comes, count, fan_in)
+}
+
+fn other_in_groups(alloc: Global, count: u32, fan_in: usize) -> Result<Option<String>, Fail> {
+    let lists = make_lists(alloc, count, true)?;
+    let summed = page_of(alloc, &all_summed(alloc, &lists)?, false)?;
+    let comes = come_to(alloc, &group_of(alloc, Agg::Sum)?, &lists, fan_in, &summed)?;
+    other_of(alloc, comes, count, fan_in)
+}
+
 #[test]
 fn many_runs_come_to_one(rt: HostRuntime) -> Result<(), Fail> {
-    let alloc = rt.alloc();
-    let kind = group_of(alloc, Agg::Sum)?;
-    for count in [9u32, 65] {
-        let lists = make_lists(alloc, count, false)?;
-        let sorted = page_of(alloc, &all_sorted(alloc, &lists)?, true)?;
-        let distinct = make_lists(alloc, count, true)?;
-        let summed = page_of(alloc, &all_summed(alloc, &distinct)?, false)?;
-        for fan_in in [8usize, 2] {
-            assert!(rt;
-                come_to(alloc, &Kind::Order, &lists, fan_in, &sorted)?,
-                "in order, {count} runs, {fan_in} at once"
-            );
-            assert!(rt;
-                come_to(alloc, &kind, &distinct, fan_in, &summed)?,
-                "in groups, {count} runs, {fan_in} at once"
-            );
-        }
+    for (count, fan_in) in [(9u32, 8usize), (9, 2), (65, 8), (65, 2)] {
+        agrees(&rt, other_in_order(rt.alloc(), count, fan_in), "in order")?;
+        agrees(&rt, other_in_groups(rt.alloc(), count, fan_in), "in groups")?;
     }
     Ok(())
 }
@@ -181,10 +226,8 @@ fn files_made(alloc: Global, count: u32) -> Result<u64, Fail> {
 // Forty runs make five and these one. Of nine the last stays, so that two are left for the second round.
 #[test]
 fn a_round_makes_a_file_of_each_eight_runs(rt: HostRuntime) -> Result<(), Fail> {
-    for (count, files) in [(40u32, 46u64), (9, 11)] {
-        assert_eq!(rt; files_made(rt.alloc(), count)?, files, "{count} runs");
-    }
-    Ok(())
+    equals(&rt, files_made(rt.alloc(), 40), 46, "40 runs")?;
+    equals(&rt, files_made(rt.alloc(), 9), 11, "9 runs")
 }
 
 // A run of one row with a value of 300,000 bytes.
@@ -196,23 +239,49 @@ fn put_long(alloc: Global, disk: &mut MemoryDisk) -> Result<Run, Fail>
     put_run(disk, 0, &page)
 }
 
+// The byte of a place, or 256 where there is none.
+fn byte_at(bytes: &[u8], place: usize) -> u64 {
+    match bytes.get(place) {
+        Some(byte) => u64::from(*byte),
+        None => 256,
+    }
+}
+
+// The run that a long row's and a short one come to, where its greatest row is the long one.
+fn put_passing(alloc: Global, disk: &mut MemoryDisk) -> Result<Run, Fail> {
+    let long = put_long(alloc, disk)?;
+    let short = put_text(alloc, disk, 0, "a:1 c:3", true)?;
+    let runs = vec![in alloc; long, short]?;
+    let run = merge_on(alloc, disk, runs, &Kind::Order, 2)?.ok_or("no run")?;
+    if run.greatest != long.greatest {
+        return Err("another greatest row".into());
+    }
+    Ok(run)
+}
+
+// Its count, its bytes, those of its file, the first key, and the long row's key.
+fn passing(alloc: Global) -> Result<[u64; 5], Fail> {
+    let mut disk = MemoryDisk::new(alloc, Vec::new(alloc));
+    let run = put_passing(alloc, &mut disk)?;
+    let bytes = bytes_of(alloc, &mut disk, &run)?;
+    Ok([
+        run.count,
+        run.bytes,
+        bytes.len() as u64,
+        byte_at(&bytes, 8),
+        byte_at(&bytes, 25),
+    ])
+}
+
 #[test]
 fn a_row_that_passes_a_page_goes_through(rt: HostRuntime) -> Result<(), Fail> {
-    let alloc = rt.alloc();
-    let mut disk = MemoryDisk::new(alloc, Vec::new(alloc));
-    let long = put_long(alloc, &mut disk)?;
-    let short = put_text(alloc, &mut disk, 0, "a:1 c:3", true)?;
-    let runs = vec![in alloc; long, short]?;
-    let merged = merge_on(alloc, &mut disk, runs, &Kind::Order, 2)?;
-    let run = merged.ok_or("no run")?;
-    assert_eq!(rt; run.count, 3);
-    assert_eq!(rt; run.greatest, long.greatest);
-    assert_eq!(rt; run.bytes, 300_047);
-    let bytes = bytes_of(alloc, &mut disk, &run)?;
-    assert_eq!(rt; bytes.len(), 300_047);
-    assert_eq!(rt; bytes[8], 97, "the first key");
-    assert_eq!(rt; bytes[25], 98, "the long row's key");
-    Ok(())
+    let wanted = [3, 300_047, 300_047, 97, 98];
+    equals(
+        &rt,
+        passing(rt.alloc()),
+        wanted,
+        "entries, bytes, its file's, and two keys",
+    )
 }
 
 // A disk on which so many calls fail, from one on that is counted behind the six that write three files.
@@ -253,25 +322,33 @@ fn merge_with_faults(
     Ok(answer.map(|merged| merged.map(|run| run.count)))
 }
 
-#[test]
-fn each_call_of_the_disk_fails_in_its_turn(rt: HostRuntime) -> Result<(), Fail> {
+// The calls that fail, where that isn't a fault of the disk.
+fn no_fault(alloc: Global, from: u64, count: u64) -> Result<Option<String>, Fail> {
     let fault = RunFault::DiskFault { disk: 0 };
-    // One call begins the run, two read, one writes, and two take the inputs away.
-    for k in 0..6u64 {
-        for count in [1u64, 20] {
-            assert_eq!(rt;
-                merge_with_faults(rt.alloc(), k, count)?,
-                Err(fault),
-                "{count} from {k} on"
-            );
-        }
+    if merge_with_faults(alloc, from, count)? == Err(fault) {
+        return Ok(None);
     }
-    assert_eq!(rt; merge_with_faults(rt.alloc(), 6, 20)?, Ok(Some(2)));
-    Ok(())
+    Ok(Some(format!(in alloc; "{count} from {from} on")?))
 }
 
-// The run that two runs of two disks come to, on the second one.
-fn merged_of_two(alloc: Global) -> Result<Option<Run>, Fail> {
+#[test]
+fn each_call_of_the_disk_fails_in_its_turn(rt: HostRuntime) -> Result<(), Fail> {
+    // One call begins the run, two read, one writes, and two take the inputs away.
+    for k in 0..6u64 {
+        agrees(&rt, no_fault(rt.alloc(), k, 1), "one call")?;
+        agrees(&rt, no_fault(rt.alloc(), k, 20), "each later call")?;
+    }
+    equals(
+        &rt,
+        merge_with_faults(rt.alloc(), 6, 20),
+        Ok(Some(2)),
+        "none is left",
+    )
+}
+
+// The disk and the file of the run that two runs of two disks come to, on the second one. The first file of that disk is
+// the second run's.
+fn merged_of_two(alloc: Global) -> Result<Option<(u32, u64)>, Fail> {
     let mut left = MemoryDisk::new(alloc, Vec::new(alloc));
     let mut right = MemoryDisk::new(alloc, Vec::new(alloc));
     let first = put_text(alloc, &mut left, 0, "a:1", true)?;
@@ -283,13 +360,16 @@ fn merged_of_two(alloc: Global) -> Result<Option<Run>, Fail> {
         return Err("the shelf has not two disks".into());
     }
     let runs = vec![in alloc; first, second]?;
-    Ok(merge_all(alloc, &mut owners, runs, &Kind::Order, 2, 1)?)
+    let merged = merge_all(alloc, &mut owners, runs, &Kind::Order, 2, 1)?;
+    Ok(merged.map(|run| (run.disk, run.file)))
 }
 
 #[test]
 fn runs_of_two_disks_come_to_the_one_that_is_named(rt: HostRuntime) -> Result<(), Fail> {
-    let run = merged_of_two(rt.alloc())?.ok_or("no run")?;
-    assert_eq!(rt; run.disk, 1);
-    assert_eq!(rt; run.file, 1, "the first of that disk is the second run's");
-    Ok(())
+    equals(
+        &rt,
+        merged_of_two(rt.alloc()),
+        Some((1, 1)),
+        "its disk and its file",
+    )
 }

@@ -1,12 +1,14 @@
 // Runs that are read side by side.
 ghost use Rattle.std.specs.Prelude.{◌≡◌, IfOk};
 
+use crate::tests::checks::{agrees, equals, is_so};
 use crate::tests::entries::{put_run, three_entries};
 use crate::tests::lists::{
     Pair, all_sorted, all_summed, group_of, lists_of, page_of, page_of_text, put_lists,
 };
 use crate::tests::merging::{drained, other_step};
 use crate::tests::runs::put_damaged;
+use crate::tests::words::parted;
 use aggregate::{Agg, Kind};
 use row_page::Page;
 use run_file::{Run, RunFault};
@@ -33,6 +35,17 @@ fn merged_otherwise(
     let mut disk = MemoryDisk::new(alloc, Vec::new(alloc));
     let runs = put_lists(alloc, &mut disk, &lists, false, 0, 0)?;
     other_step(alloc, &mut disk, &runs, kind, steps)
+}
+
+// The same of a merge in groups with this aggregate.
+fn grouped_otherwise(
+    alloc: Global,
+    lists: &str,
+    agg: Agg,
+    steps: &str,
+) -> Result<Option<String>, Fail> {
+    let kind = group_of(alloc, agg)?;
+    merged_otherwise(alloc, lists, &kind, steps)
 }
 
 /// Entries whose keys ascend; each key stands there about every second time, and once where `times` is 1.
@@ -68,69 +81,84 @@ fn eight_merged(alloc: Global, lists: &Vec<Vec<Pair>>, kind: &Kind) -> Result<Pa
 
 #[test]
 fn a_group_combines_what_both_runs_have(rt: HostRuntime) -> Result<(), Fail> {
-    let alloc = rt.alloc();
     let steps = "advance=00000001610000001000000000000000000000000000000001 \
         advance=00000001620000001000000000000000000000000000000001 \
         advance=00000001630000001000000000000000000000000000000002 advance=end advance=end";
-    let other = merged_otherwise(
-        alloc,
-        "|a:1 c:1|b:1 c:1",
-        &group_of(alloc, Agg::Count)?,
-        steps,
-    )?;
-    assert_eq!(rt; other, None);
-    Ok(())
+    let other = grouped_otherwise(rt.alloc(), "|a:1 c:1|b:1 c:1", Agg::Count, steps);
+    agrees(&rt, other, "counts")
+}
+
+// Whether a merge of these lists gives the pairs of a text.
+fn gives(alloc: Global, lists: &str, wanted: &str) -> Result<bool, Fail> {
+    let page = merged(alloc, lists, &Kind::Order)?;
+    let wanted = page_of_text(alloc, wanted, false)?;
+    Ok(page.bytes() == wanted.bytes())
 }
 
 #[test]
 fn an_order_gives_equal_keys_in_the_order_of_the_runs(rt: HostRuntime) -> Result<(), Fail> {
-    let page = merged(rt.alloc(), "|k:1 k:2|a:3 k:4|k:5 z:6", &Kind::Order)?;
-    let wanted = page_of_text(rt.alloc(), "a:3 k:1 k:2 k:4 k:5 z:6", false)?;
-    assert_eq!(rt; page.bytes(), wanted.bytes());
-    Ok(())
+    let lists = "|k:1 k:2|a:3 k:4|k:5 z:6";
+    is_so(
+        &rt,
+        gives(rt.alloc(), lists, "a:3 k:1 k:2 k:4 k:5 z:6"),
+        "the order",
+    )
+}
+
+// The first step that a merge of no runs answers otherwise.
+fn none_otherwise(alloc: Global, steps: &str) -> Result<Option<String>, Fail> {
+    let mut disk = MemoryDisk::new(alloc, Vec::new(alloc));
+    other_step(alloc, &mut disk, &[], &Kind::Order, steps)
 }
 
 #[test]
 fn runs_without_rows_give_nothing(rt: HostRuntime) -> Result<(), Fail> {
-    let alloc = rt.alloc();
-    let mut disk = MemoryDisk::new(alloc, Vec::new(alloc));
-    let none = other_step(alloc, &mut disk, &[], &Kind::Order, "advance=end")?;
-    assert_eq!(rt; none, None, "no run");
-    let nothing = merged_otherwise(alloc, "||", &Kind::Order, "next=end")?;
-    assert_eq!(rt; nothing, None, "two empty runs");
-    let page = merged(alloc, "||a:1|", &Kind::Order)?;
-    assert_eq!(rt; page.bytes(), page_of_text(alloc, "a:1", false)?.bytes());
-    Ok(())
+    agrees(&rt, none_otherwise(rt.alloc(), "advance=end"), "no run")?;
+    let nothing = merged_otherwise(rt.alloc(), "||", &Kind::Order, "next=end");
+    agrees(&rt, nothing, "two empty runs")?;
+    is_so(&rt, gives(rt.alloc(), "||a:1|", "a:1"), "one entry")
 }
 
 #[test]
 fn next_lends_each_entry_and_then_none(rt: HostRuntime) -> Result<(), Fail> {
-    let alloc = rt.alloc();
     let steps = "next=00000001610000001000000000000000000000000000000001 \
         next=00000001630000001000000000000000000000000000000101 next=end next=end";
-    let other = merged_otherwise(alloc, "|a:1 c:258|c:-1", &group_of(alloc, Agg::Sum)?, steps)?;
-    assert_eq!(rt; other, None);
-    Ok(())
+    let other = grouped_otherwise(rt.alloc(), "|a:1 c:258|c:-1", Agg::Sum, steps);
+    agrees(&rt, other, "sums")
+}
+
+// Whether a merge of eight runs in order gives what a stable sort gives, and more than 400 rows.
+fn come_in_order(alloc: Global) -> Result<bool, Fail> {
+    let lists = eight_lists(alloc, 3)?;
+    let page = eight_merged(alloc, &lists, &Kind::Order)?;
+    let wanted = page_of(alloc, &all_sorted(alloc, &lists)?, false)?;
+    Ok(page.bytes() == wanted.bytes() && page.rows() > 400)
+}
+
+// Whether a merge of eight runs in groups gives what a map sums, and more than 100 rows.
+fn come_in_groups(alloc: Global) -> Result<bool, Fail> {
+    let lists = eight_lists(alloc, 1)?;
+    let page = eight_merged(alloc, &lists, &group_of(alloc, Agg::Sum)?)?;
+    let wanted = page_of(alloc, &all_summed(alloc, &lists)?, false)?;
+    Ok(page.bytes() == wanted.bytes() && page.rows() > 100)
 }
 
 #[test]
 fn eight_runs_come_to_what_a_stable_sort_gives(rt: HostRuntime) -> Result<(), Fail> {
-    let lists = eight_lists(rt.alloc(), 3)?;
-    let wanted = page_of(rt.alloc(), &all_sorted(rt.alloc(), &lists)?, false)?;
-    let page = eight_merged(rt.alloc(), &lists, &Kind::Order)?;
-    assert!(rt; page.rows() > 400, "about half of 960");
-    assert_eq!(rt; page.bytes(), wanted.bytes());
-    Ok(())
+    is_so(
+        &rt,
+        come_in_order(rt.alloc()),
+        "the rows, about half of 960",
+    )
 }
 
 #[test]
 fn eight_runs_come_to_what_a_map_sums(rt: HostRuntime) -> Result<(), Fail> {
-    let lists = eight_lists(rt.alloc(), 1)?;
-    let wanted = page_of(rt.alloc(), &all_summed(rt.alloc(), &lists)?, false)?;
-    let page = eight_merged(rt.alloc(), &lists, &group_of(rt.alloc(), Agg::Sum)?)?;
-    assert!(rt; page.rows() > 100, "most of 120 keys");
-    assert_eq!(rt; page.bytes(), wanted.bytes());
-    Ok(())
+    is_so(
+        &rt,
+        come_in_groups(rt.alloc()),
+        "the rows, of most of 120 keys",
+    )
 }
 
 /// A run of three entries on a disk of number 7, whose file has one byte less.
@@ -150,18 +178,20 @@ fn put_cut(alloc: Global, disk: &mut MemoryDisk) -> Result<Run, Fail>
     })
 }
 
-#[test]
-fn a_short_file_is_damaged_with_its_place(rt: HostRuntime) -> Result<(), Fail> {
-    let alloc = rt.alloc();
+// The first step that a merge of a run and one that is cut answers otherwise.
+fn cut_otherwise(alloc: Global, steps: &str) -> Result<Option<String>, Fail> {
     let mut disk = MemoryDisk::new(alloc, Vec::new(alloc));
     let whole = put_run(&mut disk, 0, &page_of_text(alloc, "b:1", false)?)?;
     let cut = put_cut(alloc, &mut disk)?;
+    other_step(alloc, &mut disk, &[whole, cut], &Kind::Order, steps)
+}
+
+#[test]
+fn a_short_file_is_damaged_with_its_place(rt: HostRuntime) -> Result<(), Fail> {
     let steps = "advance=00000001610000001000000000000000000000000000000001 \
         advance=00000001620000001000000000000000000000000000000001 \
         advance=00000001630000001000000000000000000000000000000001 advance=damaged:7:1:3:2";
-    let other = other_step(alloc, &mut disk, &[whole, cut], &Kind::Order, steps)?;
-    assert_eq!(rt; other, None);
-    Ok(())
+    agrees(&rt, cut_otherwise(rt.alloc(), steps), "a file that is cut")
 }
 
 // The first step that a merge of the three entries' run and one of another length answers otherwise.
@@ -177,22 +207,22 @@ fn damaged_otherwise<D: Disk>(
     other_step(alloc, disk, &[whole, damaged], &Kind::Order, steps)
 }
 
+// The same on a disk that tells the ends of files, or on one that doesn't.
+fn length_otherwise(alloc: Global, length: &str, tells: bool) -> Result<Option<String>, Fail> {
+    let length: u32 = length.parse()?;
+    if tells {
+        let mut disk = MemoryDisk::new(alloc, Vec::new(alloc));
+        return damaged_otherwise(alloc, &mut disk, length);
+    }
+    let mut disk = VeilDisk::new(alloc, Vec::new(alloc), Vec::new(alloc));
+    damaged_otherwise(alloc, &mut disk, length)
+}
+
 #[test]
 fn a_length_that_is_another_is_damage_of_its_run(rt: HostRuntime) -> Result<(), Fail> {
-    let alloc = rt.alloc();
-    for length in [0u32, 13, u32::MAX] {
-        let mut told = MemoryDisk::new(alloc, Vec::new(alloc));
-        let mut veiled = VeilDisk::new(alloc, Vec::new(alloc), Vec::new(alloc));
-        assert_eq!(rt;
-            damaged_otherwise(alloc, &mut told, length)?,
-            None,
-            "{length}"
-        );
-        assert_eq!(rt;
-            damaged_otherwise(alloc, &mut veiled, length)?,
-            None,
-            "{length}, not told"
-        );
+    for length in ["0", "13", "4294967295"] {
+        agrees(&rt, length_otherwise(rt.alloc(), length, true), length)?;
+        agrees(&rt, length_otherwise(rt.alloc(), length, false), length)?;
     }
     Ok(())
 }
@@ -208,15 +238,24 @@ fn rows_with_fault(alloc: Global, call: u64) -> Result<Result<usize, RunFault>, 
     }
 }
 
+// Whether the failure of the call before a `=` is a fault of the disk behind it.
+fn is_fault(alloc: Global, call: &str) -> Result<bool, Fail> {
+    let (call, disk) = parted(call)?;
+    let disk = disk.parse()?;
+    Ok(rows_with_fault(alloc, call.parse()?)? == Err(RunFault::DiskFault { disk }))
+}
+
 // The first four calls write the runs. A reader keeps one row here, so each row is read by a call of its own: the first
 // of both runs, then the next of the one whose row was given.
 #[test]
 fn each_call_of_a_disk_that_fails_is_a_fault_of_it(rt: HostRuntime) -> Result<(), Fail> {
-    let alloc = rt.alloc();
-    for (call, disk) in [(4u64, 3u32), (5, 5), (6, 3)] {
-        let fault = RunFault::DiskFault { disk };
-        assert_eq!(rt; rows_with_fault(alloc, call)?, Err(fault), "call {call}");
+    for call in ["4=3", "5=5", "6=3"] {
+        is_so(&rt, is_fault(rt.alloc(), call), call)?;
     }
-    assert_eq!(rt; rows_with_fault(alloc, 7)?, Ok(3), "no call is left");
-    Ok(())
+    equals(
+        &rt,
+        rows_with_fault(rt.alloc(), 7),
+        Ok(3),
+        "no call is left",
+    )
 }

@@ -1,9 +1,10 @@
 // Steps of a merge as words of text.
-ghost use Rattle.std.specs.Prelude.{◌≡◌, ◌-◌, ◌^◌};
+ghost use Rattle.std.specs.Prelude.{◌≡◌, ◌≤◌, ◌-◌, ◌^◌, length};
 ghost use Rattle.run_merge.specs.Merging.{runs_of};
 ghost use Rattle.run_file.specs.Several.{AreOn};
 
-use crate::tests::reading::{hex, joined, told};
+use crate::tests::reading::{hex, told};
+use crate::tests::words::{otherwise, parted};
 use aggregate::Kind;
 use row_page::Page;
 use run_file::{Run, RunFault};
@@ -24,33 +25,63 @@ pub fn other_step<D: Disk>(
 ) -> Result<Option<String>, Fail>
     requires { AreOn (2 ^ 32 - 1) runs.now }
 {
+    if runs.len() > 65536 {
+        return Err("many runs".into());
+    }
     let mut merge = Merge::new(alloc, runs, kind)?;
+    other_of(alloc, disk, &mut merge, greatest_of(runs), steps)
+}
+
+// What the greatest costs of the runs come to.
+fn greatest_of(runs: &[Run]) -> u64 {
+    let mut greatest = 0u64;
+    for run in runs {
+        greatest = greatest.saturating_add(run.greatest);
+    }
+    greatest
+}
+
+fn other_of<D: Disk>(
+    alloc: Global,
+    disk: &mut D,
+    merge: &mut Merge,
+    greatest: u64,
+    steps: &str,
+) -> Result<Option<String>, Fail>
+    requires there { AreOn (2 ^ 32 - 1) (runs_of merge.old) }
+    requires few { length (runs_of merge.old) ≤ 65536 }
+{
     for word in steps.split(' ') {
-        let (step, wanted) = word.split_once('=').ok_or("a step without an answer")?;
-        let answer = if step == "next" {
-            next(alloc, disk, &mut merge)?
-        } else {
-            advance(alloc, disk, &mut merge)?
-        };
-        if !keeps_few(&merge, runs) {
-            return Err("the merge keeps too much".into());
-        }
-        if answer.as_str() != wanted {
-            return Ok(Some(joined(alloc, step, &answer)?));
+        let other = answered_otherwise(alloc, disk, merge, greatest, word)?;
+        if other.is_some() {
+            return Ok(other);
         }
     }
     Ok(None)
 }
 
-// Whether it keeps no more than the greatest costs of the runs come to.
-fn keeps_few(merge: &Merge, runs: &[Run]) -> bool
-    requires { runs_of merge.now ≡ runs.now }
+// The step of a word with the answer that it got, where that is another one.
+fn answered_otherwise<D: Disk>(
+    alloc: Global,
+    disk: &mut D,
+    merge: &mut Merge,
+    greatest: u64,
+    word: &str,
+) -> Result<Option<String>, Fail>
+    requires there { AreOn (2 ^ 32 - 1) (runs_of merge.old) }
+    requires few { length (runs_of merge.old) ≤ 65536 }
+    ensures { runs_of merge.new ≡ runs_of merge.old }
 {
-    let mut greatest = 0u64;
-    for run in runs {
-        greatest = greatest.saturating_add(run.greatest);
+    let (step, wanted) = parted(word)?;
+    let answer = if step == "next" {
+        next(alloc, disk, merge)?
+    } else {
+        advance(alloc, disk, merge)?
+    };
+    if merge.buffered() as u64 > greatest {
+        return Err("the merge keeps too much".into());
     }
-    runs.len() > 65536 || merge.buffered() as u64 <= greatest
+    otherwise(alloc, step, wanted, answer)
 }
 
 fn advance<D: Disk>(alloc: Global, disk: &mut D, merge: &mut Merge) -> Result<String, Fail>

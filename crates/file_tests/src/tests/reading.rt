@@ -2,6 +2,7 @@
 ghost use Rattle.std.specs.Prelude.{◌≡◌};
 ghost use Rattle.run_file.specs.Readers.{run_of};
 
+use crate::tests::words::{otherwise, parted};
 use run_file::{Damage, Form, Run, RunFault, RunReader};
 use spill_disk::{Disk, One};
 use std::alloc::Global;
@@ -20,26 +21,48 @@ pub fn other_step<D: Disk>(
     requires { run.now.disk ≡ 0 }
 {
     let mut reader = RunReader::new(alloc, run, form);
+    other_of(alloc, disk, &mut reader, run.greatest, steps)
+}
+
+fn other_of<D: Disk>(
+    alloc: Global,
+    disk: &mut D,
+    reader: &mut RunReader,
+    greatest: u64,
+    steps: &str,
+) -> Result<Option<String>, Fail>
+    requires { (run_of reader.old).disk ≡ 0 }
+{
     for word in steps.split(' ') {
-        let (step, wanted) = word.split_once('=').ok_or("a step without an answer")?;
-        let answer = if step == "next" {
-            next(alloc, disk, &mut reader)?
-        } else {
-            advance(alloc, disk, &mut reader)?
-        };
-        if reader.buffered() as u64 > run.greatest {
-            return Err("the reader keeps too much".into());
-        }
-        if answer.as_str() != wanted {
-            return Ok(Some(joined(alloc, step, &answer)?));
+        let other = answered_otherwise(alloc, disk, reader, greatest, word)?;
+        if other.is_some() {
+            return Ok(other);
         }
     }
     Ok(None)
 }
 
-/// A step and the answer that it got.
-pub fn joined(alloc: Global, step: &str, answer: &str) -> Result<String, Fail> {
-    Ok(format!(in alloc; "{step}={answer}")?)
+// The step of a word with the answer that it got, where that is another one.
+fn answered_otherwise<D: Disk>(
+    alloc: Global,
+    disk: &mut D,
+    reader: &mut RunReader,
+    greatest: u64,
+    word: &str,
+) -> Result<Option<String>, Fail>
+    requires { (run_of reader.old).disk ≡ 0 }
+    ensures { run_of reader.new ≡ run_of reader.old }
+{
+    let (step, wanted) = parted(word)?;
+    let answer = if step == "next" {
+        next(alloc, disk, reader)?
+    } else {
+        advance(alloc, disk, reader)?
+    };
+    if reader.buffered() as u64 > greatest {
+        return Err("the reader keeps too much".into());
+    }
+    otherwise(alloc, step, wanted, answer)
 }
 
 fn advance<D: Disk>(alloc: Global, disk: &mut D, reader: &mut RunReader) -> Result<String, Fail>

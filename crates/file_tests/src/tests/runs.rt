@@ -4,50 +4,50 @@ ghost use Rattle.run_file.specs.Readers.{run_of};
 ghost use Rattle.run_file.specs.Reading.{IsAhead};
 ghost use Rattle.run_file.specs.Shelved.{files_on};
 
+use crate::tests::checks::{agrees, equals, is_so};
 use crate::tests::entries::{put_run, three_entries};
-use crate::tests::folders::disk_in;
+use crate::tests::folders::{disk_in, remove};
 use crate::tests::reading::other_step;
 use aggregate::{Agg, AggList, Kind};
 use row_page::Page;
 use run_file::{Form, Run, RunReader, RunWriter};
 use spill_disk::{Disk, MemoryDisk, One, Shelf, VeilDisk};
 use std::alloc::Global;
-use std::fs;
 use std::test::Fail;
 
 // The first step that a reader of the three entries' run answers otherwise.
-fn read_otherwise(alloc: Global, form: Form, steps: &str) -> Result<Option<String>, Fail> {
+fn read_otherwise(alloc: Global, steps: &str) -> Result<Option<String>, Fail> {
+    formed_otherwise(alloc, Form::Entries(Kind::Order), steps)
+}
+
+// The same of a reader with this form.
+fn formed_otherwise(alloc: Global, form: Form, steps: &str) -> Result<Option<String>, Fail> {
     let mut disk = MemoryDisk::new(alloc, Vec::new(alloc));
     let run = put_run(&mut disk, 0, &three_entries(alloc)?)?;
     other_step(alloc, &mut disk, &run, form, steps)
 }
 
+// The run of the three entries.
+fn written(alloc: Global) -> Result<Run, Fail> {
+    let mut disk = MemoryDisk::new(alloc, Vec::new(alloc));
+    put_run(&mut disk, 0, &three_entries(alloc)?)
+}
+
 #[test]
 fn a_run_is_read_as_it_was_written(rt: HostRuntime) -> Result<(), Fail> {
-    let alloc = rt.alloc();
-    let mut disk = MemoryDisk::new(alloc, Vec::new(alloc));
-    assert_eq!(rt;
-        put_run(&mut disk, 0, &three_entries(alloc)?)?,
-        Run {
-            disk: 0,
-            file: 0,
-            bytes: 43,
-            count: 3,
-            greatest: 36
-        }
-    );
+    let run = Run {
+        disk: 0,
+        file: 0,
+        bytes: 43,
+        count: 3,
+        greatest: 36,
+    };
+    equals(&rt, written(rt.alloc()), run, "the run")?;
     let steps = "advance=00000001610000000131 advance=000000016200000000 \
         advance=000000026363000000023232 advance=end next=end";
-    assert_eq!(rt;
-        read_otherwise(alloc, Form::Entries(Kind::Order), steps)?,
-        None
-    );
+    agrees(&rt, read_otherwise(rt.alloc(), steps), "advance")?;
     let steps = "next=00000001610000000131";
-    assert_eq!(rt;
-        read_otherwise(alloc, Form::Entries(Kind::Order), steps)?,
-        None
-    );
-    Ok(())
+    agrees(&rt, read_otherwise(rt.alloc(), steps), "next")
 }
 
 /// Puts the rows that are ahead behind those of a page, by `next` alone.
@@ -67,78 +67,91 @@ fn put_rows<D: Disk, H: Shelf<D>>(
     Ok(())
 }
 
-// The bytes of the page that the three entries' run is read into.
-fn copied(alloc: Global) -> Result<Page, Fail> {
+// Puts the rows of a run behind those of a page.
+fn put_run_rows(
+    alloc: Global,
+    disk: &mut MemoryDisk,
+    run: &Run,
+    page: &mut Page,
+) -> Result<(), Fail>
+    requires { run.now.disk ≡ 0 }
+{
+    let mut reader = RunReader::new(alloc, run, Form::Entries(Kind::Order));
+    put_rows(&mut reader, &mut One { disk }, page)
+}
+
+// Whether the page that the three entries' run is read into is that of the three entries.
+fn is_copied(alloc: Global) -> Result<bool, Fail> {
+    let page = three_entries(alloc)?;
     let mut disk = MemoryDisk::new(alloc, Vec::new(alloc));
-    let run = put_run(&mut disk, 0, &three_entries(alloc)?)?;
-    let mut reader = RunReader::new(alloc, &run, Form::Entries(Kind::Order));
+    let run = put_run(&mut disk, 0, &page)?;
     let mut copy = Page::new(alloc, 100);
-    put_rows(&mut reader, &mut One { disk: &mut disk }, &mut copy)?;
-    Ok(copy)
+    put_run_rows(alloc, &mut disk, &run, &mut copy)?;
+    Ok(copy.bytes() == page.bytes())
 }
 
 #[test]
 fn next_lends_the_rows_in_order_and_then_none(rt: HostRuntime) -> Result<(), Fail> {
-    let alloc = rt.alloc();
     let steps = "next=00000001610000000131 next=000000016200000000 next=000000026363000000023232 \
         next=end next=end";
-    assert_eq!(rt;
-        read_otherwise(alloc, Form::Entries(Kind::Order), steps)?,
-        None
-    );
-    assert_eq!(rt;
-        copied(alloc)?.bytes(),
-        three_entries(alloc)?.bytes(),
-        "in a loop"
-    );
-    Ok(())
+    agrees(&rt, read_otherwise(rt.alloc(), steps), "next")?;
+    is_so(&rt, is_copied(rt.alloc()), "in a loop")
 }
 
 #[test]
 fn next_goes_on_from_the_row_that_advance_stands_at(rt: HostRuntime) -> Result<(), Fail> {
     let steps = "advance=00000001610000000131 next=000000016200000000 \
         advance=000000026363000000023232 advance=end";
-    assert_eq!(rt;
-        read_otherwise(rt.alloc(), Form::Entries(Kind::Order), steps)?,
-        None
-    );
-    Ok(())
+    agrees(&rt, read_otherwise(rt.alloc(), steps), "both")
+}
+
+// The same of a reader with the form of a count.
+fn counted_otherwise(alloc: Global, steps: &str) -> Result<Option<String>, Fail> {
+    let aggs = AggList::of(alloc, &[Agg::Count])?;
+    formed_otherwise(alloc, Form::Entries(Kind::Group(aggs)), steps)
 }
 
 // A value of 1 byte, where a count has 16.
 #[test]
 fn a_row_of_another_form_is_damage(rt: HostRuntime) -> Result<(), Fail> {
-    let counts = Form::Entries(Kind::Group(AggList::of(rt.alloc(), &[Agg::Count])?));
-    assert_eq!(rt;
-        read_otherwise(rt.alloc(), counts, "next=damaged:0:0:3:0")?,
-        None
-    );
-    Ok(())
+    agrees(
+        &rt,
+        counted_otherwise(rt.alloc(), "next=damaged:0:0:3:0"),
+        "a count",
+    )
+}
+
+// The first step that a reader of the three entries' run answers otherwise, where the file's last byte is hidden.
+fn short_otherwise(alloc: Global, steps: &str) -> Result<Option<String>, Fail> {
+    let short = vec![in alloc; (0, 1)]?;
+    let mut disk = VeilDisk::new(alloc, Vec::new(alloc), short);
+    let run = put_run(&mut disk, 0, &three_entries(alloc)?)?;
+    other_step(alloc, &mut disk, &run, Form::Entries(Kind::Order), steps)
 }
 
 #[test]
 fn a_short_file_is_damaged_and_not_ended(rt: HostRuntime) -> Result<(), Fail> {
-    let alloc = rt.alloc();
-    let mut disk = VeilDisk::new(alloc, Vec::new(alloc), vec![in alloc; (0, 1)]?);
-    let run = put_run(&mut disk, 0, &three_entries(alloc)?)?;
     let steps = "advance=00000001610000000131 advance=000000016200000000 advance=damaged:0:0:3:2 \
         next=damaged:0:0:3:2";
-    let other = other_step(alloc, &mut disk, &run, Form::Entries(Kind::Order), steps)?;
-    assert_eq!(rt; other, None);
-    Ok(())
+    agrees(&rt, short_otherwise(rt.alloc(), steps), "a short file")
+}
+
+// The bytes of the three entries' page with another length of the second one.
+fn damaged_bytes(alloc: Global, length: u32) -> Result<Vec<u8>, Fail> {
+    let page = three_entries(alloc)?;
+    let mut bytes = page.bytes().to_vec(alloc)?;
+    if bytes.len() < 18 {
+        return Err("a short page".into());
+    }
+    bytes[14..18].copy_from_slice(&length.to_be_bytes());
+    Ok(bytes)
 }
 
 /// Writes the run of the three entries with another length of the second one.
 pub fn put_damaged<D: Disk>(alloc: Global, disk: &mut D, length: u32) -> Result<Run, Fail>
     ensures { IfOk result (λ run. run.disk ≡ 0) }
 {
-    let mut bytes = three_entries(alloc)?.bytes().to_vec(alloc)?;
-    for (place, byte) in length.to_be_bytes().into_iter().enumerate() {
-        let Some(at) = bytes.get_mut(place.saturating_add(14)) else {
-            return Err("a short page".into());
-        };
-        *at = byte;
-    }
+    let bytes = damaged_bytes(alloc, length)?;
     let file = disk.create()?;
     disk.append(file, &bytes)?;
     Ok(Run {
@@ -161,23 +174,23 @@ fn damaged_otherwise<D: Disk>(
     other_step(alloc, disk, &run, Form::Entries(Kind::Order), steps)
 }
 
+// The same on a disk that tells the ends of files, or on one that doesn't.
+fn length_otherwise(alloc: Global, length: &str, tells: bool) -> Result<Option<String>, Fail> {
+    let length: u32 = length.parse()?;
+    if tells {
+        let mut disk = MemoryDisk::new(alloc, Vec::new(alloc));
+        return damaged_otherwise(alloc, &mut disk, length);
+    }
+    let mut disk = VeilDisk::new(alloc, Vec::new(alloc), Vec::new(alloc));
+    damaged_otherwise(alloc, &mut disk, length)
+}
+
 // The second row has 9 bytes, and none of the run more than 12.
 #[test]
 fn a_length_that_is_another_is_damage(rt: HostRuntime) -> Result<(), Fail> {
-    let alloc = rt.alloc();
-    for length in [0u32, 8, 10, 12, 13, 26, u32::MAX] {
-        let mut told = MemoryDisk::new(alloc, Vec::new(alloc));
-        let mut veiled = VeilDisk::new(alloc, Vec::new(alloc), Vec::new(alloc));
-        assert_eq!(rt;
-            damaged_otherwise(alloc, &mut told, length)?,
-            None,
-            "{length}"
-        );
-        assert_eq!(rt;
-            damaged_otherwise(alloc, &mut veiled, length)?,
-            None,
-            "{length}, not told"
-        );
+    for length in ["0", "8", "10", "12", "13", "26", "4294967295"] {
+        agrees(&rt, length_otherwise(rt.alloc(), length, true), length)?;
+        agrees(&rt, length_otherwise(rt.alloc(), length, false), length)?;
     }
     Ok(())
 }
@@ -193,30 +206,31 @@ fn put_twice<D: Disk>(alloc: Global, disk: &mut D) -> Result<Run, Fail>
     Ok(writer.finish())
 }
 
-// The count of a run that is written twice, and the first step that its reader answers otherwise. The run is removed.
+// The first step that a reader of a run that is written twice answers otherwise. The run is removed.
 fn twice_otherwise<D: Disk>(
     alloc: Global,
     disk: &mut D,
     steps: &str,
-) -> Result<(u64, Option<String>), Fail> {
+) -> Result<Option<String>, Fail> {
     let run = put_twice(alloc, disk)?;
+    if run.count != 6 {
+        return Err("another count".into());
+    }
     let other = other_step(alloc, disk, &run, Form::Entries(Kind::Order), steps)?;
     disk.remove(run.file)?;
-    Ok((run.count, other))
+    Ok(other)
+}
+
+fn folder_otherwise(rt: &HostRuntime, steps: &str) -> Result<Option<String>, Fail> {
+    let mut disk = disk_in(rt, "runs")?;
+    twice_otherwise(rt.alloc(), &mut disk, steps)
 }
 
 #[test]
 fn a_run_through_a_folder_is_read_back(rt: HostRuntime) -> Result<(), Fail> {
-    let alloc = rt.alloc();
-    let mut disk = disk_in(&rt, "runs")?;
     let steps = "advance=00000001610000000131 advance=000000016200000000 \
         advance=000000026363000000023232 advance=00000001610000000131 advance=000000016200000000 \
         advance=000000026363000000023232 advance=end";
-    let read = twice_otherwise(alloc, &mut disk, steps);
-    drop(disk);
-    let (count, other) = read?;
-    assert_eq!(rt; count, 6);
-    assert_eq!(rt; other, None);
-    fs::remove_dir(&rt, "runs")?;
-    Ok(())
+    agrees(&rt, folder_otherwise(&rt, steps), "six entries")?;
+    remove(&rt, "runs")
 }

@@ -1,5 +1,6 @@
 // Disks in memory that tell nothing and hide the ends of files.
 use crate::tests::calls::other_answer;
+use crate::tests::checks::agrees;
 use spill_disk::VeilDisk;
 use std::alloc::Global;
 use std::test::Fail;
@@ -32,8 +33,11 @@ fn a_veil_hides_the_ends_of_the_files_that_it_was_told(rt: HostRuntime) -> Resul
     let calls = "create=0 append:abcd=ok read:0:0:8=3:abc..... read:0:3:8=0:........ create=1 \
         append:abcd=ok read:1:0:8=0:........ create=2 append:abcd=ok read:2:1:8=3:bcd..... \
         remove:2=ok read:2:0:8=0:........ remove:9=ok create=3";
-    assert_eq!(rt; answered_otherwise(rt.alloc(), &[], 0, None, calls)?, None);
-    Ok(())
+    agrees(
+        &rt,
+        answered_otherwise(rt.alloc(), &[], 0, None, calls),
+        "calls",
+    )
 }
 
 #[test]
@@ -46,11 +50,11 @@ fn each_call_of_a_veil_fails_alone_in_its_turn(rt: HostRuntime) -> Result<(), Fa
     ];
     let mut failing = 0u64;
     for calls in rows {
-        assert_eq!(rt;
-            answered_otherwise(rt.alloc(), &[failing], 1, None, calls)?,
-            None,
-            "call {failing}"
-        );
+        agrees(
+            &rt,
+            answered_otherwise(rt.alloc(), &[failing], 1, None, calls),
+            calls,
+        )?;
         failing = failing.wrapping_add(1);
     }
     Ok(())
@@ -60,9 +64,9 @@ fn each_call_of_a_veil_fails_alone_in_its_turn(rt: HostRuntime) -> Result<(), Fa
 #[test]
 fn an_append_to_a_file_that_is_not_there_fails(rt: HostRuntime) -> Result<(), Fail> {
     let calls = "append:a=failed append:a=failed create=0 append:ab=ok read:0:0:8=1:a.......";
-    assert_eq!(rt;
-        answered_otherwise(rt.alloc(), &[1], 2, Some(0), calls)?,
-        None
-    );
-    Ok(())
+    agrees(
+        &rt,
+        answered_otherwise(rt.alloc(), &[1], 2, Some(0), calls),
+        "calls",
+    )
 }

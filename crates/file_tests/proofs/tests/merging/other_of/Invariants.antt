@@ -1,10 +1,10 @@
 use Rattle.std.proofs.Common.{◌≡◌}
-use Rattle.run_file.specs.Readers.{run_of}
-use Rattle.file_tests.proofs.tests.reading.other_step.Given as goal
+use Rattle.run_merge.specs.Merging.{runs_of}
+use Rattle.file_tests.proofs.tests.merging.other_of.Given as goal
 
--- the reader's run stays
+-- the merge's runs stay
 abbrev pub invariant-loop-word : goal.invariant-loop-word
 invariant-loop-word g l =
     (goal.iterator-loop-word g).can_next l.word-iterator ×
     (goal.iterator-loop-word g).is_finite l.word-iterator ×
-    ((run_of l.reader).disk ≡ 0)
+    (runs_of l.merge ≡ runs_of l.fn.merge)
