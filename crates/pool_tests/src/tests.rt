@@ -6,5 +6,6 @@ mod memory;
 mod pages;
 mod replay;
 mod scripts;
+mod steps;
 mod store;
 mod words;

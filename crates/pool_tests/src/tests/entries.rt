@@ -49,8 +49,8 @@ fn put_block_entry(text: &mut String, worker: u64, event: Event) -> Result<(), F
             size,
             fate,
         } => {
-            put_block(text, " evict", worker, dataset, part)?;
-            put(text, "", &[size])?;
+            let numbers = [worker, u64::from(dataset), u64::from(part), size];
+            put(text, " evict", &numbers)?;
             put(text, fate_word(fate), &[])
         }
         Event::Admit {
@@ -61,8 +61,8 @@ fn put_block_entry(text: &mut String, worker: u64, event: Event) -> Result<(), F
             borrowed,
             evictions,
         } => {
-            put_block(text, " admit", worker, dataset, part)?;
-            put(text, "", &[size])?;
+            let numbers = [worker, u64::from(dataset), u64::from(part), size];
+            put(text, " admit", &numbers)?;
             put(text, level_word(level), &[borrowed, evictions])
         }
         Event::Refused {
@@ -72,8 +72,9 @@ fn put_block_entry(text: &mut String, worker: u64, event: Event) -> Result<(), F
             borrowed,
             evictions,
         } => {
-            put_block(text, " refused", worker, dataset, part)?;
-            put(text, "", &[size, borrowed, evictions])
+            let dataset = u64::from(dataset);
+            let numbers = [worker, dataset, u64::from(part), size, borrowed, evictions];
+            put(text, " refused", &numbers)
         }
         Event::Pin {
             dataset,
@@ -89,8 +90,8 @@ fn put_block_entry(text: &mut String, worker: u64, event: Event) -> Result<(), F
             part,
             size,
         } => {
-            put_block(text, " remove", worker, dataset, part)?;
-            put(text, "", &[size])
+            let numbers = [worker, u64::from(dataset), u64::from(part), size];
+            put(text, " remove", &numbers)
         }
         _ => Err("an entry of a task".into()),
     }

@@ -46,21 +46,23 @@ pub struct Told {
 // both pools, the storage fraction in thousandths, the number of workers, and how many of them, from 0 on, have begun a task;
 // a name may follow.
 pub fn play_script(alloc: Global, sizes: &str, fails: &[u64], steps: &str) -> Result<Told, Fail> {
+    let (mut game, tasks) = game_of(alloc, sizes, fails)?;
+    let answers = game.play(alloc, tasks, steps)?;
+    let left = game.close(alloc)?;
+    Ok(Told { answers, left })
+}
+
+// A state of these sizes, and how many workers begin a task.
+fn game_of(alloc: Global, sizes: &str, fails: &[u64]) -> Result<(Game, u32), Fail> {
     let (max, rest) = cut(sizes, ' ');
     let (storage, rest) = cut(rest, ' ');
     let (workers, rest) = cut(rest, ' ');
     let (tasks, _) = cut(rest, ' ');
     let tasks = number(tasks)?;
-    let mut game = new_game(
-        alloc,
-        bytes(max)?,
-        number(storage)?,
-        number(workers)?,
-        fails,
-    )?;
-    let answers = game.play(alloc, tasks, steps)?;
-    let left = game.close(alloc)?;
-    Ok(Told { answers, left })
+    let max = bytes(max)?;
+    let storage = number(storage)?;
+    let game = new_game(alloc, max, storage, number(workers)?, fails)?;
+    Ok((game, tasks))
 }
 
 fn new_game(
@@ -222,20 +224,19 @@ impl Game {
 
     // What is left.
     fn close(self, alloc: Global) -> Result<String, Fail> {
-        let mut blocks = String::new(alloc);
-        put_blocks(
-            &mut blocks,
-            " ",
-            &blocks_after(alloc, self.state.entries())?,
-        )?;
-        let Game {
-            state,
-            workers: _,
-            region,
-        } = self;
+        let blocks = blocks_text(alloc, self.state.entries())?;
+        let Game { state, region, .. } = self;
         let (journal, disk) = state.close();
         left_text(alloc, journal.entries(), blocks.as_str(), disk, region)
     }
+}
+
+// The blocks that these entries leave in memory.
+fn blocks_text(alloc: Global, entries: &[Entry]) -> Result<String, Fail> {
+    let blocks = blocks_after(alloc, entries)?;
+    let mut text = String::new(alloc);
+    put_blocks(&mut text, " ", &blocks)?;
+    Ok(text)
 }
 
 // What is left, as lines. The storage pool began with so many bytes.
@@ -247,14 +248,12 @@ fn left_text(
     region: u64,
 ) -> Result<String, Fail> {
     let [created, left] = files(disk);
-    let mut text = String::from_str(alloc, "journal")?;
-    put_entries(&mut text, entries)?;
-    text.push_str("\nblocks")?;
-    text.push_str(blocks)?;
-    put_after(&mut text, "\nfiles ", created)?;
-    put_after(&mut text, " ", left)?;
-    put_after(&mut text, "\nstorage ", storage_pool(region, entries))?;
-    Ok(text)
+    let storage = storage_pool(region, entries);
+    let mut journal = String::new(alloc);
+    put_entries(&mut journal, entries)?;
+    Ok(format!(in alloc;
+        "journal{journal}\nblocks{blocks}\nfiles {created} {left}\nstorage {storage}"
+    )?)
 }
 
 fn put_answer(text: &mut String, answer: Answer) -> Result<(), Fail> {

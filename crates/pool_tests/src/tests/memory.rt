@@ -1,9 +1,9 @@
 // Tasks that share a pool with blocks, by scripts of what their workers call.
 use crate::tests::asks::ASKS;
 use crate::tests::faults::{FAULTS, SCRIPT};
-use crate::tests::game::play_script;
+use crate::tests::game::{Told, play_script};
 use crate::tests::scripts::{COPIES, CROWDS, EVICTIONS, LIMITS, LOANS, REMOVALS, USES, WAITS};
-use crate::tests::words::cut;
+use crate::tests::words::{counts, cut, reads};
 use pool_ledger::Setup;
 use std::alloc::Global;
 use std::process::Abort;
@@ -14,12 +14,10 @@ use std::test::*;
 fn scripts_of_many_tasks_have_their_answers(rt: HostRuntime) -> Result<(), Fail> {
     let mut count = 0u32;
     for script in ASKS.split("\n\n") {
-        let (sizes, steps) = cut(script, '\n');
-        let told = play_script(rt.alloc(), sizes, &[], steps)?;
-        assert_eq!(rt; told.answers.as_str(), steps, "{sizes}");
+        check_answers(&rt, rt.alloc(), script)?;
         count = count.wrapping_add(1);
     }
-    assert_eq!(rt; count, 34);
+    counts(&rt, count, 34);
     Ok(())
 }
 
@@ -66,20 +64,12 @@ fn many_workers_share_a_pool_with_blocks(rt: HostRuntime) -> Result<(), Fail> {
 #[test]
 fn a_disk_that_fails_once_changes_no_answer_to_a_task(rt: HostRuntime) -> Result<(), Fail> {
     check(&rt, rt.alloc(), SCRIPT)?;
-    let (sizes, script) = cut(SCRIPT, '\n');
-    let (steps, left) = cut(script, '\n');
-    let mut call = 0u64;
+    let mut call = 0u32;
     for fault in FAULTS.lines() {
-        let (missed, rest) = cut(fault, ';');
-        let (gone, files) = cut(rest, ';');
-        let told = play_script(rt.alloc(), sizes, &[call], steps)?;
-        let answers = with_misses(rt.alloc(), steps, missed)?;
-        assert_eq!(rt; told.answers.as_str(), answers.as_str(), "call {call}");
-        let left = with_faults(rt.alloc(), left, missed, gone, files)?;
-        assert_eq!(rt; told.left.as_str(), left.as_str(), "call {call}");
+        check_fault(&rt, rt.alloc(), u64::from(call), fault)?;
         call = call.wrapping_add(1);
     }
-    assert_eq!(rt; call, 24);
+    counts(&rt, call, 24);
     Ok(())
 }
 
@@ -199,8 +189,38 @@ fn check_all(rt: &impl Abort, alloc: Global, table: &str, scripts: u32) -> Resul
         check(rt, alloc, script)?;
         count = count.wrapping_add(1);
     }
-    assert_eq!(rt; count, scripts);
+    counts(rt, count, scripts);
     Ok(())
+}
+
+// Plays a script, and compares its answers.
+fn check_answers(rt: &impl Abort, alloc: Global, script: &str) -> Result<(), Fail> {
+    let (sizes, steps) = cut(script, '\n');
+    let told = play_script(alloc, sizes, &[], steps)?;
+    reads(rt, told.answers.as_str(), steps, sizes);
+    Ok(())
+}
+
+// Plays the script where this call of the disk fails, and compares its answers and what is left with those of a line.
+fn check_fault(rt: &impl Abort, alloc: Global, call: u64, fault: &str) -> Result<(), Fail> {
+    let (sizes, script) = cut(SCRIPT, '\n');
+    let (steps, _) = cut(script, '\n');
+    let wanted = with_fault(alloc, fault)?;
+    let told = play_script(alloc, sizes, &[call], steps)?;
+    reads(rt, told.answers.as_str(), wanted.answers.as_str(), fault);
+    reads(rt, told.left.as_str(), wanted.left.as_str(), fault);
+    Ok(())
+}
+
+// The script's answers and what is left with the fault of a line.
+fn with_fault(alloc: Global, fault: &str) -> Result<Told, Fail> {
+    let (_, script) = cut(SCRIPT, '\n');
+    let (steps, left) = cut(script, '\n');
+    let (missed, rest) = cut(fault, ';');
+    let (gone, files) = cut(rest, ';');
+    let answers = with_misses(alloc, steps, missed)?;
+    let left = with_faults(alloc, left, missed, gone, files)?;
+    Ok(Told { answers, left })
 }
 
 // Plays a script, and compares its answers and what is left after it. A copy that it reads has the rows of the block.
@@ -208,8 +228,8 @@ fn check(rt: &impl Abort, alloc: Global, script: &str) -> Result<(), Fail> {
     let (sizes, rest) = cut(script, '\n');
     let (steps, left) = cut(rest, '\n');
     let told = play_script(alloc, sizes, &[], steps)?;
-    assert_eq!(rt; told.left.as_str(), left, "{sizes}");
-    assert_eq!(rt; told.answers.as_str(), steps, "{sizes}");
+    reads(rt, told.left.as_str(), left, sizes);
+    reads(rt, told.answers.as_str(), steps, sizes);
     Ok(())
 }
 
@@ -219,17 +239,22 @@ fn with_misses(alloc: Global, steps: &str, missed: &str) -> Result<String, Fail>
     let mut copy = 0u32;
     for word in steps.split_whitespace() {
         let (step, answer) = cut(word, '=');
-        let is_missed = answer == "copy" && has(missed, copy);
-        if answer == "copy" {
-            copy = copy.wrapping_add(1);
+        let is_copy = answer == "copy";
+        if is_copy && has(missed, copy) {
+            put_word(&mut answers, step, "=miss")?;
+        } else {
+            put_word(&mut answers, word, "")?;
         }
-        if !answers.is_empty() {
-            answers.push(' ')?;
-        }
-        answers.push_str(if is_missed { step } else { word })?;
-        answers.push_str(if is_missed { "=miss" } else { "" })?;
+        copy = copy.wrapping_add(u32::from(is_copy));
     }
     Ok(answers)
+}
+
+// Adds a word with this end, behind a space where a word is there.
+fn put_word(text: &mut String, word: &str, end: &str) -> Result<(), Fail> {
+    text.push_str(if text.is_empty() { "" } else { " " })?;
+    text.push_str(word)?;
+    Ok(text.push_str(end)?)
 }
 
 // What is left where these copies aren't read and these evictions leave none, both counted from 0, with these files.
@@ -243,12 +268,9 @@ fn with_faults(
     let (journal, rest) = cut(left, '\n');
     let (blocks, rest) = cut(rest, '\n');
     let (_, storage) = cut(rest, '\n');
-    let mut text = with_gone(alloc, journal, missed, gone)?;
-    for line in [blocks, files.trim_start(), storage] {
-        text.push('\n')?;
-        text.push_str(line)?;
-    }
-    Ok(text)
+    let journal = with_gone(alloc, journal, missed, gone)?;
+    let files = files.trim_start();
+    Ok(format!(in alloc; "{journal}\n{blocks}\n{files}\n{storage}")?)
 }
 
 // The journal where these copies aren't read, and these evictions leave none.
@@ -257,24 +279,28 @@ fn with_gone(alloc: Global, journal: &str, missed: &str, gone: &str) -> Result<S
     let mut copy = 0u32;
     let mut eviction = 0u32;
     for word in journal.split_whitespace() {
-        let (kind, _) = cut(word, ',');
-        let (front, last) = word.rsplit_once(',').unwrap_or((word, ""));
-        let is_copy = kind == "pin" && last == "copy";
-        let is_missed = is_copy && has(missed, copy);
-        let is_gone = kind == "evict" && has(gone, eviction);
-        if is_copy {
-            copy = copy.wrapping_add(1);
-        }
-        if kind == "evict" {
+        if word.starts_with("evict,") {
+            put_evicted(&mut text, word, has(gone, eviction))?;
             eviction = eviction.wrapping_add(1);
-        }
-        if !is_missed {
-            text.push_str(if text.is_empty() { "" } else { " " })?;
-            text.push_str(if is_gone { front } else { word })?;
-            text.push_str(if is_gone { ",gone" } else { "" })?;
+        } else if word.starts_with("pin,") && word.ends_with(",copy") {
+            if !has(missed, copy) {
+                put_word(&mut text, word, "")?;
+            }
+            copy = copy.wrapping_add(1);
+        } else {
+            put_word(&mut text, word, "")?;
         }
     }
     Ok(text)
+}
+
+// Adds an eviction, which may leave no copy.
+fn put_evicted(text: &mut String, word: &str, is_gone: bool) -> Result<(), Fail> {
+    if !is_gone {
+        return put_word(text, word, "");
+    }
+    let (front, _) = word.rsplit_once(',').unwrap_or((word, ""));
+    put_word(text, front, ",gone")
 }
 
 // Whether the number is one of the list's words.

@@ -5,18 +5,15 @@
 // memory, tell the block: its name, size, level, number of rows, and field. `pins:D.P=N` and `room=N` tell numbers,
 // `reserve:N=A` whether there is memory, and `list=A` the blocks, the least recently used first, each behind a `/`. Last stand how many files
 // were made, and what bytes the first three have.
-use crate::tests::pages::{page_of, put_blocks};
-use crate::tests::words::{bytes, cut, number, put_after};
-use block_store::{Block, Store};
+use crate::tests::steps::{block_of, play, put, unpin};
+use crate::tests::words::{counts, cut, put_after, reads};
+use block_store::Store;
 use eviction::Candidate;
-use pool_ledger::{Fate, Level};
-use row_page::Page;
 use spill_disk::{Disk, DiskError, FolderDisk, MemoryDisk};
 use std::alloc::Global;
 use std::fs;
 use std::process::Abort;
 use std::string::String;
-use std::sync::Arc;
 use std::test::*;
 
 // Three blocks in memory: two of level disk in dataset 1, and one of level memory in dataset 2. Their sizes are 64 bytes,
@@ -37,14 +34,20 @@ fn blocks_stand_in_use_order_with_their_pins(rt: HostRuntime) -> Result<(), Fail
 
 #[test]
 fn a_thousand_blocks_stand_in_the_order_of_their_pins(rt: HostRuntime) -> Result<(), Fail> {
-    let alloc = rt.alloc();
+    let [put, used] = ordered(rt.alloc())?;
+    counts(&rt, put, 1000);
+    counts(&rt, used, 1000);
+    Ok(())
+}
+
+// How many of a thousand blocks stand in the order in which they were put, and then in that of their pins.
+fn ordered(alloc: Global) -> Result<[u32; 2], Fail> {
     let mut store = Store::new(alloc, MemoryDisk::new(alloc, Vec::new(alloc)));
     put_parts(&mut store, alloc, 1000)?;
-    assert_eq!(rt; ordered_by(store.list(), 1, 1000), 1000);
+    let put = ordered_by(store.list(), 1, 1000);
     // By sevens: 7, 14, 21 and so on, past 1,000 from the front again, and at last 0.
     use_parts(&mut store, 7, 1000)?;
-    assert_eq!(rt; ordered_by(store.list(), 7, 1000), 1000);
-    Ok(())
+    Ok([put, ordered_by(store.list(), 7, 1000)])
 }
 
 #[test]
@@ -82,11 +85,10 @@ none: evict:1.0=disk has:1.0=yes copy:1.0=1.0,105,disk,1,first files=1:13,0,0
 2: evict:1.0=disk has:1.0=yes copy:1.0=none files=1:13,0,0";
     let mut count = 0u32;
     for row in table.lines() {
-        let (fails, script) = cut(row, ':');
-        check(&rt, rt.alloc(), fails, THREE, script.trim_start())?;
+        check_row(&rt, rt.alloc(), row)?;
         count = count.wrapping_add(1);
     }
-    assert_eq!(rt; count, 5);
+    counts(&rt, count, 5);
     Ok(())
 }
 
@@ -106,7 +108,7 @@ fn a_store_over_a_folder_writes_and_reads(rt: HostRuntime) -> Result<(), Fail> {
     if told.contains("=gone") || told.contains("=none") {
         return Err(DiskError::Failed.into());
     }
-    assert_eq!(rt; told.as_str(), script);
+    reads(&rt, told.as_str(), script, "");
     fs::remove_dir(&rt, "copies")?;
     Ok(())
 }
@@ -122,22 +124,28 @@ fn part_at(step: u32, by: u32, count: u32) -> u32 {
 // Puts so many blocks of dataset 1 into memory.
 fn put_parts<K: Disk>(store: &mut Store<K>, alloc: Global, count: u32) -> Result<(), Fail> {
     for step in 0..count {
-        put(
-            store,
-            block_of(alloc, 1, part_at(step, 1, count), "memory:row")?,
-        )?;
+        put_part(store, alloc, part_at(step, 1, count))?;
     }
     Ok(())
+}
+
+fn put_part<K: Disk>(store: &mut Store<K>, alloc: Global, part: u32) -> Result<(), Fail> {
+    put(store, block_of(alloc, 1, part, "memory:row")?)
 }
 
 // Pins and unpins each, by so many.
 fn use_parts<K: Disk>(store: &mut Store<K>, by: u32, count: u32) -> Result<(), Fail> {
     for step in 0..count {
-        let part = part_at(step, by, count);
-        store.pin(1, part)?.ok_or("it isn't in memory")?;
-        unpin(store, 1, part)?;
+        use_part(store, part_at(step, by, count))?;
     }
     Ok(())
+}
+
+fn use_part<K: Disk>(store: &mut Store<K>, part: u32) -> Result<(), Fail> {
+    if store.pin(1, part)?.is_none() {
+        return Err("it isn't in memory".into());
+    }
+    unpin(store, 1, part)
 }
 
 // How many of the blocks stand where they do if each was used by so many, and without pins.
@@ -164,6 +172,12 @@ fn play_in_folder(rt: &HostRuntime, steps: &str) -> Result<String, Fail> {
     Ok(text)
 }
 
+// Checks a row: which calls fail, and the script.
+fn check_row(rt: &impl Abort, alloc: Global, row: &str) -> Result<(), Fail> {
+    let (fails, script) = cut(row, ':');
+    check(rt, alloc, fails, THREE, script.trim_start())
+}
+
 // Plays a script behind these steps, over a disk that fails at these calls, and compares what it is answered.
 fn check(
     rt: &impl Abort,
@@ -173,7 +187,7 @@ fn check(
     script: &str,
 ) -> Result<(), Fail> {
     let told = play_in_memory(alloc, fails, before, script)?;
-    assert_eq!(rt; told.as_str(), script, "fails {fails}");
+    reads(rt, told.as_str(), script, fails);
     Ok(())
 }
 
@@ -190,11 +204,16 @@ fn play_in_memory(alloc: Global, fails: &str, before: &str, script: &str) -> Res
 fn numbers(alloc: Global, words: &str) -> Result<Vec<u64>, Fail> {
     let mut numbers = Vec::new(alloc);
     for word in words.split_whitespace() {
-        if let Ok(number) = word.parse::<u64>() {
-            numbers.push(number)?;
-        }
+        put_number(&mut numbers, word)?;
     }
     Ok(numbers)
+}
+
+fn put_number(numbers: &mut Vec<u64>, word: &str) -> Result<(), Fail> {
+    if let Ok(number) = word.parse::<u64>() {
+        numbers.push(number)?;
+    }
+    Ok(())
 }
 
 // What these steps are answered by a store over this disk behind some others, and the disk.
@@ -214,203 +233,14 @@ fn play_on<K: Disk>(
 fn put_files(text: &mut String, disk: MemoryDisk) -> Result<(), Fail> {
     let mut disk = disk;
     put_after(text, " files=", disk.created())?;
-    for file in 0..3 {
-        let mut buf = [0; 32];
-        let left = disk.read_at(file, 0, &mut buf)?;
-        put_after(text, if file == 0 { ":" } else { "," }, left as u64)?;
-    }
-    Ok(())
+    put_left(text, ":", &mut disk, 0)?;
+    put_left(text, ",", &mut disk, 1)?;
+    put_left(text, ",", &mut disk, 2)
 }
 
-// Plays the steps, and writes them down with their answers.
-fn play<K: Disk>(store: &mut Store<K>, alloc: Global, steps: &str) -> Result<String, Fail> {
-    let mut text = String::new(alloc);
-    for word in steps.split_whitespace() {
-        let (step, _) = cut(word, '=');
-        if !text.is_empty() {
-            text.push(' ')?;
-        }
-        text.push_str(step)?;
-        play_step(store, alloc, step, &mut text)?;
-    }
-    Ok(text)
-}
-
-fn play_step<K: Disk>(
-    store: &mut Store<K>,
-    alloc: Global,
-    step: &str,
-    text: &mut String,
-) -> Result<(), Fail> {
-    let (kind, rest) = cut(step, ':');
-    match kind {
-        "list" => {
-            text.push('=')?;
-            put_blocks(text, "/", store.list())
-        }
-        "room" => put_after(text, "=", store.room()),
-        "reserve" => {
-            let is_there = store.reserve(bytes(rest)?).is_ok();
-            Ok(text.push_str(if is_there { "=ok" } else { "=err" })?)
-        }
-        "forget" => {
-            store.forget(number(rest)?);
-            Ok(())
-        }
-        _ => play_block(store, alloc, kind, rest, text),
-    }
-}
-
-// A step of one block.
-fn play_block<K: Disk>(
-    store: &mut Store<K>,
-    alloc: Global,
-    kind: &str,
-    rest: &str,
-    text: &mut String,
-) -> Result<(), Fail> {
-    let (name, rest) = cut(rest, ':');
-    let (dataset, part) = cut(name, '.');
-    let dataset = number(dataset)?;
-    let part = number(part)?;
-    match kind {
-        "put" => put(store, block_of(alloc, dataset, part, rest)?),
-        "evict" => Ok(text.push_str(evict(store, dataset, part)?)?),
-        "pin" => put_block(text, store.pin(dataset, part)?),
-        "unpin" => unpin(store, dataset, part),
-        "remove" => remove(store, dataset, part),
-        "has" => {
-            let has_copy = store.has_copy(dataset, part);
-            Ok(text.push_str(if has_copy { "=yes" } else { "=no" })?)
-        }
-        "copy" => put_block(text, store.copy_of(dataset, part)?),
-        "back" => put_back(store, dataset, part, text),
-        "pins" => put_after(
-            text,
-            "=",
-            store.pins(dataset, part).ok_or("it isn't in memory")?,
-        ),
-        _ => Err("an unknown step".into()),
-    }
-}
-
-fn put<K: Disk>(store: &mut Store<K>, block: Arc<Block, Global>) -> Result<(), Fail> {
-    store.reserve(1)?;
-    let None = store.pins(block.dataset, block.part) else {
-        return Err("it is in memory".into());
-    };
-    store.admit(block);
-    Ok(())
-}
-
-// Puts a block into memory that has a copy.
-fn put_back<K: Disk>(
-    store: &mut Store<K>,
-    dataset: u32,
-    part: u32,
-    text: &mut String,
-) -> Result<(), Fail> {
-    let copy = store.copy_of(dataset, part)?.ok_or("it has no copy")?;
-    tell(text, &copy)?;
-    put(store, copy)
-}
-
-fn evict<K: Disk>(store: &mut Store<K>, dataset: u32, part: u32) -> Result<&'static str, Fail> {
-    let Some(0) = store.pins(dataset, part) else {
-        return Err("it isn't in memory, or pinned".into());
-    };
-    Ok(match store.evict_one(dataset, part) {
-        Fate::Disk => "=disk",
-        Fate::Gone => "=gone",
-        Fate::NoMemory => "=nomem",
-    })
-}
-
-fn unpin<K: Disk>(store: &mut Store<K>, dataset: u32, part: u32) -> Result<(), Fail> {
-    let Some(1..) = store.pins(dataset, part) else {
-        return Err("it has no pin".into());
-    };
-    store.unpin(dataset, part);
-    Ok(())
-}
-
-fn remove<K: Disk>(store: &mut Store<K>, dataset: u32, part: u32) -> Result<(), Fail> {
-    let Some(0) = store.pins(dataset, part) else {
-        return Err("it isn't in memory, or pinned".into());
-    };
-    store.remove(dataset, part);
-    Ok(())
-}
-
-// A block of one row, of these words: a level and the row's field.
-fn block_of(
-    alloc: Global,
-    dataset: u32,
-    part: u32,
-    words: &str,
-) -> Result<Arc<Block, Global>, Fail> {
-    let (level, field) = cut(words, ':');
-    let level = if level == "disk" {
-        Level::Disk
-    } else {
-        Level::Memory
-    };
-    let page = page_of(alloc, field.as_bytes())?;
-    block(alloc, dataset, part, level, page)
-}
-
-fn block(
-    alloc: Global,
-    dataset: u32,
-    part: u32,
-    level: Level,
-    page: Page,
-) -> Result<Arc<Block, Global>, Fail> {
-    let block = Block {
-        dataset,
-        part,
-        level,
-        page,
-    };
-    Ok(Arc::new(alloc, block)?)
-}
-
-fn put_block(text: &mut String, block: Option<Arc<Block, Global>>) -> Result<(), Fail> {
-    match block {
-        Some(block) => tell(text, &block),
-        None => Ok(text.push_str("=none")?),
-    }
-}
-
-// Tells a block's name, size, level, number of rows, and the field of its first row.
-fn tell(text: &mut String, block: &Block) -> Result<(), Fail> {
-    put_after(text, "=", u64::from(block.dataset))?;
-    put_after(text, ".", u64::from(block.part))?;
-    put_after(text, ",", block.size())?;
-    let level = match block.level {
-        Level::Disk => ",disk,",
-        Level::Memory => ",memory,",
-    };
-    put_after(text, level, block.page.rows() as u64)?;
-    put_field(text, &block.page)
-}
-
-fn put_field(text: &mut String, page: &Page) -> Result<(), Fail> {
-    text.push(',')?;
-    for byte in field(page)? {
-        text.push(char::from(*byte))?;
-    }
-    Ok(())
-}
-
-// The field of a page of one row.
-fn field(page: &Page) -> Result<&[u8], Fail> {
-    if page.rows() == 0 {
-        return Err("no row".into());
-    }
-    let row = page.row(0);
-    if row.count() == 0 {
-        return Err("no field".into());
-    }
-    Ok(row.field(0))
+// What bytes a file has, behind this mark.
+fn put_left(text: &mut String, mark: &str, disk: &mut MemoryDisk, file: u64) -> Result<(), Fail> {
+    let mut buf = [0; 32];
+    let left = disk.read_at(file, 0, &mut buf)?;
+    put_after(text, mark, left as u64)
 }

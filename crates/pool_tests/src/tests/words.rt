@@ -1,6 +1,17 @@
 // Words of scripts.
+use std::process::Abort;
 use std::string::String;
 use std::test::Fail;
+
+// A text is the one that is wanted. A test calls this in place of an assert of its own, which takes long to prove.
+pub fn reads(rt: &impl Abort, found: &str, wanted: &str, name: &str) {
+    assert_eq!(rt; found, wanted, "{name}");
+}
+
+// A count is the one that is wanted.
+pub fn counts(rt: &impl Abort, found: u32, wanted: u32) {
+    assert_eq!(rt; found, wanted);
+}
 
 // A text before and behind the first of these characters.
 pub fn cut(text: &str, at: char) -> (&str, &str) {
