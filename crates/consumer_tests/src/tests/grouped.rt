@@ -5,9 +5,10 @@ use crate::tests::task::Task;
 use aggregate::{Agg, AggList};
 use consumer_trait::{Consumer, Fed, Turn};
 use group_map::GroupMap;
-use row_page::Page;
+use row_page::{Page, RowView};
 use std::alloc::{AllocError, Global};
 use std::collections::BTreeMap;
+use std::process::Abort;
 use std::test::Fail;
 
 /// What a group comes to: how many rows it has, and their sum.
@@ -31,6 +32,23 @@ fn add(
     }
 }
 
+/// Adds a row to `totals`. Its key stands above `last`, which then is that key.
+fn take_row(
+    alloc: Global,
+    aggs: &AggList,
+    row: RowView,
+    last: &mut Vec<u8>,
+    totals: &mut Totals,
+) -> Result<(), Fail> {
+    let (key, count, sum) = group_in(aggs, row).ok_or("a key, a count and a sum")?;
+    if last.as_slice() >= key {
+        return Err("the keys ascend, and each stands once".into());
+    }
+    last.clear();
+    last.extend_from_slice(key)?;
+    Ok(add(alloc, totals, key, count, sum)?)
+}
+
 /// Adds the rows on a page to `totals`. Their keys ascend, and stand above `last`, which is then
 /// the last of them.
 fn take_page(
@@ -41,13 +59,7 @@ fn take_page(
 ) -> Result<(), Fail> {
     let aggs = AggList::of(alloc, &[Agg::Count, Agg::Sum])?;
     for i in 0..page.rows() {
-        let (key, count, sum) = group_in(&aggs, page.row(i)).ok_or("a key, a count and a sum")?;
-        if last.as_slice() >= key {
-            return Err("the keys ascend, and each stands once".into());
-        }
-        last.clear();
-        last.extend_from_slice(key)?;
-        add(alloc, totals, key, count, sum)?;
+        take_row(alloc, &aggs, page.row(i), last, totals)?;
     }
     Ok(())
 }
@@ -96,16 +108,24 @@ fn feed_or_spill<C: Consumer>(
     key: &[u8],
     number: i64,
 ) -> Result<bool, Fail> {
-    let mut value = Vec::new(alloc);
-    if feed_sum(task, &mut value, key, number)? == Fed::Taken {
+    if is_taken(alloc, task, key, number)? {
         return Ok(false);
     }
     spill(alloc, task, grant / 2, spilled)?;
     task.grant(grant)?;
-    if feed_sum(task, &mut value, key, number)? != Fed::Taken {
+    if !is_taken(alloc, task, key, number)? {
         return Err("there is room once it was granted".into());
     }
     Ok(true)
+}
+
+fn is_taken<C: Consumer>(
+    alloc: Global,
+    task: &mut Task<C>,
+    key: &[u8],
+    number: i64,
+) -> Result<bool, Fail> {
+    Ok(feed_sum(task, &mut Vec::new(alloc), key, number)? == Fed::Taken)
 }
 
 /// Makes it the key of this number: 8 bytes, or 9 to 40 of which 16 keys have the first 8, and four of these the length.
@@ -120,60 +140,83 @@ fn name(key: &mut Vec<u8>, number: u64, long: bool) -> Result<(), AllocError> {
     key.extend_from_slice(&[(number % 16) as u8; 32][..more as usize])
 }
 
-/// Feeds rows with pseudo-random keys, at most `distinct`, to a consumer that is granted the next of
-/// `grants` whenever it spilled, and adds them to `plain` as well. What was spilled is added to
-/// `spilled`, and the answer is how often.
+/// What was fed and what was spilled, and the last key that was fed.
+#[derive(Drop)]
+struct Beside {
+    plain: Totals,
+    spilled: Totals,
+    key: Vec<u8>,
+}
+
+/// Feeds the row of a draw, where a map has spilled so often. Whether it spilled for it.
+fn feed_drawn<C: Consumer>(
+    alloc: Global,
+    task: &mut Task<C>,
+    row: &[u64; 7],
+    spills: usize,
+    draw: u64,
+    beside: &mut Beside,
+) -> Result<bool, Fail> {
+    name(
+        &mut beside.key,
+        draw / 4294967296 % row[0].max(1),
+        row[1] == 1,
+    )?;
+    let number = (draw / 65536 % 1000) as i64 - 500;
+    add(alloc, &mut beside.plain, &beside.key, 1, number)?;
+    let grant = row[2 + spills % 4];
+    feed_or_spill(alloc, task, &mut beside.spilled, grant, &beside.key, number)
+}
+
+/// Feeds rows with pseudo-random keys to a consumer, as a row says, and adds them to `plain` as well. What
+/// was spilled is added to `spilled`, and the answer is how often.
 fn feed_beside<C: Consumer>(
     alloc: Global,
-    mut task: Task<C>,
-    distinct: u64,
-    long: bool,
-    grants: [u64; 4],
-    plain: &mut Totals,
-    spilled: &mut Totals,
+    task: &mut Task<C>,
+    row: &[u64; 7],
+    beside: &mut Beside,
 ) -> Result<usize, Fail> {
     let mut draw = 1u64;
     let mut spills = 0usize;
-    let mut key = Vec::new(alloc);
     for _number in 0..100000 {
         draw = draw
             .wrapping_mul(6364136223846793005)
             .wrapping_add(1442695040888963407);
-        name(&mut key, draw / 4294967296 % distinct.max(1), long)?;
-        let number = (draw / 65536 % 1000) as i64 - 500;
-        add(alloc, plain, &key, 1, number)?;
-        let grant = grants[spills % 4];
-        if feed_or_spill(alloc, &mut task, spilled, grant, &key, number)? {
+        if feed_drawn(alloc, task, row, spills, draw, beside)? {
             spills = spills.saturating_add(1);
         }
     }
-    spill_all(alloc, &mut task, spilled)?;
+    spill_all(alloc, task, &mut beside.spilled)?;
     Ok(spills)
+}
+
+fn feed_map(alloc: Global, row: &[u64; 7], beside: &mut Beside) -> Result<usize, Fail> {
+    let kind = groups_of(alloc, &[Agg::Count, Agg::Sum])?;
+    let mut task = Task::begun(alloc, GroupMap::new(alloc), kind)?;
+    feed_beside(alloc, &mut task, row, beside)
+}
+
+/// Whether what a map spilled comes to what it was fed, and it spilled often enough.
+fn comes_back(alloc: Global, row: &[u64; 7]) -> Result<bool, Fail> {
+    let mut beside = Beside {
+        plain: BTreeMap::new(alloc),
+        spilled: BTreeMap::new(alloc),
+        key: Vec::new(alloc),
+    };
+    let spills = feed_map(alloc, row, &mut beside)?;
+    Ok(beside.plain == beside.spilled && spills as u64 >= row[6])
+}
+
+/// A map that is fed as this row says comes to what an ordered map has. The row is how many keys there are at most, 1
+/// where they are long, the four grants that come in turn whenever the map spilled, and how many spills there are at least.
+fn check(rt: &impl Abort, alloc: Global, row: &[u64; 7]) -> Result<(), Fail> {
+    assert!(rt; comes_back(alloc, row)?, "{} keys", row[0]);
+    Ok(())
 }
 
 #[test]
 fn spills_come_to_what_an_ordered_map_has(rt: HostRuntime) -> Result<(), Fail> {
-    let alloc = rt.alloc();
-    for (distinct, long, grants, least) in [
-        (100, false, [80, 200, 1000, 5000], 4),
-        (60000, false, [100, 5000, 80000, 1048576], 12),
-        (5000, true, [110, 5000, 80000, 1048576], 4),
-    ] {
-        let mut plain = BTreeMap::new(alloc);
-        let mut spilled = BTreeMap::new(alloc);
-        let kind = groups_of(alloc, &[Agg::Count, Agg::Sum])?;
-        let task = Task::begun(alloc, GroupMap::new(alloc), kind)?;
-        let spills = feed_beside(
-            alloc,
-            task,
-            distinct,
-            long,
-            grants,
-            &mut plain,
-            &mut spilled,
-        )?;
-        assert!(rt; plain == spilled, "{distinct} keys");
-        assert!(rt; spills >= least, "{distinct} keys: {spills} spills");
-    }
-    Ok(())
+    check(&rt, rt.alloc(), &[100, 0, 80, 200, 1000, 5000, 4])?;
+    check(&rt, rt.alloc(), &[60000, 0, 100, 5000, 80000, 1048576, 12])?;
+    check(&rt, rt.alloc(), &[5000, 1, 110, 5000, 80000, 1048576, 4])
 }

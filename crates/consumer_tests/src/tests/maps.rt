@@ -1,17 +1,24 @@
 //! Maps that are fed and spilled by hand.
 
-use crate::tests::steps::{Step, count_right, groups_of};
+use crate::tests::steps::{Step, are_right, count_right, groups_of};
 use crate::tests::task::Task;
 use aggregate::Agg;
 use consumer_trait::Fed;
 use group_map::GroupMap;
 use std::alloc::Global;
+use std::process::Abort;
 use std::test::Fail;
 
 /// How many of these steps of a map that was begun with these aggregates come as they have to.
 fn count_steps(alloc: Global, aggs: &[Agg], steps: &[Step]) -> Result<usize, Fail> {
-    let task = Task::begun(alloc, GroupMap::new(alloc), groups_of(alloc, aggs)?)?;
-    count_right(alloc, task, steps)
+    let kind = groups_of(alloc, aggs)?;
+    let mut task = Task::begun(alloc, GroupMap::new(alloc), kind)?;
+    count_right(alloc, &mut task, steps)
+}
+
+// All of these steps come as they have to.
+fn check(rt: &impl Abort, alloc: Global, aggs: &[Agg], steps: &[Step]) -> Result<(), Fail> {
+    are_right(rt, count_steps(alloc, aggs, steps), steps.len())
 }
 
 #[test]
@@ -34,8 +41,7 @@ fn a_known_key_costs_nothing(rt: HostRuntime) -> Result<(), Fail> {
         Step::Count(b'a', 1, Fed::Taken),
         Step::Used(200),
     ];
-    assert_eq!(rt; count_steps(rt.alloc(), &[Agg::Count], steps)?, steps.len());
-    Ok(())
+    check(&rt, rt.alloc(), &[Agg::Count], steps)
 }
 
 #[test]
@@ -76,8 +82,7 @@ fn a_need_says_what_is_missing_and_what_is_welcome(rt: HostRuntime) -> Result<()
             },
         ),
     ];
-    assert_eq!(rt; count_steps(rt.alloc(), &[Agg::Count], steps)?, steps.len());
-    Ok(())
+    check(&rt, rt.alloc(), &[Agg::Count], steps)
 }
 
 #[test]
@@ -97,11 +102,7 @@ fn rows_of_one_key_are_counted_and_summed(rt: HostRuntime) -> Result<(), Fail> {
         Step::Done,
         Step::Holds(false),
     ];
-    assert_eq!(rt;
-        count_steps(rt.alloc(), &[Agg::Count, Agg::Sum], steps)?,
-        steps.len()
-    );
-    Ok(())
+    check(&rt, rt.alloc(), &[Agg::Count, Agg::Sum], steps)
 }
 
 #[test]
@@ -122,8 +123,7 @@ fn a_page_takes_as_many_rows_as_it_has_room_for(rt: HostRuntime) -> Result<(), F
         // There is nothing.
         Step::Done,
     ];
-    assert_eq!(rt; count_steps(rt.alloc(), &[Agg::Count], steps)?, steps.len());
-    Ok(())
+    check(&rt, rt.alloc(), &[Agg::Count], steps)
 }
 
 #[test]
@@ -149,33 +149,36 @@ fn a_reset_amid_a_spill_leaves_nothing(rt: HostRuntime) -> Result<(), Fail> {
         Step::Used(0),
         Step::Done,
     ];
-    assert_eq!(rt; count_steps(rt.alloc(), &[Agg::Count], steps)?, steps.len());
-    Ok(())
+    check(&rt, rt.alloc(), &[Agg::Count], steps)
+}
+
+// All steps come as they have to, where a spill of 300 keys is told so many bytes, and then writes so many keys, gives so
+// many bytes back and uses so many.
+fn check_told(
+    rt: &impl Abort,
+    alloc: Global,
+    told: u64,
+    count: u32,
+    freed: u64,
+    used: u64,
+) -> Result<(), Fail> {
+    let steps = [
+        // 300 keys of four bytes cost 52 each.
+        Step::Grant(15600),
+        Step::Keys(300),
+        Step::Ask(2400),
+        Step::Grant(told),
+        Step::Last(count, 300),
+        Step::Freed(freed),
+        Step::Done,
+        Step::Used(used),
+    ];
+    check(rt, alloc, &[Agg::Count], &steps)
 }
 
 #[test]
 fn a_spill_writes_as_many_of_the_last_keys_as_it_can_order(rt: HostRuntime) -> Result<(), Fail> {
-    for (told, count, freed, used) in [
-        (0, 128, 6656, 8944),
-        (800, 228, 12656, 3744),
-        (2400, 300, 18000, 0),
-    ] {
-        let steps = [
-            // 300 keys of four bytes cost 52 each.
-            Step::Grant(15600),
-            Step::Keys(300),
-            Step::Ask(2400),
-            Step::Grant(told),
-            Step::Last(count, 300),
-            Step::Freed(freed),
-            Step::Done,
-            Step::Used(used),
-        ];
-        assert_eq!(rt;
-            count_steps(rt.alloc(), &[Agg::Count], &steps)?,
-            steps.len(),
-            "told {told} bytes"
-        );
-    }
-    Ok(())
+    check_told(&rt, rt.alloc(), 0, 128, 6656, 8944)?;
+    check_told(&rt, rt.alloc(), 800, 228, 12656, 3744)?;
+    check_told(&rt, rt.alloc(), 2400, 300, 18000, 0)
 }

@@ -1,15 +1,21 @@
 //! Sorters that are fed and spilled by hand.
 
-use crate::tests::steps::{Step, count_right};
+use crate::tests::steps::{Step, are_right, count_right};
 use crate::tests::task::Task;
 use consumer_trait::Fed;
 use row_sorter::RowSorter;
 use std::alloc::Global;
+use std::process::Abort;
 use std::test::Fail;
 
 /// How many of these steps of a sorter come as they have to.
 fn count_steps(alloc: Global, steps: &[Step]) -> Result<usize, Fail> {
-    count_right(alloc, Task::of(alloc, RowSorter::new(alloc)), steps)
+    count_right(alloc, &mut Task::of(alloc, RowSorter::new(alloc)), steps)
+}
+
+// All of these steps come as they have to.
+fn check(rt: &impl Abort, alloc: Global, steps: &[Step]) -> Result<(), Fail> {
+    are_right(rt, count_steps(alloc, steps), steps.len())
 }
 
 #[test]
@@ -30,8 +36,7 @@ fn two_keys_come_back_in_order(rt: HostRuntime) -> Result<(), Fail> {
         Step::Used(0),
         Step::Done,
     ];
-    assert_eq!(rt; count_steps(rt.alloc(), steps)?, steps.len());
-    Ok(())
+    check(&rt, rt.alloc(), steps)
 }
 
 #[test]
@@ -64,8 +69,7 @@ fn an_entry_without_room_changes_nothing(rt: HostRuntime) -> Result<(), Fail> {
         Step::Used(0),
         Step::Done,
     ];
-    assert_eq!(rt; count_steps(rt.alloc(), steps)?, steps.len());
-    Ok(())
+    check(&rt, rt.alloc(), steps)
 }
 
 #[test]
@@ -96,13 +100,11 @@ fn a_reset_forgets_a_spill(rt: HostRuntime) -> Result<(), Fail> {
         Step::Used(0),
         Step::Done,
     ];
-    assert_eq!(rt; count_steps(rt.alloc(), steps)?, steps.len());
-    Ok(())
+    check(&rt, rt.alloc(), steps)
 }
 
 #[test]
 fn a_sorter_is_for_orders(rt: HostRuntime) -> Result<(), Fail> {
     let steps: &[Step] = &[Step::ServesOrders(true), Step::Least(256)];
-    assert_eq!(rt; count_steps(rt.alloc(), steps)?, steps.len());
-    Ok(())
+    check(&rt, rt.alloc(), steps)
 }

@@ -5,6 +5,7 @@ use aggregate::{Agg, AggList, Kind, finish, put_partial};
 use consumer_trait::{Consumer, Fed, Turn};
 use row_page::{Page, RowView};
 use std::alloc::{AllocError, Global};
+use std::process::Abort;
 use std::test::Fail;
 
 /// What a task does, and what has to come of it.
@@ -151,62 +152,143 @@ pub fn groups_of(alloc: Global, aggs: &[Agg]) -> Result<Kind, Fail> {
     Ok(Kind::Group(AggList::of(alloc, aggs)?))
 }
 
+/// Begins anew with this kind. Whether nothing is left.
+fn begins<C: Consumer>(task: &mut Task<C>, kind: Kind) -> Result<bool, Fail> {
+    task.begin(kind)?;
+    Ok(task.consumer.is_empty() && task.consumer.used() == 0)
+}
+
+fn begins_groups<C: Consumer>(
+    alloc: Global,
+    task: &mut Task<C>,
+    aggs: &[Agg],
+) -> Result<bool, Fail> {
+    begins(task, groups_of(alloc, aggs)?)
+}
+
+fn is_granted<C: Consumer>(task: &mut Task<C>, bytes: u64) -> Result<bool, Fail> {
+    task.grant(bytes)?;
+    Ok(true)
+}
+
+fn feeds<C: Consumer>(
+    alloc: Global,
+    task: &mut Task<C>,
+    key: &[u8],
+    length: usize,
+    answer: Fed,
+) -> Result<bool, Fail> {
+    Ok(task.feed(key, &vec![in alloc; 7; length]?)? == answer)
+}
+
+fn counts<C: Consumer>(
+    alloc: Global,
+    task: &mut Task<C>,
+    byte: u8,
+    length: usize,
+    answer: Fed,
+) -> Result<bool, Fail> {
+    let one = [0, 0, 0, 0, 0, 0, 0, 0, 0, 0, 0, 0, 0, 0, 0, 1];
+    Ok(task.feed(&vec![in alloc; byte; length]?, &one)? == answer)
+}
+
+fn sums<C: Consumer>(
+    alloc: Global,
+    task: &mut Task<C>,
+    key: &[u8],
+    number: i64,
+    answer: Fed,
+) -> Result<bool, Fail> {
+    feed_sum(task, &mut Vec::new(alloc), key, number).map(|fed| fed == answer)
+}
+
+/// Whether a turn is this one.
+fn turns<C: Consumer>(task: &mut Task<C>, turn: Turn) -> Result<bool, Fail> {
+    task.turn().map(|it| it == turn)
+}
+
+fn writes_last<C: Consumer>(
+    alloc: Global,
+    task: &mut Task<C>,
+    count: u32,
+    of: u32,
+) -> Result<bool, Fail> {
+    if !turns(task, Turn::Write)? {
+        return Ok(false);
+    }
+    Ok(has_last(&task.page, &last_keys(alloc, count, of)?))
+}
+
+fn writes_groups<C: Consumer>(
+    alloc: Global,
+    task: &mut Task<C>,
+    groups: &[(&[u8], i64, i64)],
+) -> Result<bool, Fail> {
+    if !turns(task, Turn::Write)? {
+        return Ok(false);
+    }
+    Ok(has_groups(alloc, &task.page, groups)?)
+}
+
 /// Takes a step. Whether it came as it had to.
 fn takes<C: Consumer>(alloc: Global, task: &mut Task<C>, step: Step) -> Result<bool, Fail> {
-    Ok(match step {
-        Step::Order => {
-            task.begin(Kind::Order)?;
-            task.consumer.is_empty() && task.consumer.used() == 0
-        }
-        Step::Groups(aggs) => {
-            task.begin(groups_of(alloc, aggs)?)?;
-            task.consumer.is_empty() && task.consumer.used() == 0
-        }
-        Step::Grant(bytes) => {
-            task.grant(bytes)?;
-            true
-        }
-        Step::Feed(key, length, answer) => {
-            task.feed(key, &vec![in alloc; 7; length]?)? == answer
-        }
-        Step::Count(byte, length, answer) => {
-            let one = [0, 0, 0, 0, 0, 0, 0, 0, 0, 0, 0, 0, 0, 0, 0, 1];
-            task.feed(&vec![in alloc; byte; length]?, &one)? == answer
-        }
-        Step::Keys(count) => takes_keys(task, count)?,
-        Step::Last(count, of) => {
-            task.turn()? == Turn::Write && has_last(&task.page, &last_keys(alloc, count, of)?)
-        }
-        Step::Sum(key, number, answer) => {
-            feed_sum(task, &mut Vec::new(alloc), key, number)? == answer
-        }
+    match step {
+        Step::Order => begins(task, Kind::Order),
+        Step::Groups(aggs) => begins_groups(alloc, task, aggs),
+        Step::Grant(bytes) => is_granted(task, bytes),
+        Step::Feed(key, length, answer) => feeds(alloc, task, key, length, answer),
+        Step::Count(byte, length, answer) => counts(alloc, task, byte, length, answer),
+        Step::Keys(count) => takes_keys(task, count),
+        Step::Sum(key, number, answer) => sums(alloc, task, key, number, answer),
+        _ => comes(alloc, task, step),
+    }
+}
+
+/// Whether a turn, or what the consumer says of itself, is as this step has it.
+fn comes<C: Consumer>(alloc: Global, task: &mut Task<C>, step: Step) -> Result<bool, Fail> {
+    match step {
+        Step::Ask(bytes) => turns(task, Turn::Ask(bytes)),
+        Step::Freed(bytes) => turns(task, Turn::Freed(bytes)),
+        Step::Done => turns(task, Turn::Done),
         Step::Write(keys, length) => {
-            task.turn()? == Turn::Write && has_keys(&task.page, keys, length)
+            Ok(turns(task, Turn::Write)? && has_keys(&task.page, keys, length))
         }
-        Step::Rows(rows) => task.turn()? == Turn::Write && task.page.rows() == rows,
-        Step::Totals(groups) => {
-            task.turn()? == Turn::Write && has_groups(alloc, &task.page, groups)?
-        }
-        Step::Ask(bytes) => task.turn()? == Turn::Ask(bytes),
-        Step::Freed(bytes) => task.turn()? == Turn::Freed(bytes),
-        Step::Done => task.turn()? == Turn::Done,
+        Step::Rows(rows) => Ok(turns(task, Turn::Write)? && task.page.rows() == rows),
+        Step::Last(count, of) => writes_last(alloc, task, count, of),
+        Step::Totals(groups) => writes_groups(alloc, task, groups),
+        _ => Ok(is_so(task, step)),
+    }
+}
+
+/// Whether the consumer says of itself what this step has.
+fn is_so<C: Consumer>(task: &Task<C>, step: Step) -> bool {
+    match step {
         Step::Used(bytes) => task.consumer.used() == bytes,
         Step::Least(bytes) => task.consumer.least() == bytes,
         Step::Holds(some) => task.consumer.is_empty() != some,
         Step::ServesOrders(it) => task.consumer.serves(&Kind::Order) == it,
-    })
+        _ => false,
+    }
+}
+
+/// Whether so many steps came as they had to.
+pub fn are_right(rt: &impl Abort, right: Result<usize, Fail>, steps: usize) -> Result<(), Fail> {
+    assert_eq!(rt; right?, steps, "steps that came as they had to");
+    Ok(())
 }
 
 /// How many steps came as they had to, up to the first that didn't.
 pub fn count_right<C: Consumer>(
     alloc: Global,
-    mut task: Task<C>,
+    task: &mut Task<C>,
     steps: &[Step],
 ) -> Result<usize, Fail> {
-    for (i, step) in steps.iter().enumerate() {
-        if !takes(alloc, &mut task, *step)? {
-            return Ok(i);
+    let mut right = 0usize;
+    for step in steps {
+        if !takes(alloc, task, *step)? {
+            return Ok(right);
         }
+        right = right.saturating_add(1);
     }
-    Ok(steps.len())
+    Ok(right)
 }
