@@ -17,11 +17,23 @@ fn comparison_of(sign: &str) -> Option<Comparison> {
     }
 }
 
-// The test of a word as `text:<:b` or `number:>=:-3`, over columns 0 and 1.
+// A column, a sign and a constant as `text:<:b` or `number:>=:-3`.
+fn parts_of(word: &str) -> Result<(&str, &str, &str), Fail> {
+    let Some((column, rest)) = word.split_once(':') else {
+        return Err("a test without a column".into());
+    };
+    match rest.split_once(':') {
+        Some((sign, constant)) => Ok((column, sign, constant)),
+        None => Err("a test without a sign".into()),
+    }
+}
+
+// The test of a word, over columns 0 and 1.
 fn test_of(alloc: Global, word: &str) -> Result<Filter, Fail> {
-    let (column, rest) = word.split_once(':').ok_or("a test without a column")?;
-    let (sign, constant) = rest.split_once(':').ok_or("a test without a sign")?;
-    let test = comparison_of(sign).ok_or("another sign")?;
+    let (column, sign, constant) = parts_of(word)?;
+    let Some(test) = comparison_of(sign) else {
+        return Err("another sign".into());
+    };
     if column == "number" {
         return Ok(Filter::Test {
             column: 1,
@@ -47,25 +59,42 @@ fn last_two(stack: &mut Vec<Filter>) -> Result<Listed<Filter>, Fail> {
     Ok(Listed::of(both))
 }
 
+// The last of these filters, taken off and negated.
+fn last_negated(alloc: Global, stack: &mut Vec<Filter>) -> Result<Filter, Fail> {
+    match stack.pop() {
+        Some(inner) => Ok(Filter::Not(Boxed::of(Box::new(alloc, inner)?))),
+        None => Err("nothing to negate".into()),
+    }
+}
+
+// The filter that a word makes of those before it.
+fn filter_by(alloc: Global, stack: &mut Vec<Filter>, word: &str) -> Result<Filter, Fail> {
+    match word {
+        "and" => Ok(Filter::And(last_two(stack)?)),
+        "or" => Ok(Filter::Or(last_two(stack)?)),
+        "not" => last_negated(alloc, stack),
+        "all" => Ok(Filter::And(Listed::of(Vec::new(alloc)))),
+        "none" => Ok(Filter::Or(Listed::of(Vec::new(alloc)))),
+        _ => test_of(alloc, word),
+    }
+}
+
+fn push_word(alloc: Global, stack: &mut Vec<Filter>, word: &str) -> Result<(), Fail> {
+    let filter = filter_by(alloc, stack, word)?;
+    Ok(stack.push(filter)?)
+}
+
 /// The filter of a text of words, in which `and`, `or` and `not` stand behind what they join; `all` and
 /// `none` are the empty `and` and `or`.
 pub fn filter_of(alloc: Global, text: &str) -> Result<Filter, Fail> {
     let mut stack = Vec::new(alloc);
     for word in text.split(' ') {
-        let filter = match word {
-            "and" => Filter::And(last_two(&mut stack)?),
-            "or" => Filter::Or(last_two(&mut stack)?),
-            "not" => {
-                let inner = stack.pop().ok_or("nothing to negate")?;
-                Filter::Not(Boxed::of(Box::new(alloc, inner)?))
-            }
-            "all" => Filter::And(Listed::of(Vec::new(alloc))),
-            "none" => Filter::Or(Listed::of(Vec::new(alloc))),
-            _ => test_of(alloc, word)?,
-        };
-        stack.push(filter)?;
+        push_word(alloc, &mut stack, word)?;
     }
-    Ok(stack.pop().ok_or("no filter")?)
+    match stack.pop() {
+        Some(filter) => Ok(filter),
+        None => Err("no filter".into()),
+    }
 }
 
 fn says_of_number(sign: &str, number: i64, constant: i64) -> bool {
@@ -91,29 +120,32 @@ fn says_of_text(sign: &str, text: &[u8], constant: &[u8]) -> bool {
 }
 
 fn says_by_test(word: &str, text: &str, number: i64) -> Result<bool, Fail> {
-    let (column, rest) = word.split_once(':').ok_or("a test without a column")?;
-    let (sign, constant) = rest.split_once(':').ok_or("a test without a sign")?;
+    let (column, sign, constant) = parts_of(word)?;
     if column == "number" {
         return Ok(says_of_number(sign, number, constant.parse()?));
     }
     Ok(says_of_text(sign, text.as_bytes(), constant.as_bytes()))
 }
 
-/// What a filter's text says of a text and a number: its words in their order, with the answers so far as
-/// the bits of a number, the last one lowest.
+// The answers behind a word, as the bits of a number, the last one lowest.
+fn answers_behind(answers: u64, word: &str, text: &str, number: i64) -> Result<u64, Fail> {
+    let last = answers & 1;
+    let before = (answers >> 1) & 1;
+    Ok(match word {
+        "and" => (answers >> 2 << 1) | (before & last),
+        "or" => (answers >> 2 << 1) | (before | last),
+        "not" => answers ^ 1,
+        "all" => (answers << 1) | 1,
+        "none" => answers << 1,
+        _ => (answers << 1) | u64::from(says_by_test(word, text, number)?),
+    })
+}
+
+/// What a filter's text says of a text and a number: its words in their order, with the answers so far.
 pub fn says(filter: &str, text: &str, number: i64) -> Result<bool, Fail> {
     let mut answers: u64 = 0;
     for word in filter.split(' ') {
-        let last = answers & 1;
-        let before = (answers >> 1) & 1;
-        answers = match word {
-            "and" => (answers >> 2 << 1) | (before & last),
-            "or" => (answers >> 2 << 1) | (before | last),
-            "not" => answers ^ 1,
-            "all" => (answers << 1) | 1,
-            "none" => answers << 1,
-            _ => (answers << 1) | u64::from(says_by_test(word, text, number)?),
-        };
+        answers = answers_behind(answers, word, text, number)?;
     }
     Ok(answers == 1)
 }

@@ -1,4 +1,6 @@
 // Which rows a filter keeps.
+use crate::Filter;
+use crate::tests::checks::{equals, reads};
 use crate::tests::filters::{filter_of, is_kept, row_of, says};
 use row_page::RowBuf;
 use std::alloc::Global;
@@ -43,6 +45,25 @@ none
 none not text:<=:ab and
 number:>:0 all and none or not not";
 
+// Whether the test by this sign against a constant keeps a row.
+fn keeps_by(
+    alloc: Global,
+    column: &str,
+    row: &RowBuf,
+    sign: &str,
+    constant: &str,
+) -> Result<bool, Fail> {
+    let word = format!(in alloc; "{column}:{sign}:{constant}")?;
+    let filter = filter_of(alloc, &word)?;
+    is_kept(&filter, row)
+}
+
+// A text with another end.
+fn put(text: &mut String, word: &str, end: char) -> Result<(), Fail> {
+    text.push_str(word)?;
+    Ok(text.push(end)?)
+}
+
 // The signs of the tests against a constant that keep a row.
 fn signs_that_keep(
     alloc: Global,
@@ -52,10 +73,8 @@ fn signs_that_keep(
 ) -> Result<String, Fail> {
     let mut signs = String::new(alloc);
     for sign in ["=", "!=", "<", "<=", ">", ">="] {
-        let filter = filter_of(alloc, &format!(in alloc; "{column}:{sign}:{constant}")?)?;
-        if is_kept(&filter, row)? {
-            signs.push_str(sign)?;
-            signs.push(' ')?;
+        if keeps_by(alloc, column, row, sign, constant)? {
+            put(&mut signs, sign, ' ')?;
         }
     }
     Ok(signs)
@@ -69,16 +88,31 @@ fn signs_of(order: &str) -> &'static str {
     }
 }
 
-// Lines of a field, a constant and how it stands to that, where a line's answer is another one.
+// A field, a constant and how the field stands to it.
+fn parts_of(line: &str) -> Result<(&str, &str, &str), Fail> {
+    let Some((field, rest)) = line.split_once(' ') else {
+        return Err("no constant".into());
+    };
+    match rest.split_once(' ') {
+        Some((constant, order)) => Ok((field, constant, order)),
+        None => Err("no order".into()),
+    }
+}
+
+// Whether a line's answer is another one.
+fn differs(alloc: Global, column: &str, line: &str) -> Result<bool, Fail> {
+    let (field, constant, order) = parts_of(line)?;
+    let row = row_of(alloc, field.as_bytes(), field.as_bytes())?;
+    let signs = signs_that_keep(alloc, column, &row, constant)?;
+    Ok(signs.as_str() != signs_of(order))
+}
+
+// Those of the lines whose answer is another one.
 fn lines_that_differ(alloc: Global, column: &str, lines: &str) -> Result<String, Fail> {
     let mut others = String::new(alloc);
     for line in lines.split('\n') {
-        let (field, rest) = line.split_once(' ').ok_or("no constant")?;
-        let (constant, order) = rest.split_once(' ').ok_or("no order")?;
-        let row = row_of(alloc, field.as_bytes(), field.as_bytes())?;
-        if signs_that_keep(alloc, column, &row, constant)?.as_str() != signs_of(order) {
-            others.push_str(line)?;
-            others.push('\n')?;
+        if differs(alloc, column, line)? {
+            put(&mut others, line, '\n')?;
         }
     }
     Ok(others)
@@ -86,30 +120,51 @@ fn lines_that_differ(alloc: Global, column: &str, lines: &str) -> Result<String,
 
 #[test]
 fn numbers_are_compared_by_value(rt: HostRuntime) -> Result<(), Fail> {
-    let others = lines_that_differ(rt.alloc(), "number", NUMBERS)?;
-    assert_eq!(rt; others.as_str(), "");
-    Ok(())
+    let others = lines_that_differ(rt.alloc(), "number", NUMBERS);
+    reads(&rt, others, "", "numbers")
 }
 
 #[test]
 fn texts_are_compared_byte_by_byte(rt: HostRuntime) -> Result<(), Fail> {
-    let others = lines_that_differ(rt.alloc(), "text", TEXTS)?;
-    assert_eq!(rt; others.as_str(), "");
-    Ok(())
+    let others = lines_that_differ(rt.alloc(), "text", TEXTS);
+    reads(&rt, others, "", "texts")
+}
+
+// The signs of the tests against a text that keep a row of one byte, 128.
+fn signs_of_byte(alloc: Global, constant: &str) -> Result<String, Fail> {
+    let row = row_of(alloc, &[0x80], b"0")?;
+    signs_that_keep(alloc, "text", &row, constant)
 }
 
 #[test]
 fn bytes_that_spell_no_text_are_compared_too(rt: HostRuntime) -> Result<(), Fail> {
-    let row = row_of(rt.alloc(), &[0x80], b"0")?;
-    let signs = signs_that_keep(rt.alloc(), "text", &row, "z")?;
-    assert_eq!(rt; signs.as_str(), "!= > >= ", "above each letter");
-    let signs = signs_that_keep(rt.alloc(), "text", &row, "é")?;
-    assert_eq!(rt; signs.as_str(), "!= < <= ", "below the first of two bytes");
-    Ok(())
+    reads(
+        &rt,
+        signs_of_byte(rt.alloc(), "z"),
+        "!= > >= ",
+        "above each letter",
+    )?;
+    let signs = signs_of_byte(rt.alloc(), "é");
+    reads(&rt, signs, "!= < <= ", "below the first of two bytes")
 }
 
-// How many of some drawn rows a filter keeps, where it keeps just those of which its text holds.
-fn kept_of_drawn(alloc: Global, text: &str) -> Result<Option<u32>, Fail> {
+const WORDS: [&str; 8] = ["", "a", "ab", "b", "ba", "Z", "é", "zé"];
+
+// Whether a filter keeps the row of a draw, which is so where its text holds of it.
+fn keeps_drawn(alloc: Global, filter: &Filter, text: &str, drawn: u64) -> Result<bool, Fail> {
+    let number = (drawn >> 40) as i64 % 11 - 5;
+    let word = WORDS[(drawn >> 60) as usize % 8];
+    let digits = format!(in alloc; "{number}")?;
+    let row = row_of(alloc, word.as_bytes(), digits.as_bytes())?;
+    let is_in = is_kept(filter, &row)?;
+    if is_in != says(text, word, number)? {
+        return Err("another row is kept".into());
+    }
+    Ok(is_in)
+}
+
+// How many of some drawn rows a filter keeps.
+fn kept_of_drawn(alloc: Global, text: &str) -> Result<u32, Fail> {
     let filter = filter_of(alloc, text)?;
     let mut kept: u32 = 0;
     let mut drawn: u64 = 1;
@@ -117,30 +172,37 @@ fn kept_of_drawn(alloc: Global, text: &str) -> Result<Option<u32>, Fail> {
         drawn = drawn
             .wrapping_mul(6_364_136_223_846_793_005)
             .wrapping_add(1);
-        let number = (drawn >> 40) as i64 % 11 - 5;
-        let word = ["", "a", "ab", "b", "ba", "Z", "é", "zé"][(drawn >> 60) as usize % 8];
-        let row = row_of(
-            alloc,
-            word.as_bytes(),
-            format!(in alloc; "{number}")?.as_bytes(),
-        )?;
-        let is_in = is_kept(&filter, &row)?;
-        if is_in != says(text, word, number)? {
-            return Ok(None);
-        }
-        kept = kept.saturating_add(u32::from(is_in));
+        kept = kept.saturating_add(u32::from(keeps_drawn(alloc, &filter, text, drawn)?));
     }
-    Ok(Some(kept))
+    Ok(kept)
+}
+
+// `all` keeps each of the rows, `none` none of them, and any other filter some.
+fn kept_word(kept: u32) -> &'static str {
+    match kept {
+        0 => "none",
+        50 => "all",
+        _ => "some",
+    }
+}
+
+fn wanted_word(text: &str) -> &str {
+    if text == "all" || text == "none" {
+        return text;
+    }
+    "some"
 }
 
 #[test]
 fn drawn_rows_are_kept_as_the_words_say(rt: HostRuntime) -> Result<(), Fail> {
     for text in FILTERS.split('\n') {
-        let kept = kept_of_drawn(rt.alloc(), text)?.ok_or("another row is kept")?;
-        let is_all = text == "all";
-        let is_none = text == "none";
-        assert_eq!(rt; kept == 50, is_all, "{text}: {kept}");
-        assert_eq!(rt; kept == 0, is_none, "{text}: {kept}");
+        let kept = kept_of_drawn(rt.alloc(), text);
+        equals(
+            &rt,
+            kept.map(|kept| kept_word(kept)),
+            wanted_word(text),
+            text,
+        )?;
     }
     Ok(())
 }

@@ -1,7 +1,9 @@
 // Filters over other columns.
 use crate::move_filter;
+use crate::tests::checks::equals;
 use crate::tests::filters::{filter_of, is_kept, row_of};
 use std::alloc::Global;
+use std::process::Abort;
 use std::test::Fail;
 
 // A filter over columns that are turned round, what it keeps of the row `ab,-2`, and of the row `-2,ab`.
@@ -15,40 +17,48 @@ text:=:-2 number:=:0 and|yes|no
 all|yes|yes
 none|no|no";
 
-fn keeps_turned(alloc: Global, text: &str, row: [&str; 2]) -> Result<&'static str, Fail> {
+fn keeps_turned(alloc: Global, text: &str, row: [&str; 2]) -> Result<bool, Fail> {
     let moved = move_filter(alloc, &filter_of(alloc, text)?, &[1, 0])?;
     let [first, second] = row;
     let row = row_of(alloc, first.as_bytes(), second.as_bytes())?;
-    if is_kept(&moved, &row)? {
-        return Ok("yes");
+    is_kept(&moved, &row)
+}
+
+// What the filter keeps, as it stands in the table.
+fn turned(alloc: Global, text: &str) -> Result<&'static str, Fail> {
+    let first = keeps_turned(alloc, text, ["ab", "-2"])?;
+    let second = keeps_turned(alloc, text, ["-2", "ab"])?;
+    Ok(match (first, second) {
+        (true, true) => "yes|yes",
+        (true, false) => "yes|no",
+        (false, true) => "no|yes",
+        (false, false) => "no|no",
+    })
+}
+
+fn check(rt: &impl Abort, alloc: Global, line: &str) -> Result<(), Fail> {
+    match line.split_once('|') {
+        Some((text, wanted)) => equals(rt, turned(alloc, text), wanted, text),
+        None => Err("no answers".into()),
     }
-    Ok("no")
 }
 
 #[test]
 fn a_moved_filter_asks_the_other_columns(rt: HostRuntime) -> Result<(), Fail> {
     for line in TURNED.split('\n') {
-        let (text, wanted) = line.split_once('|').ok_or("no answers")?;
-        let (first, second) = wanted.split_once('|').ok_or("no second answer")?;
-        assert_eq!(rt;
-            keeps_turned(rt.alloc(), text, ["ab", "-2"])?,
-            first,
-            "{text}"
-        );
-        assert_eq!(rt;
-            keeps_turned(rt.alloc(), text, ["-2", "ab"])?,
-            second,
-            "{text}"
-        );
+        check(&rt, rt.alloc(), line)?;
     }
     Ok(())
 }
 
-#[test]
-fn a_column_without_a_place_is_the_first(rt: HostRuntime) -> Result<(), Fail> {
-    let alloc = rt.alloc();
+// Whether a filter over a column without a place keeps a row by its first.
+fn keeps_by_first(alloc: Global) -> Result<bool, Fail> {
     let moved = move_filter(alloc, &filter_of(alloc, "number:=:7")?, &[])?;
     let row = row_of(alloc, b"7", b"0")?;
-    assert!(rt; is_kept(&moved, &row)?);
-    Ok(())
+    is_kept(&moved, &row)
+}
+
+#[test]
+fn a_column_without_a_place_is_the_first(rt: HostRuntime) -> Result<(), Fail> {
+    equals(&rt, keeps_by_first(rt.alloc()), true, "the row")
 }

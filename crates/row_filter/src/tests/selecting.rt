@@ -1,8 +1,10 @@
 // Which rows of a page a filter puts into another one.
+use crate::tests::checks::reads;
 use crate::tests::filters::{filter_of, row_of};
 use crate::{Filter, covers, select};
-use row_page::{Page, PageFault};
+use row_page::{Page, PageFault, RowView};
 use std::alloc::Global;
+use std::process::Abort;
 use std::test::Fail;
 
 // The numbers of a page's rows, a filter, the room of the page that they are put into, and what it then has.
@@ -19,26 +21,35 @@ const SELECTED: &str = "\
 7|number:=:8|0|
 1 2 3|none|0|";
 
+// Puts a row with this number behind those of a page.
+fn push(alloc: Global, page: &mut Page, number: &str) -> Result<(), Fail> {
+    let row = row_of(alloc, b"a", number.as_bytes())?;
+    Ok(page.push(row.view())?)
+}
+
 // A page of rows with these numbers.
 fn page_of(alloc: Global, numbers: &str) -> Result<Page, Fail> {
     let mut page = Page::new(alloc, 1_000_000);
     for number in numbers.split_whitespace() {
-        let row = row_of(alloc, b"a", number.as_bytes())?;
-        page.push(row.view())?;
+        push(alloc, &mut page, number)?;
     }
     Ok(page)
+}
+
+// A row's number, and a space behind it.
+fn put_number(numbers: &mut String, row: RowView) -> Result<(), Fail> {
+    if row.count() != 3 {
+        return Err("no row of two columns".into());
+    }
+    numbers.push_str(str::from_utf8(row.field(2))?)?;
+    Ok(numbers.push(' ')?)
 }
 
 // The numbers of a page's rows, each with a space behind it.
 fn numbers_of(alloc: Global, page: &Page) -> Result<String, Fail> {
     let mut numbers = String::new(alloc);
     for i in 0..page.rows() {
-        let row = page.row(i);
-        if row.count() != 3 {
-            return Err("no row of two columns".into());
-        }
-        numbers.push_str(str::from_utf8(row.field(2))?)?;
-        numbers.push(' ')?;
+        put_number(&mut numbers, page.row(i))?;
     }
     Ok(numbers)
 }
@@ -53,41 +64,63 @@ fn put(filter: &Filter, from: &Page, into: &mut Page) -> Result<(), PageFault> {
     select(filter, from, into)
 }
 
+// What the rows that a filter keeps leave in a page.
+fn put_all(alloc: Global, filter: &Filter, from: &Page, into: &mut Page) -> Result<String, Fail> {
+    let end = match put(filter, from, into) {
+        Ok(()) => "",
+        Err(PageFault::Full) => "full",
+        Err(PageFault::NoMemory) => "no memory",
+    };
+    let mut found = numbers_of(alloc, into)?;
+    found.push_str(end)?;
+    Ok(found)
+}
+
 // What a line's rows leave in the page that they are put into.
-fn selected(alloc: Global, numbers: &str, filter: &str, room: u32) -> Result<String, Fail> {
+fn selected(alloc: Global, numbers: &str, filter: &str, room: &str) -> Result<String, Fail> {
     let from = page_of(alloc, numbers)?;
     let filter = filter_of(alloc, filter)?;
-    let mut into = Page::new(alloc, u64::from(room));
-    let answer = put(&filter, &from, &mut into);
-    let mut found = numbers_of(alloc, &into)?;
-    match answer {
-        Ok(()) => {}
-        Err(PageFault::Full) => found.push_str("full")?,
-        Err(PageFault::NoMemory) => found.push_str("no memory")?,
+    let room: u32 = room.parse()?;
+    put_all(
+        alloc,
+        &filter,
+        &from,
+        &mut Page::new(alloc, u64::from(room)),
+    )
+}
+
+// The two parts of a text with a `|` between them.
+fn parted(text: &str) -> Result<(&str, &str), Fail> {
+    match text.split_once('|') {
+        Some(parts) => Ok(parts),
+        None => Err("too few parts".into()),
     }
-    Ok(found)
+}
+
+fn check(rt: &impl Abort, alloc: Global, line: &str) -> Result<(), Fail> {
+    let (numbers, rest) = parted(line)?;
+    let (filter, rest) = parted(rest)?;
+    let (room, expected) = parted(rest)?;
+    reads(rt, selected(alloc, numbers, filter, room), expected, line)
 }
 
 #[test]
 fn a_page_takes_the_kept_rows_that_fit(rt: HostRuntime) -> Result<(), Fail> {
     for line in SELECTED.split('\n') {
-        let (numbers, rest) = line.split_once('|').ok_or("no filter")?;
-        let (filter, rest) = rest.split_once('|').ok_or("no room")?;
-        let (room, expected) = rest.split_once('|').ok_or("no answer")?;
-        let found = selected(rt.alloc(), numbers, filter, room.parse()?)?;
-        assert_eq!(rt; found.as_str(), expected, "{line}");
+        check(&rt, rt.alloc(), line)?;
     }
     Ok(())
 }
 
+// What two rows of three leave in a page of two others.
+fn kept_behind(alloc: Global) -> Result<String, Fail> {
+    let from = page_of(alloc, "1 2 3")?;
+    let filter = filter_of(alloc, "number:>:1")?;
+    let mut into = page_of(alloc, "8 9")?;
+    put_all(alloc, &filter, &from, &mut into)
+}
+
 #[test]
 fn kept_rows_stand_behind_those_that_were_there(rt: HostRuntime) -> Result<(), Fail> {
-    let from = page_of(rt.alloc(), "1 2 3")?;
-    let filter = filter_of(rt.alloc(), "number:>:1")?;
-    let mut into = page_of(rt.alloc(), "8 9")?;
-    let answer = put(&filter, &from, &mut into);
-    assert_eq!(rt; answer, Ok(()));
-    let found = numbers_of(rt.alloc(), &into)?;
-    assert_eq!(rt; found.as_str(), "8 9 2 3 ");
-    Ok(())
+    reads(&rt, kept_behind(rt.alloc()), "8 9 2 3 ", "the rows")
 }
