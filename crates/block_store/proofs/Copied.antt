@@ -196,6 +196,13 @@ page_was_read (Some f) copy bytes tells h front none =
     let known = has_rows (map.get f copy.file) copy.bytes bytes h all in
     ∥∥₁_elim known.1 ⊥_prop (λ (rows : HasRows bytes). let past : copy.bytes < length bytes = none rows.0 rows.1 in absurd (omega (arith, known.0)))
 
+-- and as long as the copy
+pub length_was_read : (files : Option Files) (copy : BlockCopy) (bytes : List ℕ) → is_some files ≡ true → IsStored files copy → IsFront files copy.file copy.bytes bytes → length bytes ≡ copy.bytes
+length_was_read None copy bytes tells h front = absurd (false≢true tells)
+length_was_read (Some f) copy bytes tells h front =
+    let all : map.get f copy.file ≡ Some bytes = whole (map.get f copy.file) copy.bytes bytes h front in
+    (has_rows (map.get f copy.file) copy.bytes bytes h all).0
+
 pub rows_were_read : (files : Option Files) (copy : BlockCopy) (bytes : List ℕ) (rows : Rows) → is_some files ≡ true → IsStored files copy → IsFront files copy.file copy.bytes bytes → IsPage bytes rows → option_map rows_of (file_at files copy.file) ≡ Some rows
 rows_were_read None copy bytes rows tells h front page = absurd (false≢true tells)
 rows_were_read (Some f) copy bytes rows tells h front page =

@@ -3,7 +3,7 @@
 ghost use Rattle.std.specs.Prelude.{◌≡◌, ◌≤◌, ◌<◌, ◌+◌, ◌^◌, ℕ, Some, true, false, is_some, IfOk, IfSome, IfNone, OnErr};
 ghost use Rattle.std.specs.Arc.{arc_value};
 ghost use Rattle.std.specs.Option.{option_map};
-ghost use Rattle.row_page.specs.Spelling.{page_bytes};
+ghost use Rattle.row_page.specs.Spelling.{page_bytes, page_length};
 ghost use Rattle.row_page.specs.Reading.{rows_of};
 ghost use Rattle.spill_disk.specs.declared.disk.DiskError.TheVariants.{Failed, NoMemory};
 ghost use Rattle.fault_count.specs.Faults.{Rose, HasCauseAt};
@@ -82,7 +82,7 @@ fn write_file<K: Disk>(disk: &mut K, bytes: &[u8]) -> Result<u64, DiskError>
 }
 
 /// Reads a copy back, as a block of level `Disk`. `None` is a failure of the disk, or that what a
-/// disk which tells nothing gave is no page.
+/// disk which tells nothing gave is no page, or less than was written.
 pub(crate) fn read_copy<K: Disk>(
     alloc: Global,
     disk: &mut K,
@@ -98,6 +98,8 @@ pub(crate) fn read_copy<K: Disk>(
     ensures part { IfOk result (λ read. IfSome read (λ block. (arc_value block).part ≡ copy.part)) }
     ensures level { IfOk result (λ read. IfSome read (λ block.
         (arc_value block).level ≡ Level.Disk)) }
+    ensures whole { IfOk result (λ read. IfSome read (λ block.
+        copy.bytes ≤ page_length (arc_value block).page.rows)) }
     ensures lost { is_some (K.files disk.old) ≡ true → IfOk result (λ read. IfNone read
         (Rose (K.faults disk.old) (K.faults disk.new))) }
     ensures same { K.files disk.new ≡ K.files disk.old }
@@ -107,6 +109,10 @@ pub(crate) fn read_copy<K: Disk>(
     let Some(bytes) = read_file(alloc, disk, copy)? else {
         return Ok(None);
     };
+    // The front of a page may be a page, with fewer rows.
+    if (bytes.len() as u64) < copy.bytes {
+        return Ok(None);
+    }
     let Some(page) = Page::read(alloc, bytes, copy.bytes)? else {
         return Ok(None);
     };
