@@ -3,8 +3,9 @@
 
 Run it at the top of the repository, after `rt run` in crates/audit_rate has built the program. The journals are made by
 tools/audit_model.py: a task that asks and gives back, and with blocks a pin and its unpin between two asks; blocks of which
-each admission evicts one; blocks of which each ask evicts one; and blocks whose dataset is refused more of them. Each round
-audits all of them, one right after another, so that other work on the machine meets them alike.
+each admission evicts one; blocks of which each ask evicts one; blocks whose dataset is refused more of them; and blocks whose
+dataset stays, where each further one of it evicts a block of another. Each round audits all of them, one right after another,
+so that other work on the machine meets them alike.
 """
 import os
 import subprocess
@@ -13,7 +14,7 @@ import tempfile
 import time
 
 sys.path.insert(0, "tools")
-from audit_model import asking, many, refusing, turning
+from audit_model import asking, keeping, many, refusing, turning
 
 PROGRAM = os.path.abspath("crates/audit_rate/out/audit_rate")
 ENTRIES = int(sys.argv[1]) if len(sys.argv) > 1 else 1_000_000
@@ -28,6 +29,8 @@ JOURNALS = [
     ("1,000 blocks, an ask evicts", asking, 1000),
     ("10 blocks, and refusals", refusing, 10),
     ("1,000 blocks, and refusals", refusing, 1000),
+    ("10 blocks that stay", keeping, 10),
+    ("1,000 blocks that stay", keeping, 1000),
 ]
 
 

@@ -338,6 +338,21 @@ def refusing(count, blocks):
     return '\n'.join(out) + '\n'
 
 
+def keeping(count, blocks):
+    """A legal journal of blocks of one dataset that stay: each further one evicts the block of another, and is removed for the next."""
+    size = 1000
+    region = (blocks + 1) * size
+    out = [f'memory journal 1,{region},{region},1']
+    out += [f'admit,0,1,{part},{size},memory,0,0' for part in range(blocks)]
+    other = 0
+    out.append(f'admit,0,2,{other},{size},memory,0,0')
+    while len(out) + 3 <= count:
+        out += [f'evict,0,2,{other},{size},gone', f'admit,0,1,{blocks},{size},memory,0,1', f'remove,0,1,{blocks},{size}',
+                f'admit,0,2,{other + 1},{size},memory,0,0']
+        other += 1
+    return '\n'.join(out) + '\n'
+
+
 def main(words):
     if words[0] == 'answer':
         print(verdict(sys.stdin.read()))

@@ -1,5 +1,5 @@
 -- The blocks in use order: one found, added, taken out or used, no two of one name.
-use Rattle.std.proofs.Common.{◌≡◌, ℕ, ◌-◌, ◌^◌, ◌<◌, Bool, true, false, not, cond, ◌&&◌, ◌||◌, ◌⊎◌, List, [], ◌∷◌, ◌++◌, map, take, length, Option, Some, None, refl, sym, ap, ◌∙◌, inl, inr, arith, append_assoc, append-nil}
+use Rattle.std.proofs.Common.{◌≡◌, ℕ, ◌-◌, ◌^◌, ◌<◌, Bool, true, false, not, cond, ◌&&◌, ◌||◌, ◌⊎◌, List, [], ◌∷◌, ◌++◌, take, length, Option, Some, None, refl, sym, ap, ◌∙◌, inl, inr, arith, append-nil}
 use Rattle.std.specs.Prelude.{nat_eq, is_some}
 use Rattle.std.specs.List.{find, filter, list_any, IsDistinct}
 use Rattle.std.specs.Option.{option_map, option_map_or, option_or}
@@ -13,7 +13,6 @@ use Rattle.std.proofs.lemmas.Map.{lookup-none}
 use Rattle.std.proofs.lemmas.Map.Entries.{none_past_head}
 use Rattle.std.proofs.lemmas.Map.Keys.{IsDistinct-tail}
 use Rattle.lru.specs.LruCache.{LruCache, promoted, put_entries}
-use Rattle.eviction.specs.declared.candidate.Candidate.{Candidate}
 use Rattle.pool_ledger.specs.Blocks.{Resident, is_block, only, without}
 use Rattle.journal_replay.specs.declared.block_name.BlockName.{BlockName}
 use Rattle.journal_replay.specs.declared.blocks.Kept.{Kept}
@@ -93,7 +92,7 @@ module _ (q : Resident → Bool) where
       by true h more = absurd (cc h)
       by false h more = more h
 
-  none_taken : (xs : List Resident) → list_any q xs ≡ false → filter (λ x. not (q x)) xs ≡ xs
+  pub none_taken : (xs : List Resident) → list_any q xs ≡ false → filter (λ x. not (q x)) xs ≡ xs
   none_taken [] none = refl
   none_taken (x ∷ xs) none = by (q x) none (none_taken xs)
     where
@@ -101,7 +100,7 @@ module _ (q : Resident → Bool) where
       by true h more = absurd (cc h)
       by false h more = ap (λ (ys : List Resident). x ∷ ys) (more h)
 
-  none_kept : (xs : List Resident) → list_any q xs ≡ false → filter q xs ≡ []
+  pub none_kept : (xs : List Resident) → list_any q xs ≡ false → filter q xs ≡ []
   none_kept [] none = refl
   none_kept (x ∷ xs) none = by (q x) none (none_kept xs)
     where
@@ -191,17 +190,3 @@ added_blocks cache name kept absent cap few =
     let gone = no_entry name.dataset name.part cache.entries (some_none (lookup (same_name name) cache.entries) (sym (any_blocks name.dataset name.part cache.entries) ∙ absent)) in
     ap (λ (o : Option (BlockName × Kept)). blocks_in (option_map_or (λ e. (e.0, kept) ∷ remove_entry (same_name name) cache.entries) o ((name, kept) ∷ take (cache.cap - 1) cache.entries))) gone
     ∙ ap (λ (es : List (BlockName × Kept)). blocks_in ((name, kept) ∷ es)) (take_all (cache.cap - 1) cache.entries (omega (arith, cap, few)))
-
--- The list, written down from the least recently used on
-
-pub blocks-append : (xs : List (BlockName × Kept)) (e : BlockName × Kept) → blocks_in (xs ++ e ∷ []) ≡ block_of e ∷ blocks_in xs
-blocks-append [] e = refl
-blocks-append (x ∷ xs) e = ap (λ (bs : List Resident). bs ++ block_of x ∷ []) (blocks-append xs e)
-
-pub written_more : (f : Resident → Candidate) (all rest left : List (BlockName × Kept)) (e : BlockName × Kept) (items more : List Candidate) → items ++ map f (blocks_in rest) ≡ map f (blocks_in all) → rest ≡ left ++ e ∷ [] → more ≡ items ++ f (block_of e) ∷ [] → more ++ map f (blocks_in left) ≡ map f (blocks_in all)
-written_more f all rest left e items more same at is =
-    ap (λ (l : List Candidate). l ++ map f (blocks_in left)) is
-    ∙ append_assoc items (f (block_of e) ∷ []) (map f (blocks_in left))
-    ∙ ap (λ (l : List Resident). items ++ map f l) (sym (blocks-append left e))
-    ∙ ap (λ (l : List (BlockName × Kept)). items ++ map f (blocks_in l)) (sym at)
-    ∙ same

@@ -1,3 +1,7 @@
+pub mod EntriesFrom
+pub mod Known
+pub mod Stretches
+pub mod Passed
 pub mod InUse
 pub mod Noted
 pub mod TurnsKept

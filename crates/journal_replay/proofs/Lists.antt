@@ -15,7 +15,8 @@ use Rattle.pool_plans.specs.Listed.{listed, seen_in}
 use Rattle.pool_laws.specs.Growing.{entry_by}
 use Rattle.journal_replay.specs.declared.replay.Replay.{Replay}
 use Rattle.journal_replay.specs.Replays.{history_of, IsReplay, Tells}
-use Rattle.journal_replay.specs.Tables.{blocks_in, candidate_in, candidates_in, is_pin, IsFree}
+use Rattle.journal_replay.specs.Tables.{candidate_in, is_pin, IsFree}
+use Rattle.journal_replay.specs.UseOrder.{candidates_of, residents_in}
 use Rattle.journal_replay.proofs.Noted.{pinned_is}
 
 -- a replay of a history is that of its own entries
@@ -41,15 +42,15 @@ pinned_settled (entry ∷ before) d p = by entry.worker entry.event (pinned_sett
     by w _ same = refl
 
 -- the blocks before the evictions that wait
-pub listed_before : (replay : Replay) → IsReplay replay → candidates_in replay.tables.pins replay.turns.before.blocks.entries ≡ listed replay.turns.ledger.history
+pub listed_before : (replay : Replay) → IsReplay replay → candidates_of replay.tables.pins replay.turns.before.order.placed.entries ≡ listed replay.turns.ledger.history
 listed_before replay tells =
     let base = replay.turns.ledger.history in
     let pinned : (d p : ℕ) → list_any (is_pin d p) replay.tables.pins ≡ is_pinned base d p = λ d p.
     pinned_is replay.tables.pins (history_of replay) tells.tables.pins d p ∙ sym (pinned_settled (history_of replay) d p) ∙ ap (λ (h : History). is_pinned h d p) tells.turns.base in
     map_same (candidate_in replay.tables.pins) (seen_in base)
     (λ block. ap (λ t. record { dataset = block.dataset; part = block.part; size = block.size; pinned = t }) (pinned block.dataset block.part))
-    (blocks_in replay.turns.before.blocks.entries)
-    ∙ ap (map (seen_in base)) tells.turns.before.blocks.in_order
+    (residents_in replay.turns.before.order.placed.entries)
+    ∙ ap (map (seen_in base)) tells.turns.before.blocks
 
 -- An admission is of a block that isn't in memory
 

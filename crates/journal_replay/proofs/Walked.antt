@@ -1,32 +1,24 @@
 -- A walk over the blocks from the least recently used on, which ends once those that may go reach a need.
-use Rattle.std.proofs.Common.{◌≡◌, ℕ, ◌+◌, ◌-◌, ◌^◌, ◌<◌, ◌≤◌, true, false, cond, ◌&&◌, List, [], ◌∷◌, ◌++◌, drop, get_or, length, map, Option, Some, None, refl, sym, ap, ◌∙◌, arith, inl, inr}
+use Rattle.std.proofs.Common.{◌≡◌, ℕ, ◌+◌, ◌-◌, ◌^◌, ◌<◌, ◌≤◌, Bool, true, false, not, cond, ◌&&◌, List, [], ◌∷◌, drop, get_or, length, map, Option, Some, None, refl, sym, ap, subst, ◌∙◌, arith}
 use Rattle.std.specs.Prelude.{nat_eq}
+use Rattle.std.specs.List.{filter}
 use Rattle.std.specs.Option.{option_map}
-use Rattle.std.proofs.lemmas.Bool.{cond-true, cond-false, cases_eq, eq-eqb, ne_eqb}
-use Rattle.std.proofs.lemmas.List.{at_drop_all, at_drop_more, length-append}
+use Rattle.std.proofs.lemmas.Bool.{cond-true, cond-false, eq-eqb, ne_eqb}
+use Rattle.std.proofs.lemmas.List.{at_drop_all, at_drop_more}
+use Rattle.std.proofs.lemmas.List.Filters.{length-filter_both}
 use Rattle.std.proofs.lemmas.List.Sums.{sum_by-cons}
 use Rattle.pool_ledger.specs.Blocks.{front_reaching}
+use Rattle.pool_ledger.proofs.Fronts.{sizes-filter-le}
 use Rattle.pool_ledger.specs.Legal.{Evicted}
 use Rattle.pool_ledger.specs.declared.entry.Entry.{Entry}
-use Rattle.pool_ledger.specs.declared.entry.Event.TheVariants.{Begin}
 use Rattle.eviction.specs.declared.candidate.Candidate.{Candidate}
 use Rattle.eviction.specs.Victims.{evictable, is_evictable, sizes}
-use Rattle.journal_replay.specs.declared.block_name.BlockName.{BlockName}
-use Rattle.journal_replay.specs.declared.blocks.Kept.{Kept}
 use Rattle.journal_replay.specs.declared.fronts.Freed.{Freed}
 use Rattle.journal_replay.specs.Checks.{front_in, go_first, is_gone, sum_of}
 use Rattle.journal_replay.specs.Replays.{gone_of}
-use Rattle.journal_replay.specs.Tables.{block_of, candidate_in, candidates_in}
-use Rattle.journal_replay.proofs.InUse.{blocks-append}
 
 abbrev size_of : Candidate → ℕ
 size_of block = block.size
-
--- the last entry of a cache is the first block in use order
-pub next_block : (pins : List (Option BlockName)) (rest left : List (BlockName × Kept)) (e : BlockName × Kept) (block : Candidate) → rest ≡ left ++ e ∷ []
-    → block ≡ candidate_in pins (block_of e) → candidates_in pins rest ≡ block ∷ candidates_in pins left
-next_block pins rest left e block at is =
-    ap (candidates_in pins) at ∙ ap (map (candidate_in pins)) (blocks-append left e) ∙ ap (λ (c : Candidate). c ∷ candidates_in pins left) (sym is)
 
 -- The front, found block by block
 
@@ -77,106 +69,103 @@ missed need count bytes low =
 
 -- The walk
 
--- so many blocks of so many bytes go, which aren't enough, and these are left
-pub record IsWalk (except : Option ℕ) (need : ℕ) (pins : List (Option BlockName)) (all rest : List (BlockName × Kept)) (count bytes : ℕ) : Type 0 where
-  pub front : front_at need count bytes (evictable except (candidates_in pins rest)) ≡ front_in except need (candidates_in pins all)
+-- so many blocks of so many bytes go, which aren't enough, and of these more may go
+pub record IsWalk (except : Option ℕ) (need : ℕ) (all left : List Candidate) (count bytes : ℕ) : Type 0 where
+  pub front : front_at need count bytes left ≡ front_in except need all
   pub low : bytes < need
-  pub small : bytes + sizes (candidates_in pins rest) ≤ 2 ^ 50
-  pub few : count + length rest ≤ length all
+  pub small : bytes + sizes left ≤ 2 ^ 50
+  pub few : count + length left ≤ length all
 
-module _ (except : Option ℕ) (need : ℕ) (pins : List (Option BlockName)) (all : List (BlockName × Kept)) where
-  pub walk_begins : 1 ≤ need → sizes (candidates_in pins all) ≤ 2 ^ 50 → IsWalk except need pins all all 0 0
-  walk_begins some small = let same : need - 0 ≡ need = omega arith in record {
+length-filter-le : (p : Candidate → Bool) (blocks : List Candidate) → length (filter p blocks) ≤ length blocks
+length-filter-le p blocks = omega (arith, length-filter_both p (λ b. not (p b)) (λ b. refl) blocks)
+
+module _ (except : Option ℕ) (need : ℕ) (all : List Candidate) where
+  pub walk_begins : 1 ≤ need → sizes all ≤ 2 ^ 50 → (left : List Candidate) → left ≡ evictable except all → IsWalk except need all left 0 0
+  walk_begins some small left is = subst (λ (blocks : List Candidate). IsWalk except need all blocks 0 0) (sym is) (let same : need - 0 ≡ need = omega arith in record {
     front =
-        ap (λ (n : ℕ). option_map (with_more 0 0) (option_map sum_of (front_reaching size_of n (evictable except (candidates_in pins all))))) same
-        ∙ none_before (front_in except need (candidates_in pins all));
+        ap (λ (n : ℕ). option_map (with_more 0 0) (option_map sum_of (front_reaching size_of n (evictable except all)))) same
+        ∙ none_before (front_in except need all);
     low = some;
-    small = omega arith;
-    few = omega arith;
-  }
+    small = omega (arith, small, sizes-filter-le size_of (is_evictable except) all);
+    few = omega (arith, length-filter-le (is_evictable except) all);
+  })
 
-  module _ (rest left : List (BlockName × Kept)) (e : BlockName × Kept) (block : Candidate) (count bytes : ℕ) (walk : IsWalk except need pins all rest count bytes) (at : rest ≡ left ++ e ∷ []) (is : block ≡ candidate_in pins (block_of e)) where
-    behind : sizes (candidates_in pins rest) ≡ block.size + sizes (candidates_in pins left)
-    behind = ap sizes (next_block pins rest left e block at is) ∙ sum_by-cons size_of block (candidates_in pins left)
+  module _ (left rest : List Candidate) (block : Candidate) (count bytes : ℕ) (walk : IsWalk except need all left count bytes) (next : left ≡ evictable except (block ∷ rest)) where
+    may_go : is_evictable except block ≡ true → left ≡ block ∷ evictable except rest
+    may_go may = next ∙ cond-true (is_evictable except block) (block ∷ evictable except rest) (evictable except rest) may
 
-    longer : length rest ≡ length left + 1
-    longer = ap length at ∙ length-append left (e ∷ [])
+    behind : is_evictable except block ≡ true → sizes left ≡ block.size + sizes (evictable except rest)
+    behind may = ap sizes (may_go may) ∙ sum_by-cons size_of block (evictable except rest)
 
-    goes : is_evictable except block ≡ true → front_at need count bytes (evictable except (candidates_in pins rest)) ≡ front_at need (count + 1) (bytes + block.size) (evictable except (candidates_in pins left))
-    goes may =
-        ap (λ (cs : List Candidate). front_at need count bytes (evictable except cs)) (next_block pins rest left e block at is)
-        ∙ ap (front_at need count bytes) (cond-true (is_evictable except block) (block ∷ evictable except (candidates_in pins left)) (evictable except (candidates_in pins left)) may)
-        ∙ goes_on need count bytes block (evictable except (candidates_in pins left)) walk.low
+    goes : is_evictable except block ≡ true → front_at need count bytes left ≡ front_at need (count + 1) (bytes + block.size) (evictable except rest)
+    goes may = ap (front_at need count bytes) (may_go may) ∙ goes_on need count bytes block (evictable except rest) walk.low
 
-    pub walk_takes : is_evictable except block ≡ true → bytes + block.size < need → IsWalk except need pins all left (count + 1) (bytes + block.size)
+    pub walk_takes : is_evictable except block ≡ true → bytes + block.size < need → IsWalk except need all (evictable except rest) (count + 1) (bytes + block.size)
     walk_takes may low = record {
       front = sym (goes may) ∙ walk.front;
       low = low;
-      small = omega (arith, walk.small, behind);
-      few = omega (arith, walk.few, longer);
+      small = omega (arith, walk.small, behind may);
+      few = omega (arith, walk.few, ap (λ (blocks : List Candidate). length blocks) (may_go may));
     }
 
-    pub walk_passes : is_evictable except block ≡ false → IsWalk except need pins all left count bytes
-    walk_passes stays = record {
-      front =
-          ap (front_at need count bytes) (sym (ap (evictable except) (next_block pins rest left e block at is)
-          ∙ cond-false (is_evictable except block) (block ∷ evictable except (candidates_in pins left)) (evictable except (candidates_in pins left)) stays))
-          ∙ walk.front;
-      low = walk.low;
-      small = omega (arith, walk.small, behind);
-      few = omega (arith, walk.few, longer);
-    }
+    pub walk_passes : is_evictable except block ≡ false → IsWalk except need all (evictable except rest) count bytes
+    walk_passes stays =
+        subst (λ (blocks : List Candidate). IsWalk except need all blocks count bytes)
+        (next ∙ cond-false (is_evictable except block) (block ∷ evictable except rest) (evictable except rest) stays) walk
 
-    pub walk_finds : is_evictable except block ≡ true → need ≤ bytes + block.size → Some (freed (count + 1) (bytes + block.size)) ≡ front_in except need (candidates_in pins all)
-    walk_finds may enough = sym (reached need (count + 1) (bytes + block.size) (evictable except (candidates_in pins left)) enough) ∙ sym (goes may) ∙ walk.front
+    pub walk_finds : is_evictable except block ≡ true → need ≤ bytes + block.size → Some (freed (count + 1) (bytes + block.size)) ≡ front_in except need all
+    walk_finds may enough = sym (reached need (count + 1) (bytes + block.size) (evictable except rest) enough) ∙ sym (goes may) ∙ walk.front
 
-    -- the bytes so far and those of this one are within the whole
-    pub room_for_one : bytes + block.size ≤ 2 ^ 50
-    room_for_one = omega (arith, walk.small, behind)
+    -- the bytes so far and those of this one are within the whole, and so is their number
+    pub room_for_one : is_evictable except block ≡ true → (bytes + block.size ≤ 2 ^ 50) × (count + 1 ≤ length all)
+    room_for_one may =
+        let bytes_fit : bytes + block.size ≤ 2 ^ 50 = omega (arith, walk.small, behind may) in
+        let count_fits : count + 1 ≤ length all = omega (arith, walk.few, ap (λ (blocks : List Candidate). length blocks) (may_go may)) in
+        (bytes_fit, count_fits)
 
-  pub walk_misses : (count bytes : ℕ) → IsWalk except need pins all [] count bytes → None ≡ front_in except need (candidates_in pins all)
-  walk_misses count bytes walk = sym (missed need count bytes walk.low) ∙ walk.front
+  pub walk_misses : (left : List Candidate) (count bytes : ℕ) → IsWalk except need all left count bytes → left ≡ [] → None ≡ front_in except need all
+  walk_misses left count bytes walk none = sym (ap (front_at need count bytes) none ∙ missed need count bytes walk.low) ∙ walk.front
 
 -- Evictions beside the blocks
 
-module _ (except : Option ℕ) (pins : List (Option BlockName)) (waiting : List Entry) (found : ℕ) (any : Entry) (below : found < length waiting) where
+-- whether the evictions are of the first of these blocks, in order
+abbrev pub begin_with : List Evicted → List Candidate → Bool
+begin_with [] blocks = true
+begin_with (gone ∷ more) [] = false
+begin_with (gone ∷ more) (block ∷ blocks) = is_gone gone block && begin_with more blocks
+
+-- they are the first that may go where they are the first of those that may go
+pub first_of_evictable : (except : Option ℕ) (gone : List Evicted) (blocks : List Candidate) → go_first except gone blocks ≡ begin_with gone (evictable except blocks)
+first_of_evictable except [] blocks = refl
+first_of_evictable except (x ∷ more) [] = refl
+first_of_evictable except (x ∷ more) (b ∷ blocks) = by (is_evictable except b) (first_of_evictable except more blocks) (first_of_evictable except (x ∷ more) blocks)
+  where
+    by : (t : Bool) → go_first except more blocks ≡ begin_with more (evictable except blocks) → go_first except (x ∷ more) blocks ≡ begin_with (x ∷ more) (evictable except blocks)
+        → cond t (is_gone x b && go_first except more blocks) (go_first except (x ∷ more) blocks) ≡ begin_with (x ∷ more) (cond t (b ∷ evictable except blocks) (evictable except blocks))
+    by true goes stays = ap (λ t. is_gone x b && t) goes
+    by false goes stays = stays
+
+module _ (except : Option ℕ) (waiting : List Entry) (found : ℕ) (any : Entry) (below : found < length waiting) where
   next_gone : map gone_of (drop found waiting) ≡ gone_of (get_or waiting found any) ∷ map gone_of (drop (found + 1) waiting)
   next_gone = ap (map gone_of) (at_drop_more (λ (es : List Entry). es) waiting found any below)
 
   -- none is left to go first
-  pub not_all_gone : false ≡ go_first except (map gone_of (drop found waiting)) []
-  not_all_gone = sym (ap (λ (gone : List Evicted). go_first except gone []) next_gone)
+  pub not_all_gone : (left : List Candidate) → left ≡ [] → begin_with (map gone_of (drop found waiting)) left ≡ false
+  not_all_gone left none = ap (begin_with (map gone_of (drop found waiting))) none ∙ ap (λ (gone : List Evicted). begin_with gone []) next_gone
 
-  module _ (rest left : List (BlockName × Kept)) (e : BlockName × Kept) (block : Candidate) (at : rest ≡ left ++ e ∷ []) (is : block ≡ candidate_in pins (block_of e)) where
-    abbrev gone : Evicted
-    gone = gone_of (get_or waiting found any)
-
-    abbrev more : List Evicted
-    more = map gone_of (drop (found + 1) waiting)
-
-    step : go_first except (map gone_of (drop found waiting)) (candidates_in pins rest)
-        ≡ cond (is_evictable except block) (is_gone gone block && go_first except more (candidates_in pins left)) (go_first except (gone ∷ more) (candidates_in pins left))
-    step = ap (λ (gs : List Evicted). go_first except gs (candidates_in pins rest)) next_gone ∙ ap (go_first except (gone ∷ more)) (next_block pins rest left e block at is)
-
+  module _ (left rest : List Candidate) (block : Candidate) (next : left ≡ evictable except (block ∷ rest)) where
     -- the next block may go, and is to be the next one that went
-    pub next_goes : is_evictable except block ≡ true → go_first except (map gone_of (drop found waiting)) (candidates_in pins rest) ≡ (is_gone gone block && go_first except more (candidates_in pins left))
+    pub next_goes : is_evictable except block ≡ true
+        → begin_with (map gone_of (drop found waiting)) left ≡ (is_gone (gone_of (get_or waiting found any)) block && begin_with (map gone_of (drop (found + 1) waiting)) (evictable except rest))
     next_goes may =
-        step ∙ cond-true (is_evictable except block) (is_gone gone block && go_first except more (candidates_in pins left)) (go_first except (gone ∷ more) (candidates_in pins left)) may
+        ap (begin_with (map gone_of (drop found waiting))) (next ∙ cond-true (is_evictable except block) (block ∷ evictable except rest) (evictable except rest) may)
+        ∙ ap (λ (gone : List Evicted). begin_with gone (block ∷ evictable except rest)) next_gone
 
     -- the next block stays
-    pub next_stays : is_evictable except block ≡ false → go_first except (map gone_of (drop found waiting)) (candidates_in pins rest) ≡ go_first except (map gone_of (drop found waiting)) (candidates_in pins left)
+    pub next_stays : is_evictable except block ≡ false → begin_with (map gone_of (drop found waiting)) left ≡ begin_with (map gone_of (drop found waiting)) (evictable except rest)
     next_stays stays =
-        step
-        ∙ cond-false (is_evictable except block) (is_gone gone block && go_first except more (candidates_in pins left)) (go_first except (gone ∷ more) (candidates_in pins left)) stays
-        ∙ sym (ap (λ (gs : List Evicted). go_first except gs (candidates_in pins left)) next_gone)
+        ap (begin_with (map gone_of (drop found waiting))) (next ∙ cond-false (is_evictable except block) (block ∷ evictable except rest) (evictable except rest) stays)
 
--- where the blocks end, all have to be found
-pub all_found : (except : Option ℕ) (waiting : List Entry) (found : ℕ) → found ≤ length waiting → nat_eq found (length waiting) ≡ go_first except (map gone_of (drop found waiting)) []
-all_found except waiting found within = elim (cases_eq found (length waiting)) [
-  | inl same ↦
-      eq-eqb found (length waiting) same
-      ∙ sym (at_drop_all (λ (es : List Entry). go_first except (map gone_of es) []) waiting found (omega (arith, same)))
-  | inr other ↦
-      ne_eqb found (length waiting) other
-      ∙ not_all_gone except [] waiting found (record { worker = 0; event = Begin 0 }) (omega (arith, within, other))
-]
+-- all are found
+pub all_found : (waiting : List Entry) (found : ℕ) (left : List Candidate) → length waiting ≤ found → begin_with (map gone_of (drop found waiting)) left ≡ true
+all_found waiting found left all = at_drop_all (λ (es : List Entry). begin_with (map gone_of es) left) waiting found all

@@ -1,4 +1,5 @@
 pub mod Tables
+pub mod UseOrder
 pub mod Replays
 pub mod Checks
 pub mod Verdicts

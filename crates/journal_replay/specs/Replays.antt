@@ -1,6 +1,6 @@
 -- What a replay has of a history: its entries, settled and waiting, and its tables.
 -- This project's own.
-use Rattle.std.specs.Prelude.{ℕ, ◌≡◌, ◌==◌, ◌^◌, ◌-◌, ◌++◌, Bool, true, Option, Some, None, is_some, map, reverse}
+use Rattle.std.specs.Prelude.{ℕ, ◌≡◌, ◌==◌, ◌^◌, ◌-◌, ◌++◌, Bool, true, Option, Some, None, is_some, length, map, reverse}
 use Rattle.lru.specs.LruCache.{LruCache}
 use Rattle.pool_ledger.specs.declared.entry.Entry.{Entry}
 use Rattle.pool_ledger.specs.Sizes.{Sizes}
@@ -15,6 +15,7 @@ use Rattle.journal_replay.specs.declared.tables.Tables.{Tables}
 use Rattle.journal_replay.specs.declared.turns.Turns.{Turns}
 use Rattle.journal_replay.specs.declared.replay.Replay.{Replay}
 use Rattle.journal_replay.specs.Tables.{blocks_in, TellsBegun, TellsBytes, TellsCopies, TellsPins}
+use Rattle.journal_replay.specs.UseOrder.{residents_in, IsInOrder}
 
 -- the entries so far, the newest first
 abbrev pub seen : Turns → History
@@ -34,9 +35,10 @@ pub record TellsBlocks (blocks : LruCache BlockName Kept) (history : History) : 
   pub in_order : blocks_in blocks.entries ≡ residents history
   pub unbounded : blocks.cap ≡ 2 ^ 64 - 1
 
--- the blocks and their bytes are those after this history
+-- the blocks in use order and their bytes are those after this history
 pub record TellsBefore (before : Before) (history : History) : Type 0 where
-  pub blocks : TellsBlocks before.blocks history
+  pub blocks : residents_in before.order.placed.entries ≡ residents history
+  pub in_order : IsInOrder before.order (length history)
   pub bytes : TellsBytes before.bytes history
 
 -- the entries are this history's: those of the ledger are settled, and the others are the evictions that wait

@@ -1,6 +1,6 @@
 -- What a replay keeps of a history, and what the tables tell of it.
 -- After Spark: MemoryStore, whose entries stand in access order. The tables are this project's own.
-use Rattle.std.specs.Prelude.{ℕ, ◌≡◌, ◌==◌, ◌<◌, ◌≤◌, ◌+◌, ◌-◌, ◌^◌, nat_eq, if◌then◌else◌, sum_by, unwrap_or, Bool, false, not, ◌&&◌, List, [], ◌∷◌, ◌++◌, Option, Some, None, map, slice_get, slice_set, count_by, ⊤}
+use Rattle.std.specs.Prelude.{ℕ, ◌≡◌, ◌==◌, ◌<◌, ◌≤◌, ◌+◌, ◌-◌, ◌^◌, nat_eq, if◌then◌else◌, sum_by, unwrap_or, Bool, false, not, ◌&&◌, List, [], ◌∷◌, ◌++◌, Option, Some, None, slice_get, slice_set, count_by, ⊤}
 use Rattle.std.specs.HashMap.{HashMap, get as map_get}
 use Rattle.std.specs.HashSet as bag
 use Rattle.std.specs.HashSet.{HashSet}
@@ -112,7 +112,3 @@ IsFree _ blocks = ⊤
 abbrev pub candidate_in : List (Option BlockName) → Resident → Candidate
 candidate_in pins block =
     record { dataset = block.dataset; part = block.part; size = block.size; pinned = list_any (is_pin block.dataset block.part) pins }
-
--- kept blocks in use order as a choice of victims sees them, with these pins
-abbrev pub candidates_in : List (Option BlockName) → List (BlockName × Kept) → List Candidate
-candidates_in pins entries = map (candidate_in pins) (blocks_in entries)

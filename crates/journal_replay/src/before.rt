@@ -1,11 +1,10 @@
 //! The blocks before the evictions that wait, in use order, and the bytes of each dataset's.
 
-ghost use Rattle.std.specs.Prelude.{◌≡◌, ◌≤◌, ◌^◌, ◌==◌, ℕ, [], if◌then◌else◌, IfOk, OnOk};
+ghost use Rattle.std.specs.Prelude.{◌≡◌, ◌==◌, ℕ, [], if◌then◌else◌, OnOk};
 ghost use Rattle.journal_replay.specs.Replays.{TellsBefore};
 ghost use Rattle.journal_replay.specs.Tables.{bytes_after, bytes_at, IsSmall};
 
-use crate::blocks::Blocks;
-use lru::LruCache;
+use crate::use_order::{UseOrder, no_order};
 use pool_ledger::Event;
 use std::alloc::{AllocError, Global};
 use std::collections::HashMap;
@@ -16,18 +15,18 @@ pub(crate) type Bytes = HashMap<u32, u64>;
 /// The blocks, and their bytes by dataset.
 #[derive(Drop)]
 pub(crate) struct Before {
-    pub(crate) blocks: Blocks,
+    pub(crate) order: UseOrder,
     pub(crate) bytes: Bytes,
 }
 
-/// No blocks. An `Err` is want of memory.
-pub(crate) fn none_before(alloc: Global) -> Result<Before, AllocError>
-    ensures { IfOk result (λ before. TellsBefore before []) }
+/// No blocks.
+pub(crate) fn none_before(alloc: Global) -> Before
+    ensures { TellsBefore result [] }
 {
-    Ok(Before {
-        blocks: LruCache::unbounded(alloc)?,
+    Before {
+        order: no_order(alloc),
         bytes: HashMap::new(alloc),
-    })
+    }
 }
 
 /// The bytes of the dataset's blocks.

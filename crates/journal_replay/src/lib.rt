@@ -12,12 +12,14 @@ mod copies;
 mod fronts;
 mod laws;
 mod pins;
+mod placed;
 mod replay;
 mod store_rules;
 mod tables;
 mod task_rules;
 mod tasks;
 mod turns;
+mod use_order;
 mod verdict;
 mod victims;
 

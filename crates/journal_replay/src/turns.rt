@@ -1,6 +1,6 @@
 //! The entries so far: those that are settled, and the evictions that wait for what they are for.
 
-ghost use Rattle.std.specs.Prelude.{◌≡◌, ◌∷◌, ◌++◌, [], true, false, IfOk, OnOk, reverse};
+ghost use Rattle.std.specs.Prelude.{◌≡◌, ◌∷◌, ◌++◌, [], true, false, IfOk, OnOk, length, reverse};
 ghost use Rattle.pool_ledger.specs.History.{held, open_task};
 ghost use Rattle.pool_ledger.specs.Legal.{is_eviction, IsPermitted, MayFollow};
 ghost use Rattle.pool_ledger.specs.Sizes.{IsInRange};
@@ -8,7 +8,7 @@ ghost use Rattle.pool_laws.specs.Laws.{KeepsLaws};
 ghost use Rattle.journal_replay.specs.Replays.{seen, TellsBefore, TellsTurns};
 
 use crate::before::{Before, none_before, note_bytes};
-use crate::blocks::note_use;
+use crate::use_order::note_order;
 use pool_laws::permitted_histories_keep_laws;
 use pool_ledger::{Entry, Event, Ledger, Setup};
 use std::alloc::{AllocError, Global};
@@ -31,7 +31,7 @@ pub(crate) fn no_turns(alloc: Global, setup: Setup) -> Result<Turns, AllocError>
 {
     Ok(Turns {
         ledger: Ledger::new(alloc, setup),
-        before: none_before(alloc)?,
+        before: none_before(alloc),
         waiting: Vec::new(alloc),
         waits: None,
     })
@@ -61,6 +61,13 @@ pub(crate) fn ledger_keeps_laws(ledger: &Ledger)
 {
     permitted_histories_keep_laws();
     let _range = ledger.setup().max();
+}
+
+/// The place of the next entry in the journal, from 0.
+pub(crate) fn next_place(ledger: &Ledger) -> u64
+    ensures { result ≡ length ledger.now.history }
+{
+    ledger.entries().len() as u64
 }
 
 /// Adds an entry that may follow. After an `Err`, which is want of memory, the turns are only dropped.
@@ -121,9 +128,10 @@ fn settle_one(ledger: &mut Ledger, before: &mut Before, entry: Entry) -> Result<
     // For the proof: what may follow can be recorded, where the region is at most the whole.
     permitted_histories_keep_laws();
     let _range = ledger.setup().max();
+    let place = next_place(ledger);
     ledger.reserve(1)?;
     ledger.push(entry);
-    note_use(&mut before.blocks, entry.event)?;
+    note_order(&mut before.order, place, entry.event)?;
     note_bytes(&mut before.bytes, entry.event)?;
     Ok(())
 }

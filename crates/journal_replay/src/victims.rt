@@ -4,11 +4,12 @@ ghost use Rattle.std.specs.Prelude.{◌≡◌, ◌≤◌, List, [], length, take
 ghost use Rattle.pool_ledger.specs.Blocks.{Resident, evictable, sizes, stored, victims};
 ghost use Rattle.journal_audit.specs.Rules.{goes};
 ghost use Rattle.journal_replay.specs.Replays.{history_of, seen, IsReplay, TellsTurns};
+ghost use Rattle.journal_replay.specs.UseOrder.{HasRoom};
 
 use crate::before::bytes_at;
 use crate::fronts::{Freed, front_of, go_first};
 use crate::replay::Replay;
-use crate::turns::{Turns, ledger_keeps_laws};
+use crate::turns::{Turns, ledger_keeps_laws, next_place};
 
 /// The blocks that go so that this need is met, of those before the evictions that wait; none where all that
 /// may go don't reach it.
@@ -23,12 +24,13 @@ pub(crate) fn freed_by(replay: &Replay, need: u64, except: Option<u32>) -> Freed
     ensures stored { result.bytes ≤ stored replay.now.turns.ledger.history }
 {
     ledger_keeps_laws(&replay.turns.ledger);
+    order_has_room(&replay.turns);
     // Where all blocks of other datasets don't reach the need, none of them is looked at.
     if bytes_beside(&replay.turns, except) < need {
         return Freed { count: 0, bytes: 0 };
     }
     match front_of(
-        &replay.turns.before.blocks,
+        &replay.turns.before.order,
         &replay.tables.pins,
         need,
         except,
@@ -36,6 +38,14 @@ pub(crate) fn freed_by(replay: &Replay, need: u64, except: Option<u32>) -> Freed
         Some(freed) => freed,
         None => Freed { count: 0, bytes: 0 },
     }
+}
+
+// Behind the place of each block there is another number. It does nothing when run.
+fn order_has_room(turns: &Turns)
+    requires { TellsTurns turns.now (seen turns.now) }
+    ensures { HasRoom turns.now.before.order.placed }
+{
+    let _place = next_place(&turns.ledger);
 }
 
 // The bytes of the blocks before the evictions that wait, but for those of this dataset.
@@ -60,6 +70,7 @@ pub(crate) fn have_gone(replay: &Replay, except: Option<u32>, count: u64, told: 
     ensures { (blocks : List Resident) → take count (evictable replay.now.turns.ledger.history except) ≡ blocks
         → result ≡ goes (history_of replay.now) blocks told }
 {
+    order_has_room(&replay.turns);
     let waiting = &replay.turns.waiting;
     if waiting.len() as u64 != count {
         return false;
@@ -69,7 +80,7 @@ pub(crate) fn have_gone(replay: &Replay, except: Option<u32>, count: u64, told: 
     }
     go_first(
         waiting,
-        &replay.turns.before.blocks,
+        &replay.turns.before.order,
         &replay.tables.pins,
         except,
     )

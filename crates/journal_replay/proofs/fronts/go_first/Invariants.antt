@@ -1,13 +1,15 @@
-use Rattle.std.proofs.Common.{◌≡◌, ◌≤◌, drop, length, map}
-use Rattle.std.specs.Iterator.Adapters.{rev_source}
-use Rattle.journal_replay.specs.Checks.{go_first}
+use Rattle.std.proofs.Common.{◌≡◌, ◌≤◌, ◌-◌, ◌^◌, drop, length, map}
+use Rattle.eviction.specs.Victims.{evictable}
 use Rattle.journal_replay.specs.Replays.{gone_of}
-use Rattle.journal_replay.specs.Tables.{candidates_in}
+use Rattle.journal_replay.specs.UseOrder.{candidates_of, evictable_from}
+use Rattle.journal_replay.proofs.Walked.{begin_with}
 use Rattle.journal_replay.proofs.fronts.go_first.Given as goal
 
-abbrev pub invariant-loop-name : goal.invariant-loop-name
-invariant-loop-name l =
-    (goal.iterator-loop-name).can_next l.name-iterator
-    × (goal.iterator-loop-name).is_finite l.name-iterator
-    × (go_first l.except (map gone_of l.waiting) (candidates_in l.pins l.blocks.entries) ≡ go_first l.except (map gone_of (drop l.found l.waiting)) (candidates_in l.pins (rev_source l.name-iterator)))
+abbrev pub invariant-loop-found : goal.invariant-loop-found
+invariant-loop-found l =
+    (begin_with (map gone_of l.waiting) (evictable l.except (candidates_of l.pins l.order.placed.entries))
+    ≡ begin_with (map gone_of (drop l.found l.waiting)) (evictable_from l.except l.pins l.from l.order.placed.entries))
     × (l.found ≤ length l.waiting)
+
+abbrev pub decreases-loop-found : goal.decreases-loop-found
+decreases-loop-found l = 2 ^ 64 - l.from

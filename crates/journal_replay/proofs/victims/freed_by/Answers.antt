@@ -1,7 +1,7 @@
 use Rattle.std.proofs.Common.{◌≡◌, List, [], Option, ap, arith, length, sym, unwrap_or, ◌∙◌}
 use Rattle.pool_ledger.specs.Blocks.{Resident, evictable, sizes, victims}
 use Rattle.pool_ledger.proofs.Fronts.{front_none}
-use Rattle.journal_replay.specs.Tables.{candidates_in}
+use Rattle.journal_replay.specs.UseOrder.{candidates_of}
 use Rattle.journal_replay.proofs.Chosen.{all_stored, chosen_are, found_are, none_are}
 use Rattle.journal_replay.proofs.Lists.{listed_before}
 use Rattle.journal_replay.proofs.victims.freed_by.Goals as goal
@@ -11,7 +11,7 @@ front_of-requires-clause-small c =
     let laws = c.ledger_keeps_laws.ensures in
     omega (
       arith,
-      all_stored c.args.replay.now.turns.ledger.history (candidates_in c.args.replay.now.tables.pins c.args.replay.now.turns.before.blocks.entries) (listed_before c.args.replay.now c.requires.tells),
+      all_stored c.args.replay.now.turns.ledger.history (candidates_of c.args.replay.now.tables.pins c.args.replay.now.turns.before.order.placed.entries) (listed_before c.args.replay.now c.requires.tells),
       laws.laws.never_passes,
       laws.range.maximum_small,
     )
@@ -33,7 +33,7 @@ returns-then-bytes_beside-need c =
 pub returns-in-Some : goal.returns-in-Some
 returns-in-Some c =
     let base = c.args.replay.now.turns.ledger.history in
-    let list = candidates_in c.args.replay.now.tables.pins c.args.replay.now.turns.before.blocks.entries in
+    let list = candidates_of c.args.replay.now.tables.pins c.args.replay.now.turns.before.order.placed.entries in
     let is = listed_before c.args.replay.now c.requires.tells in
     let sum = found_are base list is c.args.except c.args.need c.requires.some_need c.in-Some.freed (sym c.in-Some.is ∙ c.front_of.ensures) in
     let are = chosen_are base list is c.args.except c.args.need c.requires.some_need in
@@ -48,7 +48,7 @@ returns-in-Some c =
 pub returns-in-None : goal.returns-in-None
 returns-in-None c =
     let base = c.args.replay.now.turns.ledger.history in
-    let list = candidates_in c.args.replay.now.tables.pins c.args.replay.now.turns.before.blocks.entries in
+    let list = candidates_of c.args.replay.now.tables.pins c.args.replay.now.turns.before.order.placed.entries in
     let is = listed_before c.args.replay.now c.requires.tells in
     let none = none_are base list is c.args.except c.args.need c.requires.some_need (sym c.in-None.is ∙ c.front_of.ensures) in
     record {

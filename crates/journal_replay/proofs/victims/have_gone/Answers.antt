@@ -5,7 +5,7 @@ use Rattle.pool_ledger.specs.Legal.{Evicted}
 use Rattle.journal_audit.specs.Rules.{are_evicted}
 use Rattle.journal_replay.specs.Checks.{go_first}
 use Rattle.journal_replay.specs.Replays.{gone_of}
-use Rattle.journal_replay.specs.Tables.{candidates_in}
+use Rattle.journal_replay.specs.UseOrder.{candidates_of}
 use Rattle.journal_replay.proofs.Lists.{listed_before}
 use Rattle.journal_replay.proofs.Gone.{goes_alike, goes_unlike, goes_untold}
 use Rattle.journal_replay.proofs.victims.have_gone.Goals as goal
@@ -27,7 +27,7 @@ pub returns : goal.returns
 returns c = λ blocks are.
     let waiting = c.args.replay.now.turns.waiting.items in
     let long : length (map gone_of waiting) ≡ c.args.count = omega (arith, length-map waiting gone_of, c.if-len-count.false) in
-    let list = candidates_in c.args.replay.now.tables.pins c.args.replay.now.turns.before.blocks.entries in
+    let list = candidates_of c.args.replay.now.tables.pins c.args.replay.now.turns.before.order.placed.entries in
     c.go_first.ensures
     ∙ ap (λ (entries : List Entry). go_first c.args.except (map gone_of entries) list) c.deref.ensures.value
     ∙ goes_alike c.args.replay.now.turns.ledger.history c.args.except list (map gone_of waiting) c.args.count c.args.told blocks are c.requires.few (listed_before c.args.replay.now c.requires.tells) long c.if-told-count.false
