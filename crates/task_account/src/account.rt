@@ -102,6 +102,20 @@ impl<'a, R: Wait, K: Disk, B: Basis> Account<'a, R, K, B> {
         }
     }
 
+    /// Hands the task out again, which goes on. The worker is given back.
+    pub fn into_task(self) -> Task
+        ensures task { result ≡ self.entry.task }
+        ensures worker { self.exit.1.1.0.now ≡ self.entry.worker.now }
+    {
+        let Account {
+            rt: _,
+            manager: _,
+            worker: _,
+            task,
+        } = self;
+        task
+    }
+
     /// Ends the task, which frees all that it holds, and answers how much that was. It has no refusal. The worker is
     /// given back.
     pub fn end(self) -> u64
