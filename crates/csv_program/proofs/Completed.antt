@@ -83,15 +83,15 @@ completes ended ending text pool journal input input' output output' sink sink' 
     inl (subst (λ (e : Ending). EndsAs e ended) prints ends)
 
 -- of a call of a job
-pub completes_call : {D C : Type 0} (files : D → Option Files) (posts : Vec (Post D C)) (left : Option (List ℕ)) (call : Call) (asked : RunCall) (ended : Status) (journal : List Entry) (input input' output output' sink sink' : ℕ) (faults faults' : ℕ → ℕ)
+pub completes_call : {D C : Type 0} (files : D → Option Files) (store : Option Files) (posts : Vec (Post D C)) (left : Option (List ℕ)) (call : Call) (asked : RunCall) (ended : Status) (journal : List Entry) (input input' output output' sink sink' : ℕ) (faults faults' : ℕ → ℕ)
     → call ≡ Runs asked → (ended ≡ status.ReadFault → Rose input input') → (ended ≡ status.WriteFault → Rose output output') → (ended ≡ status.JournalFault → Rose sink sink')
     → IsDiskFault ended (λ post. Rose (faults post) (faults' post)) → IsNoRoom ended (ShowsShort asked.pool journal)
-    → IfSome left (λ bytes. AllTell asked.pool.workers (post_files files posts) → MayEndAs (ending_of asked bytes) ended)
-    → ForRun call (λ asked. IfSome left (λ bytes. AllTell asked.pool.workers (post_files files posts) → (text : List ℕ) → ending_of asked bytes ≡ Prints text
+    → IfSome left (λ bytes. AllTell asked (post_files files posts) store → MayEndAs (ending_of asked bytes) ended)
+    → ForRun call (λ asked. IfSome left (λ bytes. AllTell asked (post_files files posts) store → (text : List ℕ) → ending_of asked bytes ≡ Prints text
     → FailsNothing input input' output output' sink sink' faults faults' → GrantsAll journal → (ended ≡ status.Done) ⊎ (ended ≡ status.NoMemory)))
-completes_call files posts None call asked ended journal input input' output output' sink sink' faults faults' is read write records disk no_room ends = for_run call asked _ is _
-completes_call files posts (Some bytes) call asked ended journal input input' output output' sink sink' faults faults' is read write records disk no_room ends =
+completes_call files store posts None call asked ended journal input input' output output' sink sink' faults faults' is read write records disk no_room ends = for_run call asked _ is _
+completes_call files store posts (Some bytes) call asked ended journal input input' output output' sink sink' faults faults' is read write records disk no_room ends =
     for_run call asked
-    (λ asked. AllTell asked.pool.workers (post_files files posts) → (text : List ℕ) → ending_of asked bytes ≡ Prints text
+    (λ asked. AllTell asked (post_files files posts) store → (text : List ℕ) → ending_of asked bytes ≡ Prints text
     → FailsNothing input input' output output' sink sink' faults faults' → GrantsAll journal → (ended ≡ status.Done) ⊎ (ended ≡ status.NoMemory))
     is (λ tell text prints nothing all. completes ended (ending_of asked bytes) text asked.pool journal input input' output output' sink sink' faults faults' prints nothing all read write records disk no_room (ends tell))

@@ -4,20 +4,22 @@ use Rattle.std.specs.Prelude.{if◌then◌else◌}
 use Rattle.std.proofs.Math.Nat.{add-mul-mod_self_right, mod-eq_of_lt, mul-le-mul_right}
 use Rattle.std.proofs.lemmas.Bool.{lt-ltb, le-ltb}
 use Rattle.std.proofs.lemmas.List.{get_or-set_same, get_or_default}
+use Rattle.pool_ledger.specs.Blocks.{worker_pin}
 use Rattle.pool_ledger.specs.History.{open_task, was_begun}
 use Rattle.pool_ledger.specs.Journal.{history_of}
 use Rattle.pool_ledger.specs.Workers.{entries_of}
 use Rattle.pool_ledger.specs.declared.entry.Entry.{Entry}
 use Rattle.turn_lock.specs.Passes.{LockId, PassState}
 use Rattle.memory_lock.specs.Crew.{AreNew, AreWorkers}
-use Rattle.memory_lock.specs.Workers.{IsFree, own_entries, own_of}
+use Rattle.memory_lock.specs.Workers.{HasNoPin, IsFree, KeepsPin, SeesMore, own_entries, own_of}
 use Rattle.task_runner.specs.AtOnce.{MayDoAll}
 use Rattle.task_runner.specs.PassViews.{PassView, parts_of, task_for}
 use Rattle.task_runner.specs.Workers.{AreTasks, DoesAll, DoesSome, IsCount, part_at}
 use Rattle.task_runner.specs.Works.{IsTaskOf, MayWork, Works}
-use Rattle.csv_program.specs.Doing.{AreBetween, BeginsOwn, DoesOwn, EachBegins, EachDoes, OwnsPass}
+use Rattle.task_pool.proofs.GoingOn.{sees_itself, sees_more}
+use Rattle.csv_program.specs.Doing.{AreBetween, BeginsOwn, Clears, DoesOwn, EachBegins, EachDoes, EachSees, OwnsPass}
 use Rattle.csv_program.specs.Tasks.{owner_of, worker_at}
-use Rattle.csv_program.proofs.Deeds.{begins_final, begins_other, begins_tasks, does_none, does_raise, does_task, does_tasks, fresh_from, worker_of}
+use Rattle.csv_program.proofs.Deeds.{begins_cleared, begins_final, begins_other, begins_tasks, does_cleared, does_none, does_raise, does_task, does_tasks, fresh_from, worker_of}
 
 -- ---- whose tasks they are
 
@@ -50,6 +52,7 @@ pub new_between : (owner : ℕ → Option ℕ) (lock : LockId) (workers limit : 
 new_between owner lock workers limit olds are new = record {
   workers_are = are;
   free = λ w any below. ap (λ (es : List Entry). open_task (history_of es) (get_or olds w any).number) (own_none lock workers olds are new w any below);
+  unpinned = λ w any below. ap (λ (es : List Entry). worker_pin (history_of es) (get_or olds w any).number) (own_none lock workers olds are new w any below);
   does = λ w any below. does_none owner w limit (own_entries (get_or olds w any)) (own_none lock workers olds are new w any below);
 }
 
@@ -61,6 +64,7 @@ fresh_each owner workers limit task olds did most w any below = fresh_from owner
 pub may_do : (owner : ℕ → Option ℕ) (lock : LockId) (workers : ℕ) (pass : PassView) (olds : List PassState) → OwnsPass owner workers (parts_of pass) pass.first → AreBetween lock owner workers pass.first olds → MayDoAll owner workers pass olds
 may_do owner lock workers pass olds owns are = record {
   free = are.free;
+  unpinned = are.unpinned;
   owns = λ part inside. own_part owner workers (parts_of pass) pass.first part owns inside;
   fresh = λ w part any below inside. fresh_each owner workers pass.first (task_for pass part) olds are.does (omega arith) w any below;
 }
@@ -132,10 +136,11 @@ begun_final owner lock workers partitions first mids news owns are began works o
 -- the workers did their tasks, and not the final one
 pub between_tasks : (owner : ℕ → Option ℕ) (lock : LockId) (workers partitions first : ℕ) (olds mids : List PassState) → 0 < workers → OwnsPass owner workers partitions first → AreBetween lock owner workers first olds → AreWorkers lock workers mids
     → ((w : ℕ) (any : PassState) → w < workers → DoesSome first workers partitions (get_or olds w any) (get_or mids w any)) → ((w : ℕ) (any : PassState) → w < workers → IsFree (get_or mids w any))
-    → AreBetween lock owner workers (first + partitions) mids
-between_tasks owner lock workers partitions first olds mids some owns old are more free = record {
+    → ((w : ℕ) (any : PassState) → w < workers → KeepsPin (get_or olds w any) (get_or mids w any)) → AreBetween lock owner workers (first + partitions) mids
+between_tasks owner lock workers partitions first olds mids some owns old are more free pins = record {
   workers_are = are;
   free = free;
+  unpinned = λ w any below. pins w any below ∙ old.unpinned w any below;
   does = tasks_each owner lock workers partitions first olds mids some owns old.workers_are old.does more;
 }
 
@@ -143,16 +148,18 @@ pub between_more : (owner : ℕ → Option ℕ) (lock : LockId) (workers limit h
 between_more owner lock workers limit higher states most are = record {
   workers_are = are.workers_are;
   free = are.free;
+  unpinned = are.unpinned;
   does = λ w any below. does_raise owner w limit higher (own_entries (get_or states w any)) most (are.does w any below);
 }
 
 -- and maybe the final one
 pub between_passes : (owner : ℕ → Option ℕ) (lock : LockId) (workers partitions first : ℕ) (mids news : List PassState) → OwnsPass owner workers partitions first → AreBetween lock owner workers (first + partitions) mids → AreWorkers lock workers news
-    → ((any : PassState) → MayWork (partitions + first) (get_or mids 0 any) (get_or news 0 any)) → ((any : PassState) → IsFree (get_or news 0 any))
+    → ((any : PassState) → MayWork (partitions + first) (get_or mids 0 any) (get_or news 0 any)) → ((any : PassState) → IsFree (get_or news 0 any)) → ((any : PassState) → KeepsPin (get_or mids 0 any) (get_or news 0 any))
     → ((w : ℕ) (any : PassState) → w ≢ 0 → get_or news w any ≡ get_or mids w any) → AreBetween lock owner workers (first + partitions + 1) news
-between_passes owner lock workers partitions first mids news owns mid are may free others = record {
+between_passes owner lock workers partitions first mids news owns mid are may free pin others = record {
   workers_are = are;
   free = free_each;
+  unpinned = pin_each;
   does = final_each owner lock workers partitions first mids news owns mid.workers_are mid.does may others;
 }
   where
@@ -160,12 +167,57 @@ between_passes owner lock workers partitions first mids news owns mid are may fr
     free_each zero any below = free any
     free_each (suc w) any below = subst IsFree (sym (others (suc w) any (λ same. absurd (omega (arith, same))))) (mid.free (suc w) any below)
 
+    pin_each : (w : ℕ) (any : PassState) → w < workers → HasNoPin (get_or news w any)
+    pin_each zero any below = pin any ∙ mid.unpinned 0 any below
+    pin_each (suc w) any below = subst HasNoPin (sym (others (suc w) any (λ same. absurd (omega (arith, same))))) (mid.unpinned (suc w) any below)
+
 -- each worker began all tasks of the pass that are its own
 pub begun_pass : (owner : ℕ → Option ℕ) (lock : LockId) (workers partitions first : ℕ) (olds mids news : List PassState) → OwnsPass owner workers partitions first → AreWorkers lock workers olds → AreWorkers lock workers mids → EachBegins owner workers first olds
     → ((w : ℕ) (any : PassState) → w < workers → DoesAll first workers partitions (get_or olds w any) (get_or mids w any)) → ((any : PassState) → Works (partitions + first) (get_or mids 0 any) (get_or news 0 any))
     → ((w : ℕ) (any : PassState) → w ≢ 0 → get_or news w any ≡ get_or mids w any) → EachBegins owner workers (first + partitions + 1) news
 begun_pass owner lock workers partitions first olds mids news owns old mid began more works others =
     begun_final owner lock workers partitions first mids news owns mid (begun_each owner lock workers partitions first olds mids owns old began more) works others
+
+-- ---- blocks that are removed
+
+-- what the first worker clears between two tasks changes nothing of the others
+cleared_each : (P : ℕ → PassState → Type 0) (datasets : List ℕ) (workers : ℕ) (mids news : List PassState) → ((any : PassState) → Clears datasets (get_or mids 0 any) (get_or news 0 any))
+    → ((w : ℕ) (any : PassState) → w ≢ 0 → get_or news w any ≡ get_or mids w any) → ((before after : PassState) → Clears datasets before after → P 0 before → P 0 after)
+    → ((w : ℕ) (any : PassState) → w < workers → P w (get_or mids w any)) → (w : ℕ) (any : PassState) → w < workers → P w (get_or news w any)
+cleared_each P datasets workers mids news clears others stays were zero any below = stays (get_or mids 0 any) (get_or news 0 any) (clears any) (were 0 any below)
+cleared_each P datasets workers mids news clears others stays were (suc w) any below = subst (P (suc w)) (sym (others (suc w) any (λ same. absurd (omega (arith, same))))) (were (suc w) any below)
+
+pub between_cleared : (owner : ℕ → Option ℕ) (lock : LockId) (workers limit : ℕ) (datasets : List ℕ) (mids news : List PassState) → AreWorkers lock workers news → ((any : PassState) → Clears datasets (get_or mids 0 any) (get_or news 0 any))
+    → ((w : ℕ) (any : PassState) → w ≢ 0 → get_or news w any ≡ get_or mids w any) → AreBetween lock owner workers limit mids → AreBetween lock owner workers limit news
+between_cleared owner lock workers limit datasets mids news are clears others mid = record {
+  workers_are = are;
+  free = cleared_each (λ w s. IsFree s) datasets workers mids news clears others (λ before after cleared free. cleared.task ∙ free) mid.free;
+  unpinned = cleared_each (λ w s. HasNoPin s) datasets workers mids news clears others (λ before after cleared none. cleared.pin ∙ none) mid.unpinned;
+  does = cleared_each (λ w s. DoesOwn owner w limit (own_entries s)) datasets workers mids news clears others
+      (λ before after cleared did. subst (DoesOwn owner 0 limit) (sym cleared.adds) (does_cleared owner 0 limit before.number datasets (own_entries before) cleared.removed cleared.all did)) mid.does;
+}
+
+pub begun_cleared : (owner : ℕ → Option ℕ) (workers limit : ℕ) (datasets : List ℕ) (mids news : List PassState) → ((any : PassState) → Clears datasets (get_or mids 0 any) (get_or news 0 any))
+    → ((w : ℕ) (any : PassState) → w ≢ 0 → get_or news w any ≡ get_or mids w any) → EachBegins owner workers limit mids → EachBegins owner workers limit news
+begun_cleared owner workers limit datasets mids news clears others began =
+    cleared_each (λ w s. BeginsOwn owner w limit (own_entries s)) datasets workers mids news clears others
+    (λ before after cleared began. subst (BeginsOwn owner 0 limit) (sym cleared.adds) (begins_cleared owner 0 limit before.number datasets (own_entries before) cleared.removed cleared.all began)) began
+
+-- ---- what they have seen
+
+-- only the first went on
+pub sees_first : (workers : ℕ) (mids news : List PassState) → ((any : PassState) → SeesMore (get_or mids 0 any) (get_or news 0 any))
+    → ((w : ℕ) (any : PassState) → w ≢ 0 → get_or news w any ≡ get_or mids w any) → EachSees workers mids news
+sees_first workers mids news sees others zero any below = sees any
+sees_first workers mids news sees others (suc w) any below =
+    subst (λ (s : PassState). SeesMore (get_or mids (suc w) any) s) (sym (others (suc w) any (λ same. absurd (omega (arith, same))))) (sees_itself (get_or mids (suc w) any))
+
+pub sees_cleared : (datasets : List ℕ) (workers : ℕ) (mids news : List PassState) → ((any : PassState) → Clears datasets (get_or mids 0 any) (get_or news 0 any))
+    → ((w : ℕ) (any : PassState) → w ≢ 0 → get_or news w any ≡ get_or mids w any) → EachSees workers mids news
+sees_cleared datasets workers mids news clears others = sees_first workers mids news (λ any. (clears any).sees) others
+
+pub sees_then : (workers : ℕ) (olds mids news : List PassState) → EachSees workers olds mids → EachSees workers mids news → EachSees workers olds news
+sees_then workers olds mids news first last w any below = sees_more (get_or olds w any) (get_or mids w any) (get_or news w any) (first w any below) (last w any below)
 
 -- ---- the worker that was lent
 

@@ -16,8 +16,9 @@ use Rattle.task_pool.proofs.GoingOn.{all_append}
 use Rattle.memory_lock.proofs.Staying.{all_imply}
 use Rattle.task_pool.specs.Asks.{IsOfTask}
 use Rattle.task_runner.specs.Workers.{AreTasks, IsCount, part_at}
-use Rattle.task_runner.specs.Works.{IsTaskOf}
-use Rattle.csv_program.specs.Doing.{BeginsOwn, DoesOwn}
+use Rattle.lineage.specs.Entries.{IsRowsWork}
+use Rattle.task_runner.specs.Works.{IsInTask, IsTaskOf}
+use Rattle.csv_program.specs.Doing.{BeginsOwn, DoesOwn, IsRemovalOf}
 use Rattle.csv_program.specs.Tasks.{begun_by, begun_in}
 use Rattle.csv_program.proofs.Journals.{total_append, total_reverse}
 
@@ -39,8 +40,29 @@ asks_amid worker task entry is = elim is [
   ]
 ]
 
-are_amid : (worker task : ℕ) (entries : List Entry) → AllByRecursion (IsOfTask worker task) entries → AllByRecursion Amid entries
-are_amid worker task entries all = all_imply (IsOfTask worker task) Amid (asks_amid worker task) entries all
+rows_amid : (worker : ℕ) (entry : Entry) → IsRowsWork worker entry → Amid entry
+rows_amid worker entry is = elim is [
+  | inl pinning ↦ elim pinning [
+    | inl pin ↦ subst Amid (sym pin.3) (record { begins_none = λ t. refl; ends_none = λ t. refl; leaves = λ later. refl; owned = λ owner w. tt })
+    | inr unpin ↦ subst Amid (sym unpin.2) (record { begins_none = λ t. refl; ends_none = λ t. refl; leaves = λ later. refl; owned = λ owner w. tt })
+  ]
+  | inr other ↦ elim other [
+    | inl keeping ↦ elim keeping [
+      | inl admit ↦ subst Amid (sym admit.6) (record { begins_none = λ t. refl; ends_none = λ t. refl; leaves = λ later. refl; owned = λ owner w. tt })
+      | inr refused ↦ subst Amid (sym refused.5) (record { begins_none = λ t. refl; ends_none = λ t. refl; leaves = λ later. refl; owned = λ owner w. tt })
+    ]
+    | inr eviction ↦ subst Amid (sym eviction.4) (record { begins_none = λ t. refl; ends_none = λ t. refl; leaves = λ later. refl; owned = λ owner w. tt })
+  ]
+]
+
+removal_amid : (worker : ℕ) (datasets : List ℕ) (entry : Entry) → IsRemovalOf worker datasets entry → Amid entry
+removal_amid worker datasets entry is = subst Amid (sym is.4) (record { begins_none = λ t. refl; ends_none = λ t. refl; leaves = λ later. refl; owned = λ owner w. tt })
+
+in_task_amid : (worker task : ℕ) (entry : Entry) → IsInTask worker task entry → Amid entry
+in_task_amid worker task entry is = elim is [ inl asks ↦ asks_amid worker task entry asks | inr work ↦ rows_amid worker entry work ]
+
+are_amid : (worker task : ℕ) (entries : List Entry) → AllByRecursion (IsInTask worker task) entries → AllByRecursion Amid entries
+are_amid worker task entries all = all_imply (IsInTask worker task) Amid (in_task_amid worker task) entries all
 
 none_begun : (t : ℕ) (entries : List Entry) → AllByRecursion Amid entries → total (begin_of t) entries ≡ 0
 none_begun t [] all = refl
@@ -59,7 +81,7 @@ task_begins worker task t entries is =
     let last = entry_by worker (End task is.freed) in
     let whole : total (begin_of t) entries ≡ total (begin_of t) (is.amid ++ last ∷ []) + mark task t = ap (total (begin_of t)) is.are in
     let split = total_append (begin_of t) is.amid (last ∷ []) in
-    let amid = none_begun t is.amid (are_amid worker task is.amid is.asks) in
+    let amid = none_begun t is.amid (are_amid worker task is.amid is.all) in
     omega (arith, whole, split, amid)
 
 task_ends : (worker task t : ℕ) (entries : List Entry) → IsTaskOf worker task entries → total (end_of t) entries ≡ mark task t
@@ -67,7 +89,7 @@ task_ends worker task t entries is =
     let last = entry_by worker (End task is.freed) in
     let whole : total (end_of t) entries ≡ total (end_of t) (is.amid ++ last ∷ []) + 0 = ap (total (end_of t)) is.are in
     let split : total (end_of t) (is.amid ++ last ∷ []) ≡ total (end_of t) is.amid + (0 + mark task t) = total_append (end_of t) is.amid (last ∷ []) in
-    let amid = none_ended t is.amid (are_amid worker task is.amid is.asks) in
+    let amid = none_ended t is.amid (are_amid worker task is.amid is.all) in
     omega (arith, whole, split, amid)
 
 task_owned : (owner : ℕ → Option ℕ) (worker task : ℕ) (entries : List Entry) → IsTaskOf worker task entries → owner task ≡ Some worker → AllByRecursion (λ entry. IsByOwner owner worker entry.event) entries
@@ -76,7 +98,7 @@ task_owned owner worker task entries is owns =
     subst (AllByRecursion (λ entry. IsByOwner owner worker entry.event)) (sym is.are) (
       owns,
       all_append (λ entry. IsByOwner owner worker entry.event) is.amid (last ∷ [])
-          (all_imply Amid (λ entry. IsByOwner owner worker entry.event) (λ entry amid. amid.owned owner worker) is.amid (are_amid worker task is.amid is.asks)) (tt, tt),
+          (all_imply Amid (λ entry. IsByOwner owner worker entry.event) (λ entry amid. amid.owned owner worker) is.amid (are_amid worker task is.amid is.all)) (tt, tt),
     )
 
 by_append : (event : Event) (xs ys : List ℕ) → begun_by event (xs ++ ys) ≡ begun_by event xs ++ ys
@@ -97,7 +119,7 @@ task_begun : (worker task : ℕ) (entries : List Entry) → IsTaskOf worker task
 unfolding begun_in
 task_begun worker task entries is =
     let last = entry_by worker (End task is.freed) in
-    ap begun_in is.are ∙ ap (λ (ts : List ℕ). task ∷ ts) (amid_begun is.amid (last ∷ []) (are_amid worker task is.amid is.asks))
+    ap begun_in is.are ∙ ap (λ (ts : List ℕ). task ∷ ts) (amid_begun is.amid (last ∷ []) (are_amid worker task is.amid is.all))
 
 marked : (task : ℕ) → mark task task ≡ 1
 marked task = rw (eq-eqb task task refl) refl
@@ -157,6 +179,20 @@ does_task owner w limit task entries added most owns is did =
       ascend = subst (AllPairs (λ earlier later. earlier < later)) (sym begun)
           (all_pairs_push (λ earlier later. earlier < later) (begun_in entries) task did.ascend (λ k d inside. at_place (λ t. t < task) (begun_in entries) k d (all_raise limit task (begun_in entries) most did.below) inside));
       ended = λ t. ended_then t entries added (did.ended t) (task_ends w task t added is ∙ sym (task_begins w task t added is));
+    }
+
+-- removals beside those that it did
+pub does_cleared : (owner : ℕ → Option ℕ) (w limit number : ℕ) (datasets : List ℕ) (entries removed : List Entry) → AllByRecursion (IsRemovalOf number datasets) removed → DoesOwn owner w limit entries → DoesOwn owner w limit (entries ++ removed)
+unfolding begun_in
+does_cleared owner w limit number datasets entries removed all did =
+    let amid : AllByRecursion Amid removed = all_imply (IsRemovalOf number datasets) Amid (removal_amid number datasets) removed all in
+    let begun : begun_in (entries ++ removed) ≡ begun_in entries =
+    begun_append entries removed ∙ ap (λ (ts : List ℕ). begun_in entries ++ ts) (ap begun_in (sym (append-nil removed)) ∙ amid_begun removed [] amid) ∙ append-nil (begun_in entries) in
+    record {
+      owned = all_append (λ entry. IsByOwner owner w entry.event) entries removed did.owned (all_imply Amid (λ entry. IsByOwner owner w entry.event) (λ entry amid. amid.owned owner w) removed amid);
+      below = subst (AllByRecursion (λ t. t < limit)) (sym begun) did.below;
+      ascend = subst (AllPairs (λ earlier later. earlier < later)) (sym begun) did.ascend;
+      ended = λ t. ended_then t entries removed (did.ended t) (none_ended t removed amid ∙ sym (none_begun t removed amid));
     }
 
 parts_rise : (workers w k : ℕ) → 0 < workers → (j : ℕ) → j < k → part_at workers w j < part_at workers w k
@@ -235,6 +271,12 @@ begins_final owner first partitions w entries added is began task within mine =
           let one : mark (partitions + first) task ≡ 1 = ap (mark (partitions + first)) (sym same) ∙ marked (partitions + first) in
           omega (arith, more, here, one)
     ]
+
+pub begins_cleared : (owner : ℕ → Option ℕ) (w limit number : ℕ) (datasets : List ℕ) (entries removed : List Entry) → AllByRecursion (IsRemovalOf number datasets) removed → BeginsOwn owner w limit entries → BeginsOwn owner w limit (entries ++ removed)
+begins_cleared owner w limit number datasets entries removed all began task within mine =
+    let more = begins_more task entries removed in
+    let before = began task within mine in
+    omega (arith, more, before)
 
 -- which is the first worker's alone
 pub begins_other : (owner : ℕ → Option ℕ) (first partitions w : ℕ) (entries : List Entry) → owner (partitions + first) ≡ Some 0 → w ≢ 0 → BeginsOwn owner w (first + partitions) entries → BeginsOwn owner w (first + partitions + 1) entries

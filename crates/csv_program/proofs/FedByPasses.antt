@@ -19,6 +19,7 @@ use Rattle.job_plan.specs.Plans.{chain_in, datasets_in, kept_at, passes_in, quer
 use Rattle.job_plan.specs.declared.query_plan.Plan.{Plan}
 use Rattle.job_text.specs.declared.job.Shape.{Shape}
 use Rattle.job_text.specs.declared.job.Shape.TheVariants.{Group, Order}
+use Rattle.memory_core.specs.Caches.{RowsByName}
 use Rattle.task_runner.specs.Consumers.{fed_after, place_of}
 use Rattle.task_runner.specs.Pass.{FeedsParts}
 use Rattle.task_runner.specs.PartAnswers.{HoldsOwn}
@@ -167,19 +168,19 @@ pub feeds_none : (states : List State) (plan : Plan) (partitions : ℕ) (rows : 
 feeds_none states plan partitions rows workers w count all place = refl
 
 -- one pass more
-pub feeds_more : (states mids states' : List State) (files : Option Files) (plan : Plan) (parts : List Run) (first : ℕ) (rows : ℕ → List Fields) (workers w k : ℕ) → HasPasses plan → k < length (passes_in plan)
+pub feeds_more : (states mids states' : List State) (files : Option Files) (plan : Plan) (parts : List Run) (part_rows first : ℕ) (given : RowsByName) (rows : ℕ → List Fields) (workers w k : ℕ) → HasPasses plan → k < length (passes_in plan)
     → FeedsUpTo states mids plan (length parts) rows workers w k
-    → FeedsParts mids states' files (pass_with plan (slice_index_or (passes_in plan) k 0) (slice_index_or (queries_in plan) k []) parts first) workers w
-    → HoldsOwn files (pass_with plan (slice_index_or (passes_in plan) k 0) (slice_index_or (queries_in plan) k []) parts first) workers w rows
+    → FeedsParts mids states' files given (pass_with plan (slice_index_or (passes_in plan) k 0) (slice_index_or (queries_in plan) k []) parts part_rows first) workers w
+    → HoldsOwn files given (pass_with plan (slice_index_or (passes_in plan) k 0) (slice_index_or (queries_in plan) k []) parts part_rows first) workers w rows
     → FeedsUpTo states states' plan (length parts) rows workers w (k + 1)
-feeds_more states mids states' files plan parts first rows workers w k has below before feeds holds count all place =
+feeds_more states mids states' files plan parts part_rows first given rows workers w k has below before feeds holds count all place =
     let datasets = datasets_in plan in
     let dataset = slice_index_or (passes_in plan) k 0 in
     let queries = slice_index_or (queries_in plan) k [] in
     let many = rows_of plan rows workers w count in
     let weight : ℕ → ℕ = λ dataset. if is_used (kept_at plan) (queries_over datasets dataset) place then many dataset else 0 in
     let same : feeds.tasks ≡ count = one_count workers w (length parts) feeds.tasks count feeds.all all in
-    let fed : feeds.count ≡ many dataset = feeds.known rows holds ∙ rows_alike (pass_with plan dataset queries parts first) workers w rows feeds.tasks
+    let fed : feeds.count ≡ many dataset = feeds.known rows holds ∙ rows_alike (pass_with plan dataset queries parts part_rows first) workers w rows feeds.tasks
     ∙ ap (λ (n : ℕ). rows_of plan rows workers w n dataset) same in
     let here : (if is_used (kept_at plan) queries place then feeds.count else 0) ≡ weight dataset =
     ap (λ (n : ℕ). if is_used (kept_at plan) queries place then n else 0) fed

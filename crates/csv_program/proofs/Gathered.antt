@@ -15,16 +15,17 @@ use Rattle.run_file.specs.Several.{HasEntries, KeepsFile, concatenated, run_at}
 use Rattle.row_filter.specs.Derived.{derived}
 use Rattle.job_plan.specs.Columns.{Fields}
 use Rattle.job_plan.specs.Entries.{entry_of}
-use Rattle.job_plan.specs.Plans.{chain_in, form_in, kept_at, kept_in, kind_at, passes_in, queries_in}
+use Rattle.job_plan.specs.Plans.{chain_in, kept_at, kept_in, kind_at, passes_in, queries_in}
 use Rattle.job_plan.specs.declared.query_plan.Plan.{Plan}
 use Rattle.result_table.specs.Results.{HasResult}
-use Rattle.task_runner.specs.Parts.{HoldsRows}
-use Rattle.task_runner.specs.PartAnswers.{HoldsAll, HoldsOwn}
+use Rattle.memory_core.specs.Caches.{RowsByName}
+use Rattle.lineage.specs.Standing.{IsSaid}
+use Rattle.task_runner.specs.PartAnswers.{HoldsAll, HoldsOwn, HoldsPart}
 use Rattle.task_runner.specs.Pass.{KeepsAll}
 use Rattle.task_runner.specs.PassViews.{PassView, pass_with}
 use Rattle.task_runner.specs.Workers.{answer_at, part_at}
 use Rattle.csv_program.specs.Passing.{ArePut, HavePass, IsPutAt}
-use Rattle.csv_program.specs.QueryResults.{HasPasses, HaveResults, HoldsParts, dataset_in, totals_of_parts}
+use Rattle.csv_program.specs.QueryResults.{HasPasses, HaveResults, HoldsParts, SaysParts, dataset_in, lineage_in, totals_of_parts}
 use Rattle.csv_program.proofs.Deeds.{worker_of}
 use Rattle.csv_program.proofs.Served.{dataset_of_pass, place_in_pass, served_by}
 
@@ -52,16 +53,30 @@ result_kept before after kind None entries kept has = has
 result_kept before after kind (Some run) entries kept has = has_kept (before run.disk) (after run.disk) kind run entries (kept run.disk run.file) has
 
 -- landed runs that stood stand
-pub parts_kept : (before after : ℕ → Option Files) (plan : Plan) (parts : List Run) (workers : ℕ) (rows : ℕ → List Fields) → KeepsAll before after → HoldsParts before plan parts workers rows → HoldsParts after plan parts workers rows
-parts_kept before after plan parts workers rows kept holds part within =
+pub parts_kept : (before after : ℕ → Option Files) (given : RowsByName) (plan : Plan) (parts : List Run) (part_rows workers : ℕ) (rows : ℕ → List Fields) → KeepsAll before after
+    → HoldsParts before given plan parts part_rows workers rows → HoldsParts after given plan parts part_rows workers rows
+parts_kept before after given plan parts part_rows workers rows kept holds part within =
     let held = holds part within in
     let run = run_at parts part in
-    record { stands = stands_at (before (part % workers)) (after (part % workers)) run (rows part) (kept (part % workers) run.file) held.stands; formed = held.formed }
+    (record { stands = stands_at (before (part % workers)) (after (part % workers)) run (rows part) (kept (part % workers) run.file) held.0.stands; formed = held.0.formed }, held.1)
+
+-- and what is said of the rows of blocks stays so
+pub says_kept : (before after : ℕ → Option Files) (given : RowsByName) (plan : Plan) (parts : List Run) (part_rows workers : ℕ) → KeepsAll before after
+    → SaysParts before given plan parts part_rows workers → SaysParts after given plan parts part_rows workers
+says_kept before after given plan parts part_rows workers kept says part within dataset rows some there is =
+    let said : IsSaid given (before (part % workers)) (lineage_in plan parts part_rows) part dataset rows = says part within dataset rows some there is in
+    let run = run_at parts part in
+    record {
+      input = said.input;
+      holds = record { stands = stands_at (before (part % workers)) (after (part % workers)) run said.input (kept (part % workers) run.file) said.holds.stands; formed = said.holds.formed };
+      rows_are = said.rows_are;
+      kept = said.kept;
+    }
 
 -- those of a worker are on its own disk
-pub own_of_parts : (files : ℕ → Option Files) (pass : PassView) (workers w : ℕ) (rows : ℕ → List Fields) → w < workers → HoldsAll files pass workers rows → HoldsOwn (files w) pass workers w rows
-own_of_parts files pass workers w rows below holds k within =
-    subst (λ (disk : ℕ). HoldsRows (files disk) (form_in pass.plan) (run_at pass.parts (part_at workers w k)) (rows (part_at workers w k))) (worker_of workers w k below) (holds (part_at workers w k) within)
+pub own_of_parts : (files : ℕ → Option Files) (given : RowsByName) (pass : PassView) (workers w : ℕ) (rows : ℕ → List Fields) → w < workers → HoldsAll files given pass workers rows → HoldsOwn (files w) given pass workers w rows
+own_of_parts files given pass workers w rows below holds k within =
+    subst (λ (disk : ℕ). HoldsPart (files disk) given pass (part_at workers w k) (rows (part_at workers w k))) (worker_of workers w k below) (holds (part_at workers w k) within)
 
 -- ---- answers that are put at their places
 
@@ -91,9 +106,9 @@ pass_total : (plan : Plan) (dataset query : ℕ) (partitions : ℕ) (rows : ℕ 
 pass_total plan dataset query partitions rows over =
     ap (λ (d : ℕ). total (kind_at plan query) (concatenated (map (λ part. map (entry_of (kept_at plan query)) (derived (chain_in plan) d (rows part))) (range_with_len 0 partitions)))) (sym over)
 
-module _ (plan : Plan) (k : ℕ) (parts : List Run) (first : ℕ) (rows : ℕ → List Fields) (has : HasPasses plan) (below : k < length (passes_in plan)) where
+module _ (plan : Plan) (k : ℕ) (parts : List Run) (part_rows first : ℕ) (rows : ℕ → List Fields) (has : HasPasses plan) (below : k < length (passes_in plan)) where
   abbrev pass : PassView
-  pass = pass_with plan (slice_index_or (passes_in plan) k 0) (slice_index_or (queries_in plan) k []) parts first
+  pass = pass_with plan (slice_index_or (passes_in plan) k 0) (slice_index_or (queries_in plan) k []) parts part_rows first
 
   abbrev totals : ℕ → List Entry
   totals = totals_of_parts plan (length parts) rows

@@ -21,6 +21,9 @@ pub mod Crews
 pub mod Served
 pub mod FedByPasses
 pub mod Gathered
+pub mod Based
+pub mod CachedTasks
+pub mod RemovedBlocks
 pub mod Leaving
 pub mod Passed
 pub mod Followed

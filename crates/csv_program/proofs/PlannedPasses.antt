@@ -12,6 +12,7 @@ pub passes_planned : (job : Job) (header : Fields) (plan : Plan) → IsPlanOf jo
 passes_planned job header plan made = record {
   passes = made.passes ∙ ap pass_datasets (sym made.datasets);
   queries = made.queries ∙ ap (λ (datasets : List ℕ). map (queries_over datasets) (pass_datasets datasets)) (sym made.datasets);
+  based = made.base;
 }
 
 -- there are as many as the job makes

@@ -19,13 +19,15 @@ use Rattle.job_plan.specs.Planning.{IsPlanned}
 use Rattle.job_plan.specs.Plans.{chain_in, form_in, kept_at, kept_in, no_shape}
 use Rattle.job_plan.specs.declared.planned.Planned.{Planned}
 use Rattle.job_plan.specs.declared.query_plan.Plan.{Plan}
-use Rattle.landing.specs.Landed.{AreChecked, AreLanded, partition_of}
+use Rattle.memory_core.specs.Caches.{RowsByName}
+use Rattle.landing.specs.Landed.{AreChecked, partition_of}
 use Rattle.row_filter.specs.Chains.{links_of}
 use Rattle.row_filter.specs.Derived.{derived, passes_own}
 use Rattle.row_filter.specs.Lines.{line}
 use Rattle.csv_program.specs.Endings.{CanBeTold, totals_of}
-use Rattle.csv_program.specs.Posts.{AllTell}
+use Rattle.csv_program.specs.Basis.{StandAs}
 use Rattle.csv_program.specs.QueryResults.{HoldsParts, dataset_in}
+use Rattle.csv_program.specs.declared.call.RunCall.{RunCall}
 use Rattle.csv_program.proofs.Pieces.{each_narrow}
 
 -- how many columns an order tells
@@ -72,19 +74,20 @@ told_plan plan rows law checked narrow query below =
 
 -- ---- the rows of partitions
 
-all_drop : {X : Type 0} (P : X → Type 0) (n : ℕ) (xs : List X) → AllByRecursion P xs → AllByRecursion P (drop n xs)
+pub all_drop : {X : Type 0} (P : X → Type 0) (n : ℕ) (xs : List X) → AllByRecursion P xs → AllByRecursion P (drop n xs)
 all_drop P zero xs all = all
 all_drop P (suc n) [] all = tt
 all_drop P (suc n) (x ∷ xs) all = all_drop P n xs all.1
 
-all_take : {X : Type 0} (P : X → Type 0) (n : ℕ) (xs : List X) → AllByRecursion P xs → AllByRecursion P (take n xs)
+pub all_take : {X : Type 0} (P : X → Type 0) (n : ℕ) (xs : List X) → AllByRecursion P xs → AllByRecursion P (take n xs)
 all_take P zero xs all = tt
 all_take P (suc n) [] all = tt
 all_take P (suc n) (x ∷ xs) all = (all.0, all_take P n xs all.1)
 
-pub holds_parts : (files : ℕ → Option Files) (plan : Plan) (part_rows workers : ℕ) (parts : List Run) (rows : List Fields) → 1 ≤ workers → AllTell workers files → AreLanded files part_rows workers parts rows → AreChecked (form_in plan) rows
-    → HoldsParts files plan parts workers (λ part. partition_of part_rows part rows)
-holds_parts files plan part_rows workers parts rows some tell landed checked part below = record {
-  stands = landed.stand part below (tell (part % workers) (mod-lt part some));
-  formed = all_take (HasForm (form_in plan)) part_rows (drop (part * part_rows) rows) (all_drop (HasForm (form_in plan)) (part * part_rows) rows checked.formed);
-}
+pub holds_parts : (given : RowsByName) (files : ℕ → Option Files) (asked : RunCall) (plan : Plan) (parts : List Run) (rows : List Fields) → 1 ≤ asked.pool.workers → StandAs given files asked plan parts rows
+    → HoldsParts files given plan parts asked.part_rows asked.pool.workers (λ part. partition_of asked.part_rows part rows)
+holds_parts given files asked plan parts rows some stand part below =
+    (record {
+      stands = stand.landed.stand part below (stand.tell (part % asked.pool.workers) (mod-lt part some));
+      formed = all_take (HasForm (form_in plan)) asked.part_rows (drop (part * asked.part_rows) rows) (all_drop (HasForm (form_in plan)) (part * asked.part_rows) rows stand.checked.formed);
+    }, stand.says part below)

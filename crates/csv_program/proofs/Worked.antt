@@ -15,6 +15,7 @@ use Rattle.run_file.specs.Several.{HasEntries, HaveEntries, KeepsFile, concatena
 use Rattle.consumer_trait.specs.States.{State}
 use Rattle.job_answer.specs.Parts.{PartsTellAll}
 use Rattle.result_table.specs.Results.{HasResult}
+use Rattle.memory_core.specs.Caches.{RowsByName}
 use Rattle.task_memory.specs.RunLists.{runs_at}
 use Rattle.task_memory.proofs.Places.{less_or_not}
 use Rattle.task_runner.specs.Consumers.{KeepsConsumers}
@@ -80,10 +81,10 @@ still_tells (Some before) None kept tells = absurd kept
 still_tells (Some before) (Some after) kept tells = refl
 
 -- the first worker's disk tells, where it has the rows of a partition
-pub first_tells : (pass : PassView) (workers : ℕ) (rows : ℕ → List (List (List ℕ))) (before after : ℕ → Option Files) → 0 < workers → 0 < parts_of pass → KeepsAll before after → HoldsAll before pass workers rows → IsSome (after 0)
-first_tells pass workers rows before after some any kept holds =
+pub first_tells : (given : RowsByName) (pass : PassView) (workers : ℕ) (rows : ℕ → List (List (List ℕ))) (before after : ℕ → Option Files) → 0 < workers → 0 < parts_of pass → KeepsAll before after → HoldsAll before given pass workers rows → IsSome (after 0)
+first_tells given pass workers rows before after some any kept holds =
     let one = holds 0 any in
-    let tells = stands_tells (before (0 % workers)) (run_at pass.parts 0) (rows 0) one.stands in
+    let tells = stands_tells (before (0 % workers)) (run_at pass.parts 0) (rows 0) one.0.stands in
     still_tells (before 0) (after 0) (kept 0 0) (subst (λ (i : ℕ). IsSome (before i)) (mod-eq_of_lt some) tells)
 
 totals_each : {X : Type 0} (kind : Kind) (entries : X → List Entry) (xs : List X) → map (λ x. total kind (entries x)) xs ≡ map (total kind) (map entries xs)

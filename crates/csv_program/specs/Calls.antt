@@ -18,11 +18,6 @@ use Rattle.csv_program.specs.declared.outcome.Status.TheVariants as status
 abbrev pub keeps_none : Job → Bool
 keeps_none job = list_all (λ dataset. not (is_some dataset.level)) job.datasets
 
--- the job that was read, where none of its datasets is kept; others are refused at their first byte so far
-abbrev pub unkept_of : Result Job ℕ → Result Job ℕ
-unkept_of (Err place) = Err place
-unkept_of (Ok job) = if keeps_none job then Ok job else Err 0
-
 -- the sizes of the pool that options make (Spark: the reserved memory, spark.memory.fraction, spark.memory.storageFraction)
 abbrev pub pool_of : WorkReading → Sizes
 pool_of options = sizes_of options.heap options.reserved options.fraction options.storage options.workers
@@ -59,7 +54,7 @@ call_with words (Ok job) = call_in words job
 abbrev pub call_by : ℕ → Option RunReading → Call
 call_by posts None = NoCall
 call_by posts (Some words) =
-    if nat_lt posts words.options.workers then NoCall else call_with words (unkept_of (read_of words.job))
+    if nat_lt posts words.options.workers then NoCall else call_with words (read_of words.job)
 
 -- the same by the words as they stand
 abbrev pub call_of : ℕ → List (List ℕ) → Call

@@ -6,7 +6,9 @@ use Rattle.fault_count.specs.Faults.{Rose}
 use Rattle.pool_ledger.specs.declared.entry.Entry.{Entry}
 use Rattle.pool_ledger.specs.declared.entry.Event.{Event}
 use Rattle.pool_ledger.specs.declared.entry.Event.TheVariants.{Attempt}
-use Rattle.csv_program.specs.Tasks.{BeginsAll, FollowsPlan}
+use Rattle.job_text.specs.declared.job.Job.{Job}
+use Rattle.csv_program.specs.Cached.{HasCached}
+use Rattle.csv_program.specs.Tasks.{BeginsAll, FollowsPlan, passes_of}
 use Rattle.csv_program.specs.declared.outcome.Status.{Status}
 use Rattle.csv_program.specs.declared.outcome.Status.TheVariants as status
 
@@ -26,7 +28,9 @@ IsWhole _ = ⊤
 abbrev pub GrantsAll : List Entry → Type 0
 GrantsAll journal = AllByRecursion (λ entry. IsWhole entry.event) journal
 
--- the journal has the tasks of so many passes over so many partitions, and all of them after `Done`
-pub record HasTasks (workers partitions passes : ℕ) (ended : Status) (journal : List Entry) : Type 0 where
-  pub follows : FollowsPlan workers partitions passes journal
-  pub all : ended ≡ status.Done → BeginsAll partitions passes journal
+-- the journal has the tasks of a job's passes over so many partitions; after `Done` it has all of them, and what they tell of the
+-- blocks of kept datasets
+pub record HasTasks (workers partitions : ℕ) (job : Job) (ended : Status) (journal : List Entry) : Type 0 where
+  pub follows : FollowsPlan workers partitions (passes_of job) journal
+  pub all : ended ≡ status.Done → BeginsAll partitions (passes_of job) journal
+  pub cached : ended ≡ status.Done → HasCached job workers partitions journal

@@ -1,14 +1,16 @@
 -- What each worker of a run does, in its own entries.
 -- This project's own.
-use Rattle.std.specs.Prelude.{◌≡◌, ℕ, ◌+◌, ◌≤◌, ◌<◌, AllPairs, List, Option, Some, slice_index_or}
+use Rattle.std.specs.Prelude.{◌≡◌, ℕ, ◌+◌, ◌≤◌, ◌<◌, ◌++◌, AllPairs, Contains, List, Option, Some, slice_index_or}
 use Rattle.std.specs.List.{AllByRecursion}
 use Rattle.pool_ledger.specs.History.{begins, ends}
 use Rattle.pool_ledger.specs.Journal.{history_of}
 use Rattle.pool_ledger.specs.declared.entry.Entry.{Entry}
+use Rattle.pool_ledger.specs.declared.entry.Event.TheVariants.{Remove}
+use Rattle.pool_laws.specs.Growing.{entry_by}
 use Rattle.pool_laws.specs.Owners.{IsByOwner}
 use Rattle.turn_lock.specs.Passes.{LockId, PassState}
 use Rattle.memory_lock.specs.Crew.{AreWorkers}
-use Rattle.memory_lock.specs.Workers.{IsFree, own_entries}
+use Rattle.memory_lock.specs.Workers.{HasNoPin, IsFree, KeepsPin, KeepsTask, SeesMore, own_entries}
 use Rattle.csv_program.specs.Tasks.{begun_in, worker_at}
 
 -- a worker's own entries: each begin is of a task of its own, below a limit; its tasks ascend; and each that was begun
@@ -36,11 +38,31 @@ EachBegins owner count limit workers =
     (worker : ℕ) (any : PassState) → worker < count
     → BeginsOwn owner worker limit (own_entries (slice_index_or workers worker any))
 
--- the workers of a manager between two tasks: none has one, and each did its own below a limit
+-- the workers of a manager between two tasks: none has one, or a pin, and each did its own below a limit
 pub record AreBetween (lock : LockId) (owner : ℕ → Option ℕ) (count limit : ℕ) (workers : List PassState) : Type 0 where
   pub workers_are : AreWorkers lock count workers
   pub free : (worker : ℕ) (any : PassState) → worker < count → IsFree (slice_index_or workers worker any)
+  pub unpinned : (worker : ℕ) (any : PassState) → worker < count → HasNoPin (slice_index_or workers worker any)
   pub does : EachDoes owner count limit workers
+
+-- each of so many workers has seen more, if anything
+abbrev pub EachSees : ℕ → List PassState → List PassState → Type 0
+EachSees count before after =
+    (worker : ℕ) (any : PassState) → worker < count → SeesMore (slice_index_or before worker any) (slice_index_or after worker any)
+
+-- the entry is the removal of a block of one of these datasets by the worker
+abbrev pub IsRemovalOf : ℕ → List ℕ → Entry → Type 0
+IsRemovalOf worker datasets entry =
+    (dataset part size : ℕ) × Contains datasets dataset × (entry ≡ entry_by worker (Remove dataset part size))
+
+-- a worker between two tasks removed blocks of these datasets, if there were any, and did nothing else
+pub record Clears (datasets : List ℕ) (before after : PassState) : Type 0 where
+  pub task : KeepsTask before after
+  pub pin : KeepsPin before after
+  pub sees : SeesMore before after
+  pub removed : List Entry
+  pub adds : own_entries after ≡ own_entries before ++ removed
+  pub all : AllByRecursion (IsRemovalOf before.number datasets) removed
 
 -- the tasks of a pass over so many partitions, from a first one on, are their workers'
 abbrev pub OwnsPass : (ℕ → Option ℕ) → ℕ → ℕ → ℕ → Type 0

@@ -1,5 +1,6 @@
 pub mod Words
 pub mod Calls
+pub mod Basis
 pub mod PlanCalls
 pub mod Statuses
 pub mod Telling
@@ -11,6 +12,7 @@ pub mod Doing
 pub mod QueryResults
 pub mod Posts
 pub mod Feeds
+pub mod Cached
 pub mod Complete
 pub mod Made
 pub mod QueryConsumers

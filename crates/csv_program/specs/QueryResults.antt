@@ -5,26 +5,41 @@ use Rattle.std.specs.List.{range_with_len}
 use Rattle.aggregate.specs.Totals.{Entry, total}
 use Rattle.spill_disk.specs.Files.{Files}
 use Rattle.run_file.specs.declared.run.Run.{Run}
-use Rattle.run_file.specs.Several.{concatenated, run_at}
+use Rattle.run_file.specs.Several.{concatenated}
+use Rattle.row_filter.specs.Chains.{base_of}
 use Rattle.row_filter.specs.Derived.{derived}
 use Rattle.job_plan.specs.Columns.{Fields}
 use Rattle.job_plan.specs.Entries.{entry_of}
 use Rattle.job_plan.specs.Passes.{pass_datasets, queries_over}
-use Rattle.job_plan.specs.Plans.{chain_in, datasets_in, form_in, kept_at, kept_in, kind_at, passes_in, queries_in}
+use Rattle.job_plan.specs.Plans.{chain_in, datasets_in, kept_at, kept_in, kind_at, passes_in, queries_in}
 use Rattle.job_plan.specs.declared.query_plan.Plan.{Plan}
 use Rattle.result_table.specs.Results.{HasResult}
-use Rattle.task_runner.specs.Parts.{HoldsRows}
+use Rattle.memory_core.specs.Caches.{RowsByName}
+use Rattle.lineage.specs.LineageViews.{LineageView}
+use Rattle.lineage.specs.Standing.{HoldsInput, SaysDerived, SaysKept}
 use Rattle.task_runner.specs.Workers.{answer_at}
 
--- the passes of a plan are those of its queries' datasets, each with the queries over its dataset
+-- the passes of a plan are those of its queries' datasets, each with the queries over its dataset; and blocks name the input by 0
 pub record HasPasses (plan : Plan) : Type 0 where
   pub passes : passes_in plan ≡ pass_datasets (datasets_in plan)
   pub queries : queries_in plan ≡ map (queries_over (datasets_in plan)) (pass_datasets (datasets_in plan))
+  pub based : base_of (chain_in plan) ≡ 0
 
--- the landed runs of the partitions stand with these rows, each on the disk of its worker
-abbrev pub HoldsParts : (ℕ → Option Files) → Plan → List Run → ℕ → (ℕ → List Fields) → Type 0
-HoldsParts files plan parts workers rows =
-    (part : ℕ) → part < length parts → HoldsRows (files (part % workers)) (form_in plan) (run_at parts part) (rows part)
+-- a plan's datasets over landed partitions of so many rows
+abbrev pub lineage_in : Plan → List Run → ℕ → LineageView
+lineage_in plan parts part_rows = record { chain = chain_in plan; landed = parts; part_rows = part_rows }
+
+-- the landed runs of the partitions stand with these rows, each on the disk of its worker, and the rows of each kept dataset's blocks
+-- are said
+abbrev pub HoldsParts : (ℕ → Option Files) → RowsByName → Plan → List Run → ℕ → ℕ → (ℕ → List Fields) → Type 0
+HoldsParts files given plan parts part_rows workers rows =
+    (part : ℕ) → part < length parts
+    → HoldsInput (files (part % workers)) (lineage_in plan parts part_rows) part (rows part) × SaysKept given (chain_in plan) part
+
+-- what is said of the rows of blocks is so in each partition
+abbrev pub SaysParts : (ℕ → Option Files) → RowsByName → Plan → List Run → ℕ → ℕ → Type 0
+SaysParts files given plan parts part_rows workers =
+    (part : ℕ) → part < length parts → SaysDerived given (files (part % workers)) (lineage_in plan parts part_rows) part
 
 -- the dataset that a query is over
 abbrev pub dataset_in : Plan → ℕ → ℕ

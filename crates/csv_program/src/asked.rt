@@ -2,16 +2,16 @@
 
 ghost use Rattle.std.specs.Prelude.{◌≡◌, ◌≤◌, ◌<◌, ◌-◌, ◌^◌, IfErr, IfOk};
 ghost use Rattle.job_text.specs.Jobs.{IsJob};
-ghost use Rattle.job_text.specs.Text.{Gives, read_of};
+ghost use Rattle.job_text.specs.Text.{read_of};
 ghost use Rattle.pool_ledger.specs.Sizes.{smallest_heap};
 ghost use Rattle.words.specs.Options.{AreInRange};
 ghost use Rattle.words.specs.Texts.{texts};
 ghost use Rattle.words.specs.Views.{run_reading, work_reading};
-ghost use Rattle.csv_program.specs.Calls.{IsRun, IsWhyNot, Runs, call_of, call_with, keeps_none as keeps_none_of, pool_of, unkept_of};
+ghost use Rattle.csv_program.specs.Calls.{IsRun, IsWhyNot, Runs, call_of, call_with, pool_of};
 
 use crate::call::RunCall;
 use crate::outcome::Status;
-use job_text::{Job, JobFault, read};
+use job_text::{JobFault, read};
 use pool_ledger::{HeapTooSmall, Setup};
 use std::alloc::Global;
 use words::{RunWords, WordsFault, WorkOptions, read_run_call};
@@ -43,12 +43,12 @@ pub fn read_call(alloc: Global, posts: usize, words: &[&str]) -> Result<RunCall,
 fn call_for(alloc: Global, said: RunWords<'_>) -> Result<RunCall, Status>
     requires ranges { AreInRange (work_reading said.options) }
     requires rows { said.max_rows ≤ 10000000 }
-    ensures ok { IfOk result (λ asked. call_with (run_reading said.entry) (unkept_of (read_of said.entry.job.now)) ≡ Runs asked) }
+    ensures ok { IfOk result (λ asked. call_with (run_reading said.entry) (read_of said.entry.job.now) ≡ Runs asked) }
     ensures run { IfOk result IsRun }
     ensures workers { IfOk result (λ asked. asked.pool.workers ≡ said.entry.options.workers) }
-    ensures why { IfErr result (IsWhyNot (call_with (run_reading said.entry) (unkept_of (read_of said.entry.job.now)))) }
+    ensures why { IfErr result (IsWhyNot (call_with (run_reading said.entry) (read_of said.entry.job.now))) }
 {
-    let job = match read_unkept(alloc, said.job) {
+    let job = match read(alloc, said.job) {
         Ok(job) => job,
         Err(JobFault::BadJob { place }) => return Err(Status::BadJob { place }),
         Err(JobFault::NoMemory) => return Err(Status::NoMemory),
@@ -79,27 +79,4 @@ fn pool_for(options: WorkOptions) -> Result<Setup, HeapTooSmall>
         options.storage as u32,
         options.workers as u32,
     )
-}
-
-// The job of a text, where none of its datasets is kept.
-fn read_unkept(alloc: Global, text: &str) -> Result<Job, JobFault>
-    ensures gives { Gives result (unkept_of (read_of text.now)) }
-    ensures whole { IfOk result IsJob }
-{
-    let job = read(alloc, text)?;
-    if keeps_none(&job) {
-        Ok(job)
-    } else {
-        Err(JobFault::BadJob { place: 0 })
-    }
-}
-
-// Whether none of a job's datasets has a level.
-fn keeps_none(job: &Job) -> bool
-    ensures { result ≡ keeps_none_of job.now }
-{
-    job.datasets
-        .items()
-        .iter()
-        .all(|dataset| dataset.level.is_none())
 }

@@ -3,7 +3,9 @@
 
 mod asked;
 mod call;
+mod clearing;
 mod consumers;
+mod finishing;
 mod input;
 mod outcome;
 mod plan;

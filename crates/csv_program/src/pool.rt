@@ -1,53 +1,50 @@
 //! The tasks of a run in a pool of its own.
 
-ghost use Rattle.std.specs.Prelude.{◌≡◌, ◌≢◌, ◌≤◌, ◌<◌, ◌+◌, ◌*◌, ◌-◌, ◌^◌, false, All, List, ℕ, Err, IfNone, IfOk, IfSome, IsSome, None, OnOk, Some, is_some, length, map, slice_index, slice_index_or};
-ghost use Rattle.aggregate.specs.Totals.{Entry};
+ghost use Rattle.std.specs.Prelude.{◌≡◌, ◌≤◌, ◌<◌, ◌+◌, ◌*◌, ◌-◌, ◌%◌, ◌^◌, false, All, List, ℕ, Err, IfNone, IfOk, IfSome, None, OnOk, Some, is_some, length, map, slice_index, slice_index_or};
 ghost use Rattle.job_answer.specs.Parts.{PartsTellAll};
 ghost use Rattle.job_plan.specs.Planning.{columns_of};
 ghost use Rattle.job_plan.specs.Plans.{first_task_of, form_in, kept_in, passes_in};
-ghost use Rattle.memory_lock.specs.Crew.{AreWorkers};
-ghost use Rattle.memory_lock.specs.Workers.{IsFree, SeesMore, own_of};
-ghost use Rattle.pool_ledger.specs.History.{was_begun};
+ghost use Rattle.memory_lock.specs.Workers.{own_of};
 ghost use Rattle.pool_ledger.specs.Journal.{history_of};
 ghost use Rattle.pool_ledger.specs.Legal.{IsLegal};
-ghost use Rattle.task_memory.specs.RunLists.{lists_of};
 ghost use Rattle.task_runner.specs.Answers.{HasCauseAmong};
+ghost use Rattle.task_runner.specs.Blocks.{TellsTask};
 ghost use Rattle.task_runner.specs.Consumers.{HasConsumers, KeepsConsumers};
-ghost use Rattle.task_runner.specs.Finals.{AreMergedTo, HaveLists, KeepsOtherFiles, MergeTotals};
-ghost use Rattle.task_runner.specs.PartAnswers.{HoldsAll};
+ghost use Rattle.task_runner.specs.PartAnswers.{HoldsAll, SaysAll};
 ghost use Rattle.task_runner.specs.Pass.{FeedsParts, KeepsAll, states_at};
-ghost use Rattle.task_runner.specs.PassViews.{parts_of, queries_of, task_for};
+ghost use Rattle.task_runner.specs.PassViews.{parts_of, queries_of};
 ghost use Rattle.task_runner.specs.Queries.{IsPass};
-ghost use Rattle.task_runner.specs.RunsApart.{AllOfLists, AreAllApart};
 ghost use Rattle.task_runner.specs.Workers.{IfSound};
-ghost use Rattle.task_runner.specs.Works.{IfNoRoom, MayWork, ShowsNoRoom, Works};
+ghost use Rattle.task_runner.specs.Works.{IfNoRoom, ShowsNoRoom};
 ghost use Rattle.turn_lock.specs.Passes.{PassState};
-ghost use Rattle.csv_program.specs.Doing.{AreBetween, EachBegins, OwnsPass};
+ghost use Rattle.csv_program.specs.Cached.{EachTells, TellsPasses};
+ghost use Rattle.csv_program.specs.Doing.{AreBetween, EachBegins, EachSees, OwnsPass};
 ghost use Rattle.csv_program.specs.Feeds.{FeedsPlan};
 ghost use Rattle.csv_program.specs.Passing.{ArePut, HavePass, LeavesPosts};
 ghost use Rattle.csv_program.specs.Posts.{DamagedOn, post_faults, post_files};
-ghost use Rattle.csv_program.specs.QueryResults.{HasPasses, HaveResults, HoldsParts, totals_of_parts};
+ghost use Rattle.csv_program.specs.QueryResults.{HasPasses, HaveResults, HoldsParts, SaysParts, totals_of_parts};
 ghost use Rattle.csv_program.specs.Tasks.{BeginsAll, FollowsPlan, ShowsShort, owner_of};
 
+use crate::call::RunCall;
+use crate::clearing::remove_blocks;
+use crate::finishing::finish;
 use consumer_trait::Consumer;
 use job_answer::parts_tell_all;
 use job_plan::Plan;
 use memory_lock::{Basis, Manager, Worker};
 use pool_laws::legal_journals_are_safe;
-use pool_ledger::{Journal, Setup};
+use pool_ledger::Journal;
 use run_file::Run;
 use spill_disk::Disk;
 use std::alloc::{AllocError, Global};
 use std::sync::Wait;
 use std::thread::Threads;
-use task_runner::{
-    Executor, Pass, Post, WorkFault, run_final, run_workers, swap_consumers, take_consumers,
-};
+use task_runner::{Executor, Pass, Post, WorkFault, run_workers};
 
 /// Does all tasks of a plan over landed partitions, in a pool of these sizes, pass by pass: those of the partitions,
 /// each worker in a thread of its own, and then the pass's final one on this thread, which merges the runs of each of
-/// its queries into the query's answer. The answers stand in the order of the plan's queries. There is no journal
-/// exactly where no pool could be made.
+/// its queries into the query's answer. Behind the last pass that needs a kept dataset its blocks are removed. The answers
+/// stand in the order of the plan's queries. There is no journal exactly where no pool could be made.
 pub fn run_tasks<
     K: Disk + Send,
     D: Disk + Send,
@@ -57,17 +54,19 @@ pub fn run_tasks<
 >(
     rt: &R,
     alloc: Global,
-    pool: Setup,
+    asked: &RunCall,
     store: K,
     plan: &Plan,
     parts: &[Run],
     posts: &mut Vec<Post<D, C>>,
 ) -> (Result<Vec<Option<Run>>, WorkFault>, Option<Journal>)
-    requires basis { pool ≡ B.sizes }
+    requires basis { asked.now.pool ≡ B.sizes }
     requires owner { (task : ℕ)
-        → B.owner task ≡ owner_of pool.workers (length parts.now) (length (passes_in plan.now)) task }
-    requires rows { (dataset part : ℕ) → B.rows dataset part ≡ None }
-    requires posts { pool.workers ≤ length posts.old.items }
+        → B.owner task ≡ owner_of asked.now.pool.workers (length parts.now) (length (passes_in plan.now)) task }
+    requires rows { is_some (K.files store) ≡ false → (dataset part : ℕ) → B.rows dataset part ≡ None }
+    requires said { SaysParts (post_files D.files posts.old) B.rows plan.now parts.now asked.now.part_rows
+        asked.now.pool.workers }
+    requires posts { asked.now.pool.workers ≤ length posts.old.items }
     requires few_posts { length posts.old.items < 2 ^ 32 - 1 }
     requires few { length parts.now ≤ 10000000 }
     requires short { All (λ run. run.greatest ≤ 36 + 4 * columns_of (form_in plan.now) + 65536) parts.now }
@@ -76,18 +75,20 @@ pub fn run_tasks<
     requires consumers { All (λ post. HasConsumers (map C.state post.consumers.items)) posts.old.items }
     ensures count { IfOk result.0 (λ answers. length answers.items ≡ length (kept_in plan.now)) }
     ensures answer { (rows : ℕ → List (List (List ℕ))) →
-        HoldsParts (post_files D.files posts.old) plan.now parts.now pool.workers rows →
+        HoldsParts (post_files D.files posts.old) B.rows plan.now parts.now asked.now.part_rows
+        asked.now.pool.workers rows →
         IfSound (λ answers. HaveResults (post_files D.files posts.new) plan.now
         (totals_of_parts plan.now (length parts.now) rows) answers.items) result.0 }
     ensures there { IfOk result.0 (λ answers.
-        All (λ answer. IfSome answer (λ run. run.disk < pool.workers)) answers.items) }
+        All (λ answer. IfSome answer (λ run. run.disk < asked.now.pool.workers)) answers.items) }
 
     // The posts.
     ensures fed { OnOk result.0 ((rows : ℕ → List (List (List ℕ))) →
-        HoldsParts (post_files D.files posts.old) plan.now parts.now pool.workers rows →
-        (worker : ℕ) → worker < pool.workers → FeedsPlan (states_at C.state posts.old.items worker)
-        (states_at C.state posts.new.items worker) plan.now (length parts.now) rows pool.workers worker) }
-    ensures others { (place : ℕ) → pool.workers ≤ place
+        HoldsParts (post_files D.files posts.old) B.rows plan.now parts.now asked.now.part_rows
+        asked.now.pool.workers rows →
+        (worker : ℕ) → worker < asked.now.pool.workers → FeedsPlan (states_at C.state posts.old.items worker)
+        (states_at C.state posts.new.items worker) plan.now (length parts.now) rows asked.now.pool.workers worker) }
+    ensures others { (place : ℕ) → asked.now.pool.workers ≤ place
         → states_at C.state posts.new.items place ≡ states_at C.state posts.old.items place }
     ensures consumers { (place : ℕ)
         → KeepsConsumers (states_at C.state posts.old.items place) (states_at C.state posts.new.items place) }
@@ -95,19 +96,22 @@ pub fn run_tasks<
     ensures files { KeepsAll (post_files D.files posts.old) (post_files D.files posts.new) }
     ensures later { (place : ℕ) → post_faults D.faults posts.old place ≤ post_faults D.faults posts.new place }
     ensures cause { HasCauseAmong (post_faults D.faults posts.old) (post_faults D.faults posts.new) result.0 }
-    ensures named { DamagedOn result.0 (λ post. post < pool.workers) }
+    ensures named { DamagedOn result.0 (λ post. post < asked.now.pool.workers) }
 
     // The journal.
     ensures none { IfNone result.1 (result.0 ≡ Err WorkFault.NoMemory) }
-    ensures legal { IfSome result.1 (λ journal. IsLegal pool (history_of journal)) }
+    ensures legal { IfSome result.1 (λ journal. IsLegal asked.now.pool (history_of journal)) }
     ensures tasks { IfSome result.1 (λ journal.
-        FollowsPlan pool.workers (length parts.now) (length (passes_in plan.now)) journal) }
+        FollowsPlan asked.now.pool.workers (length parts.now) (length (passes_in plan.now)) journal) }
     ensures all { OnOk result.0 (IfSome result.1 (λ journal.
         BeginsAll (length parts.now) (length (passes_in plan.now)) journal)) }
-    ensures no_room { IfNoRoom result.0 (λ asked held floor.
-        IfSome result.1 (λ journal. ShowsShort pool journal asked held floor)) }
+    ensures told { OnOk result.0 (IfSome result.1 (λ journal. TellsPasses plan.now asked.now.pool.workers
+        (length parts.now) (length (passes_in plan.now)) journal)) }
+    ensures no_room { IfNoRoom result.0 (λ wanted held floor.
+        IfSome result.1 (λ journal. ShowsShort asked.now.pool journal wanted held floor)) }
 {
     // The range of all sizes is known with one of them.
+    let pool = asked.pool;
     let _range = pool.max();
     parts_tell_all();
     legal_journals_are_safe();
@@ -119,7 +123,7 @@ pub fn run_tasks<
         alloc,
         manager: &manager,
     };
-    let answers = run_passes(&executor, &mut workers, plan, parts, posts);
+    let answers = run_passes(&executor, &mut workers, plan, parts, asked.part_rows, posts);
     let (journal, _store) = manager.close(workers);
     (answers, Some(journal))
 }
@@ -136,12 +140,14 @@ fn run_passes<
     workers: &mut Vec<Worker<B>>,
     plan: &Plan,
     parts: &[Run],
+    part_rows: u64,
     posts: &mut Vec<Post<D, C>>,
 ) -> Result<Vec<Option<Run>>, WorkFault>
     requires workers { AreBetween executor.now.manager.now B.owner B.sizes.workers 0 workers.old.items }
     requires some { 1 ≤ B.sizes.workers }
     requires owner { (task : ℕ)
         → B.owner task ≡ owner_of B.sizes.workers (length parts.now) (length (passes_in plan.now)) task }
+    requires said { SaysParts (post_files D.files posts.old) B.rows plan.now parts.now part_rows B.sizes.workers }
     requires posts { B.sizes.workers ≤ length posts.old.items }
     requires few_posts { length posts.old.items < 2 ^ 32 - 1 }
     requires few { length parts.now ≤ 10000000 }
@@ -152,7 +158,7 @@ fn run_passes<
     requires told { PartsTellAll }
     ensures count { IfOk result (λ answers. length answers.items ≡ length (kept_in plan.now)) }
     ensures answer { (rows : ℕ → List (List (List ℕ))) →
-        HoldsParts (post_files D.files posts.old) plan.now parts.now B.sizes.workers rows →
+        HoldsParts (post_files D.files posts.old) B.rows plan.now parts.now part_rows B.sizes.workers rows →
         IfSound (λ answers. HaveResults (post_files D.files posts.new) plan.now
         (totals_of_parts plan.now (length parts.now) rows) answers.items) result }
     ensures there { IfOk result (λ answers.
@@ -160,7 +166,7 @@ fn run_passes<
 
     // The posts.
     ensures fed { OnOk result ((rows : ℕ → List (List (List ℕ))) →
-        HoldsParts (post_files D.files posts.old) plan.now parts.now B.sizes.workers rows →
+        HoldsParts (post_files D.files posts.old) B.rows plan.now parts.now part_rows B.sizes.workers rows →
         (worker : ℕ) → worker < B.sizes.workers → FeedsPlan (states_at C.state posts.old.items worker)
         (states_at C.state posts.new.items worker) plan.now (length parts.now) rows B.sizes.workers worker) }
     ensures posts { LeavesPosts C.state D.files D.faults B.sizes.workers posts.old posts.new }
@@ -172,6 +178,8 @@ fn run_passes<
         (length (passes_in plan.now) * (length parts.now + 1)) workers.new.items }
     ensures begun { OnOk result (EachBegins B.owner B.sizes.workers
         (length (passes_in plan.now) * (length parts.now + 1)) workers.new.items) }
+    ensures told { OnOk result (EachTells plan.now B.sizes.workers (length parts.now) (length (passes_in plan.now))
+        workers.new.items) }
     ensures no_room { IfNoRoom result (λ asked held floor. (worker task : ℕ) × (worker < B.sizes.workers)
         × ((any : PassState)
         → ShowsNoRoom B.sizes (own_of (slice_index_or workers.new.items worker any)) task asked held floor)) }
@@ -179,6 +187,8 @@ fn run_passes<
     let Ok(mut answers) = no_answers(executor.alloc, plan.query_count()) else {
         return Err(WorkFault::NoMemory);
     };
+    // For the proof: the plan's datasets are a chain.
+    let _chain = plan.chain();
     for number in 0..plan.passes() {
         let queries = plan.queries(number);
         let pass = Pass {
@@ -186,12 +196,16 @@ fn run_passes<
             dataset: plan.dataset(number),
             queries,
             parts,
+            part_rows,
             first: plan.task(parts.len() as u32, number, 0),
         };
         match work(executor, workers, &pass, posts) {
             Ok(found) => put_answers(&mut answers, queries, &found),
             Err(fault) => return Err(fault),
         }
+        let Ok(()) = remove_blocks(executor, workers, plan.removed(number)) else {
+            return Err(WorkFault::NoMemory);
+        };
     }
     Ok(answers)
 }
@@ -236,6 +250,7 @@ fn work<
     requires begun { EachBegins B.owner B.sizes.workers pass.now.first workers.old.items }
     requires some { 1 ≤ B.sizes.workers }
     requires owner { OwnsPass B.owner B.sizes.workers (parts_of pass.now) pass.now.first }
+    requires said { SaysAll (post_files D.files posts.old) B.rows pass.now B.sizes.workers }
     requires posts { B.sizes.workers ≤ length posts.old.items }
     requires few_posts { length posts.old.items < 2 ^ 32 - 1 }
     requires pass { IsPass pass.now }
@@ -243,7 +258,7 @@ fn work<
     requires told { PartsTellAll }
     ensures count { IfOk result (λ answers. length answers.items ≡ queries_of pass.now) }
     ensures answer { (rows : ℕ → List (List (List ℕ))) →
-        HoldsAll (post_files D.files posts.old) pass.now B.sizes.workers rows →
+        HoldsAll (post_files D.files posts.old) B.rows pass.now B.sizes.workers rows →
         IfSound (λ answers. HavePass (post_files D.files posts.new) pass.now rows answers.items) result }
     ensures there { IfOk result (λ answers.
         All (λ answer. IfSome answer (λ run. run.disk < B.sizes.workers)) answers.items) }
@@ -251,7 +266,7 @@ fn work<
     // The posts.
     ensures fed { OnOk result ((worker : ℕ) → worker < B.sizes.workers
         → FeedsParts (states_at C.state posts.old.items worker) (states_at C.state posts.new.items worker)
-        (post_files D.files posts.old worker) pass.now B.sizes.workers worker) }
+        (post_files D.files posts.old worker) B.rows pass.now B.sizes.workers worker) }
     ensures posts { LeavesPosts C.state D.files D.faults B.sizes.workers posts.old posts.new }
     ensures cause { HasCauseAmong (post_faults D.faults posts.old) (post_faults D.faults posts.new) result }
     ensures named { DamagedOn result (λ post. post < B.sizes.workers) }
@@ -261,6 +276,9 @@ fn work<
         (pass.now.first + parts_of pass.now + 1) workers.new.items }
     ensures begun { OnOk result (EachBegins B.owner B.sizes.workers
         (pass.now.first + parts_of pass.now + 1) workers.new.items) }
+    ensures sees { EachSees B.sizes.workers workers.old.items workers.new.items }
+    ensures told { OnOk result ((part : ℕ) (any : PassState) → part < parts_of pass.now
+        → TellsTask pass.now part (slice_index_or workers.new.items (part % B.sizes.workers) any)) }
     ensures no_room { IfNoRoom result (λ asked held floor. (worker task : ℕ) × (worker < B.sizes.workers)
         × ((any : PassState)
         → ShowsNoRoom B.sizes (own_of (slice_index_or workers.new.items worker any)) task asked held floor)) }
@@ -277,116 +295,4 @@ fn work<
         };
     }
     finish(executor, workers, pass, posts, lists)
-}
-
-// Does the final task, by the first worker.
-fn finish<K: Disk, D: Disk, C: Consumer, B: Basis, R: Wait>(
-    executor: &Executor<'_, R, K, B>,
-    workers: &mut Vec<Worker<B>>,
-    pass: &Pass<'_>,
-    posts: &mut Vec<Post<D, C>>,
-    lists: Vec<Vec<Run>>,
-) -> Result<Vec<Option<Run>>, WorkFault>
-    requires workers { AreWorkers executor.now.manager.now B.sizes.workers workers.old.items }
-    requires some { 1 ≤ B.sizes.workers }
-    requires pass { IsPass pass.now }
-    requires owner { B.owner (task_for pass.now (parts_of pass.now)) ≡ Some 0 }
-    requires free { (any : PassState) → IsFree (slice_index_or workers.old.items 0 any) }
-    requires fresh { (any : PassState)
-        → was_begun (own_of (slice_index_or workers.old.items 0 any)) (task_for pass.now (parts_of pass.now)) ≡ false }
-    requires posts { B.sizes.workers ≤ length posts.old.items }
-    requires few_posts { length posts.old.items < 2 ^ 32 - 1 }
-    requires count { length lists.items ≡ queries_of pass.now }
-    requires there { AllOfLists (λ run. run.disk < length posts.old.items) (lists_of lists.items) }
-    requires bounded { AllOfLists (λ run. run.greatest ≤ 196752) (lists_of lists.items) }
-    ensures merged { IfOk result (λ answers. AreMergedTo (lists_of lists.items) answers.items) }
-    ensures answer { (entries : ℕ → List (List Entry)) →
-        IsSome (post_files D.files posts.old 0) →
-        HaveLists (post_files D.files posts.old) pass.now (lists_of lists.items) entries →
-        AreAllApart (λ disk. disk) (lists_of lists.items) →
-        MergeTotals (post_files D.files posts.new) pass.now entries result }
-
-    // The first worker's own entries.
-    ensures workers { AreWorkers executor.now.manager.now B.sizes.workers workers.new.items }
-    ensures works { OnOk result ((any : PassState) → Works (task_for pass.now (parts_of pass.now))
-        (slice_index_or workers.old.items 0 any) (slice_index_or workers.new.items 0 any)) }
-    ensures may_work { (any : PassState) → MayWork (task_for pass.now (parts_of pass.now))
-        (slice_index_or workers.old.items 0 any) (slice_index_or workers.new.items 0 any) }
-    ensures free { (any : PassState) → IsFree (slice_index_or workers.new.items 0 any) }
-    ensures no_room { IfNoRoom result (λ asked held floor. (any : PassState)
-        → ShowsNoRoom B.sizes (own_of (slice_index_or workers.new.items 0 any))
-        (task_for pass.now (parts_of pass.now)) asked held floor) }
-    ensures others { (worker : ℕ) (any : PassState) → worker ≢ 0
-        → slice_index_or workers.new.items worker any ≡ slice_index_or workers.old.items worker any }
-
-    // The posts.
-    ensures kept { map (λ post. post.consumers) posts.new.items ≡ map (λ post. post.consumers) posts.old.items }
-    ensures same_posts { length posts.new.items ≡ length posts.old.items }
-    ensures tells { (place : ℕ)
-        → is_some (post_files D.files posts.new place) ≡ is_some (post_files D.files posts.old place) }
-    ensures files { KeepsOtherFiles (λ disk. disk) (post_files D.files posts.old) (post_files D.files posts.new)
-        (lists_of lists.items) }
-    ensures later { (place : ℕ) → post_faults D.faults posts.old place ≤ post_faults D.faults posts.new place }
-    ensures cause { HasCauseAmong (post_faults D.faults posts.old) (post_faults D.faults posts.new) result }
-    ensures named { (count : ℕ) → 0 < count → AllOfLists (λ run. run.disk < count) (lists_of lists.items)
-        → DamagedOn result (λ post. post < count) }
-{
-    merge_aside(executor, &mut workers[0], pass, posts, lists)
-}
-
-// The same by this worker. The consumers are kept aside: a merge on the posts as a shelf says nothing of them.
-fn merge_aside<K: Disk, D: Disk, C: Consumer, B: Basis, R: Wait>(
-    executor: &Executor<'_, R, K, B>,
-    worker: &mut Worker<B>,
-    pass: &Pass<'_>,
-    posts: &mut Vec<Post<D, C>>,
-    lists: Vec<Vec<Run>>,
-) -> Result<Vec<Option<Run>>, WorkFault>
-    requires manager { worker.old.lock ≡ executor.now.manager.now }
-    requires pass { IsPass pass.now }
-    requires owner { B.owner (task_for pass.now (parts_of pass.now)) ≡ Some worker.old.number }
-    requires free { IsFree worker.old }
-    requires fresh { was_begun (own_of worker.old) (task_for pass.now (parts_of pass.now)) ≡ false }
-    requires some { 0 < length posts.old.items }
-    requires few_posts { length posts.old.items < 2 ^ 32 - 1 }
-    requires count { length lists.items ≡ queries_of pass.now }
-    requires there { AllOfLists (λ run. run.disk < length posts.old.items) (lists_of lists.items) }
-    requires bounded { AllOfLists (λ run. run.greatest ≤ 196752) (lists_of lists.items) }
-    ensures merged { IfOk result (λ answers. AreMergedTo (lists_of lists.items) answers.items) }
-    ensures answer { (entries : ℕ → List (List Entry)) →
-        IsSome (post_files D.files posts.old 0) →
-        HaveLists (post_files D.files posts.old) pass.now (lists_of lists.items) entries →
-        AreAllApart (λ disk. disk) (lists_of lists.items) →
-        MergeTotals (post_files D.files posts.new) pass.now entries result }
-
-    // The worker's own entries.
-    ensures works { OnOk result (Works (task_for pass.now (parts_of pass.now)) worker.old worker.new) }
-    ensures may_work { MayWork (task_for pass.now (parts_of pass.now)) worker.old worker.new }
-    ensures free { IsFree worker.new }
-    ensures no_room { IfNoRoom result (λ asked held floor. ShowsNoRoom B.sizes (own_of worker.new)
-        (task_for pass.now (parts_of pass.now)) asked held floor) }
-    ensures sees { SeesMore worker.old worker.new }
-    ensures rests { worker.new.base ≡ None }
-
-    // The posts.
-    ensures kept { map (λ post. post.consumers) posts.new.items ≡ map (λ post. post.consumers) posts.old.items }
-    ensures same_posts { length posts.new.items ≡ length posts.old.items }
-    ensures tells { (place : ℕ)
-        → is_some (post_files D.files posts.new place) ≡ is_some (post_files D.files posts.old place) }
-    ensures files { KeepsOtherFiles (λ disk. disk) (post_files D.files posts.old) (post_files D.files posts.new)
-        (lists_of lists.items) }
-    ensures later { (place : ℕ) → post_faults D.faults posts.old place ≤ post_faults D.faults posts.new place }
-    ensures cause { HasCauseAmong (post_faults D.faults posts.old) (post_faults D.faults posts.new) result }
-    ensures named { (count : ℕ) → 0 < count → AllOfLists (λ run. run.disk < count) (lists_of lists.items)
-        → DamagedOn result (λ post. post < count) }
-{
-    let Ok(mut aside) = take_consumers(executor.alloc, posts) else {
-        let _number = worker.number();
-        return Err(WorkFault::NoMemory);
-    };
-    let answers = run_final(executor, worker, pass, posts, lists);
-    swap_consumers(posts, &mut aside);
-    // That it rests is known with its number.
-    let _number = worker.number();
-    answers
 }

@@ -1,6 +1,6 @@
 //! The queries of a job over a landed input.
 
-ghost use Rattle.std.specs.Prelude.{◌≡◌, ◌≤◌, ◌<◌, ◌+◌, ◌*◌, ◌-◌, ◌^◌, ℕ, All, List, [], None, Some, IfNone, IfSome, length, map};
+ghost use Rattle.std.specs.Prelude.{◌≡◌, ◌≤◌, ◌<◌, ◌+◌, ◌*◌, ◌-◌, ◌^◌, ℕ, false, All, List, [], None, Some, IfNone, IfSome, is_some, length, map};
 ghost use Rattle.std.specs.Io.KnownBytes.{Appends, Keeps};
 ghost use Rattle.byte_io.specs.Sinks.{AppendsPrefix};
 ghost use Rattle.fault_count.specs.Faults.{Rose};
@@ -9,13 +9,15 @@ ghost use Rattle.pool_ledger.specs.Legal.{IsLegal};
 ghost use Rattle.journal_audit.specs.Text.{text_of};
 ghost use Rattle.job_plan.specs.Planning.{columns_of};
 ghost use Rattle.job_plan.specs.Plans.{first_task_of, form_in, passes_in};
-ghost use Rattle.landing.specs.Landed.{AreChecked, AreLanded, partition_of};
+ghost use Rattle.landing.specs.Landed.{partition_of};
 ghost use Rattle.task_runner.specs.Consumers.{HasConsumers, KeepsConsumers};
 ghost use Rattle.task_runner.specs.Pass.{KeepsAll, states_at};
 ghost use Rattle.csv_program.specs.Endings.{MayEndAs, ending_of_totals, printed_in, totals_of};
 ghost use Rattle.csv_program.specs.Feeds.{FeedsPlan};
-ghost use Rattle.csv_program.specs.Posts.{AllTell, post_faults, post_files};
-ghost use Rattle.csv_program.specs.QueryResults.{HasPasses};
+ghost use Rattle.csv_program.specs.Basis.{StandAs};
+ghost use Rattle.csv_program.specs.Cached.{TellsPasses};
+ghost use Rattle.csv_program.specs.Posts.{post_faults, post_files};
+ghost use Rattle.csv_program.specs.QueryResults.{HasPasses, SaysParts};
 ghost use Rattle.csv_program.specs.Statuses.{IsCut, IsDamaged, IsDamagedOn, IsDiskFault, IsNoRoom, IsOfTasks, MakesPool, WritesNothing};
 ghost use Rattle.csv_program.specs.Tasks.{BeginsAll, FollowsPlan, ShowsShort, owner_of};
 ghost use Rattle.csv_program.specs.Telling.{status_of_work};
@@ -61,7 +63,10 @@ pub fn run_queries<
 ) -> Outcome
     requires basis { asked.now.pool ≡ B.sizes }
     requires owner { (task : ℕ) → B.owner task ≡ owner_of asked.now.pool.workers (length parts.now) (length (passes_in plan.now)) task }
-    requires rows { (dataset part : ℕ) → B.rows dataset part ≡ None }
+    requires rows { is_some (K.files store) ≡ false → (dataset part : ℕ) → B.rows dataset part ≡ None }
+    requires said { SaysParts (post_files D.files posts.old) B.rows plan.now parts.now asked.now.part_rows
+        asked.now.pool.workers }
+    requires parts { 1 ≤ asked.now.part_rows }
     requires some { 1 ≤ asked.now.pool.workers }
     requires posts { asked.now.pool.workers ≤ length posts.old.items }
     requires few_posts { length posts.old.items < 2 ^ 32 - 1 }
@@ -70,20 +75,17 @@ pub fn run_queries<
     requires first { first_task_of plan.now ≡ 0 }
     requires passes { HasPasses plan.now }
     requires consumers { All (λ post. HasConsumers (map C.state post.consumers.items)) posts.old.items }
-    ensures ending { (part_rows : ℕ) (rows : List (List (List ℕ))) → 1 ≤ part_rows →
-        AllTell asked.now.pool.workers (post_files D.files posts.old) →
-        AreLanded (post_files D.files posts.old) part_rows asked.now.pool.workers parts.now rows → AreChecked (form_in plan.now) rows →
+    ensures ending { (rows : List (List (List ℕ))) →
+        StandAs B.rows (post_files D.files posts.old) asked.now plan.now parts.now rows →
         MayEndAs (ending_of_totals plan.now (totals_of plan.now rows)) result.status }
 
     // What is written.
-    ensures done { (part_rows : ℕ) (rows : List (List (List ℕ))) → 1 ≤ part_rows →
-        AllTell asked.now.pool.workers (post_files D.files posts.old) →
-        AreLanded (post_files D.files posts.old) part_rows asked.now.pool.workers parts.now rows → AreChecked (form_in plan.now) rows →
+    ensures done { (rows : List (List (List ℕ))) →
+        StandAs B.rows (post_files D.files posts.old) asked.now plan.now parts.now rows →
         result.status ≡ Status.Done →
         Appends (W.written output.old) (W.written output.new) (printed_in (ending_of_totals plan.now (totals_of plan.now rows))) }
-    ensures prefix { (part_rows : ℕ) (rows : List (List (List ℕ))) → 1 ≤ part_rows →
-        AllTell asked.now.pool.workers (post_files D.files posts.old) →
-        AreLanded (post_files D.files posts.old) part_rows asked.now.pool.workers parts.now rows → AreChecked (form_in plan.now) rows →
+    ensures prefix { (rows : List (List (List ℕ))) →
+        StandAs B.rows (post_files D.files posts.old) asked.now plan.now parts.now rows →
         IsCut result.status →
         AppendsPrefix (W.written output.old) (W.written output.new) (printed_in (ending_of_totals plan.now (totals_of plan.now rows))) }
     ensures nothing { WritesNothing result.status → Keeps (W.written output.old) (W.written output.new) }
@@ -106,14 +108,15 @@ pub fn run_queries<
     ensures none { IfNone result.setup (result.journal ≡ []) }
     ensures legal { IfSome result.setup (λ setup. IsLegal asked.now.pool (history_of result.journal)) }
     ensures tasks { FollowsPlan asked.now.pool.workers (length parts.now) (length (passes_in plan.now)) result.journal }
+    ensures told { result.status ≡ Status.Done → TellsPasses plan.now asked.now.pool.workers (length parts.now)
+        (length (passes_in plan.now)) result.journal }
     ensures all { result.status ≡ Status.Done → BeginsAll (length parts.now) (length (passes_in plan.now)) result.journal }
 
     // The posts.
-    ensures fed { result.status ≡ Status.Done → (part_rows : ℕ) (rows : List (List (List ℕ))) →
-        AllTell asked.now.pool.workers (post_files D.files posts.old) →
-        AreLanded (post_files D.files posts.old) part_rows asked.now.pool.workers parts.now rows → AreChecked (form_in plan.now) rows →
+    ensures fed { result.status ≡ Status.Done → (rows : List (List (List ℕ))) →
+        StandAs B.rows (post_files D.files posts.old) asked.now plan.now parts.now rows →
         (worker : ℕ) → worker < asked.now.pool.workers → FeedsPlan (states_at C.state posts.old.items worker)
-        (states_at C.state posts.new.items worker) plan.now (length parts.now) (λ part. partition_of part_rows part rows)
+        (states_at C.state posts.new.items worker) plan.now (length parts.now) (λ part. partition_of asked.now.part_rows part rows)
         asked.now.pool.workers worker }
     ensures others { (place : ℕ) → asked.now.pool.workers ≤ place
         → states_at C.state posts.new.items place ≡ states_at C.state posts.old.items place }
@@ -123,7 +126,7 @@ pub fn run_queries<
 {
     short_shapes_are_told();
     let pool = asked.pool;
-    let (told, entries) = run_tasks::<K, D, C, B, R>(rt, alloc, pool, store, plan, parts, posts);
+    let (told, entries) = run_tasks::<K, D, C, B, R>(rt, alloc, asked, store, plan, parts, posts);
     let Some(entries) = entries else {
         return unpooled(alloc, Status::NoMemory);
     };

@@ -3,6 +3,7 @@ mod datasets;
 mod faults;
 mod generated;
 mod journals;
+mod kept;
 mod plain;
 mod plans;
 mod records;

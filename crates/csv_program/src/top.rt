@@ -19,7 +19,7 @@ ghost use Rattle.csv_program.specs.Endings.{MayEndAs, Prints, Refuses, checked_f
 ghost use Rattle.csv_program.specs.Feeds.{FeedsRun};
 ghost use Rattle.csv_program.specs.Posts.{AllTell, post_faults, post_files};
 ghost use Rattle.csv_program.specs.Statuses.{IsCut, IsDamaged, IsDamagedOn, IsDiskFault, IsJudged, IsNoRoom, IsUnlanded, MakesPool, WritesNothing};
-ghost use Rattle.csv_program.specs.Tasks.{BeginsAll, FollowsPlan, ShowsShort, passes_of};
+ghost use Rattle.csv_program.specs.Tasks.{BeginsAll, FollowsPlan, ShowsShort};
 ghost use Rattle.csv_program.specs.Written.{Gains};
 
 use crate::asked::read_call;
@@ -78,7 +78,7 @@ fn run_job<
     requires posts { asked.now.pool.workers ≤ length posts.old.items }
     requires few_posts { length posts.old.items < 2 ^ 32 - 1 }
     requires consumers { All (λ post. HasConsumers (map C.state post.consumers.items)) posts.old.items }
-    ensures ending { IfSome (S.left input.old) (λ bytes. AllTell asked.now.pool.workers (post_files D.files posts.old) →
+    ensures ending { IfSome (S.left input.old) (λ bytes. AllTell asked.now (post_files D.files posts.old) (D.files store) →
         MayEndAs (ending_of asked.now bytes) result.status) }
     ensures refused { IfSome (S.left input.old) (λ bytes. (why : LandFault) → ending_of asked.now bytes ≡ Refuses why →
         (IsUnlanded result.status ⊎ (result.status ≡ status_of why)) × (result.setup ≡ None)) }
@@ -88,10 +88,10 @@ fn run_job<
     // What is written.
     ensures end { result.status ≡ Status.Done → IsAtEnd (S.left input.new) }
     ensures done { result.status ≡ Status.Done → IfSome (S.left input.old) (λ bytes.
-        AllTell asked.now.pool.workers (post_files D.files posts.old) →
+        AllTell asked.now (post_files D.files posts.old) (D.files store) →
         Appends (W.written output.old) (W.written output.new) (printed_in (ending_of asked.now bytes))) }
     ensures prefix { IsCut result.status → IfSome (S.left input.old) (λ bytes.
-        AllTell asked.now.pool.workers (post_files D.files posts.old) →
+        AllTell asked.now (post_files D.files posts.old) (D.files store) →
         AppendsPrefix (W.written output.old) (W.written output.new) (printed_in (ending_of asked.now bytes))) }
     ensures nothing { WritesNothing result.status → Keeps (W.written output.old) (W.written output.new) }
     ensures gains { IfSome result.setup (λ setup. Gains asked.now.journal result.status (text_of setup result.journal)
@@ -106,7 +106,7 @@ fn run_job<
         Rose (post_faults D.faults posts.old post) (post_faults D.faults posts.new post)) }
     ensures damaged { IsDamaged result.status (λ kept found. found < kept) }
     ensures named { IsDamagedOn result.status (λ post. post < asked.now.pool.workers) }
-    ensures undamaged { AllTell asked.now.pool.workers (post_files D.files posts.old) →
+    ensures undamaged { AllTell asked.now (post_files D.files posts.old) (D.files store) →
         IsDamaged result.status (λ kept found. ⊥) }
     ensures no_room { IsNoRoom result.status (ShowsShort asked.now.pool result.journal) }
     ensures judged { IsJudged result.status }
@@ -117,12 +117,12 @@ fn run_job<
     ensures none { IfNone result.setup (result.journal ≡ []) }
     ensures legal { IfSome result.setup (λ setup. IsLegal asked.now.pool (history_of result.journal)) }
     ensures tasks { IfSome result.setup (λ setup. (partitions : ℕ)
-        × HasTasks asked.now.pool.workers partitions (passes_of asked.now.job) result.status result.journal
+        × HasTasks asked.now.pool.workers partitions asked.now.job result.status result.journal
         × IfSome (S.left input.old) (λ bytes. partitions ≡ partitions_of asked.now bytes)) }
 
     // The posts.
     ensures fed { result.status ≡ Status.Done → IfSome (S.left input.old) (λ bytes.
-        AllTell asked.now.pool.workers (post_files D.files posts.old) →
+        AllTell asked.now (post_files D.files posts.old) (D.files store) →
         (worker : ℕ) → worker < asked.now.pool.workers → FeedsRun asked.now (checked_for asked.now bytes) worker
         (states_at C.state posts.old.items worker) (states_at C.state posts.new.items worker)) }
     ensures others { (place : ℕ) → asked.now.pool.workers ≤ place
@@ -156,11 +156,15 @@ fn run_job<
 /// dataset's rows of each partition, and a final task merges what the tasks spilled; and prints the tables. The workers of a pass
 /// run at the same time, each in a thread of its own, and share one memory pool; the final tasks run on this thread. Words are
 /// `run [OPTION..] JOB`, with options for the workers, the pool's sizes and the rows (the crate `words`); a job is a text of the
-/// language in which no dataset is kept.
+/// language.
 ///
 /// Worker `w` uses the post at place `w`, whose disk gets its partitions and its runs. Partitions stay, runs that were merged are
 /// removed, and the runs that tables are printed from stay. Each post has sixteen consumers, of which the first eight serve
-/// group queries and the others order queries. No block is cached yet, so the store disk isn't called.
+/// group queries and the others order queries.
+///
+/// The rows of a kept dataset in a partition are cached as a block of the pool, where there is room: a task has them from a pin or
+/// from the copy that an eviction wrote to `store_disk`, or computes them again from the landed rows. Behind the last pass that
+/// needs them its blocks are removed. What the store disk does changes no output.
 ///
 /// With `--journal` the text of the pool's journal is written to `journal` when all sums are known to fit, before the first table.
 ///
@@ -189,14 +193,14 @@ pub fn run<
     ensures end { result.status ≡ Status.Done → IsAtEnd (S.left input.new) }
     ensures done { result.status ≡ Status.Done →
         ForRun (call_of (length posts.old.items) (texts words.now)) (λ asked.
-        IfSome (S.left input.old) (λ bytes. AllTell asked.pool.workers (post_files D.files posts.old) →
+        IfSome (S.left input.old) (λ bytes. AllTell asked (post_files D.files posts.old) (D.files store_disk) →
         Appends (W.written output.old) (W.written output.new) (printed_in (ending_of asked bytes)))) }
 
     // The status is the one that the words and the input call for, unless something outside fails or there is too little room or
     // memory.
     ensures told { TellsCall (call_of (length posts.old.items) (texts words.now)) result.status }
     ensures ending { ForRun (call_of (length posts.old.items) (texts words.now)) (λ asked.
-        IfSome (S.left input.old) (λ bytes. AllTell asked.pool.workers (post_files D.files posts.old) →
+        IfSome (S.left input.old) (λ bytes. AllTell asked (post_files D.files posts.old) (D.files store_disk) →
         MayEndAs (ending_of asked bytes) result.status)) }
     ensures refused { ForRun (call_of (length posts.old.items) (texts words.now)) (λ asked.
         IfSome (S.left input.old) (λ bytes. (why : LandFault) → ending_of asked bytes ≡ Refuses why →
@@ -205,7 +209,7 @@ pub fn run<
         IfSome (S.left input.old) (λ bytes. (why : LandFault) → IsOfInput why → result.status ≡ status_of why →
         ending_of asked bytes ≡ Refuses why)) }
     ensures complete { ForRun (call_of (length posts.old.items) (texts words.now)) (λ asked.
-        IfSome (S.left input.old) (λ bytes. AllTell asked.pool.workers (post_files D.files posts.old) → (text : List ℕ) →
+        IfSome (S.left input.old) (λ bytes. AllTell asked (post_files D.files posts.old) (D.files store_disk) → (text : List ℕ) →
         ending_of asked bytes ≡ Prints text →
         FailsNothing (S.faults input.old) (S.faults input.new) (W.faults output.old) (W.faults output.new)
         (J.faults journal.old) (J.faults journal.new) (post_faults D.faults posts.old) (post_faults D.faults posts.new) →
@@ -220,7 +224,7 @@ pub fn run<
     ensures named { ForRun (call_of (length posts.old.items) (texts words.now)) (λ asked.
         IsDamagedOn result.status (λ post. post < asked.pool.workers)) }
     ensures undamaged { ForRun (call_of (length posts.old.items) (texts words.now)) (λ asked.
-        AllTell asked.pool.workers (post_files D.files posts.old) → IsDamaged result.status (λ kept found. ⊥)) }
+        AllTell asked (post_files D.files posts.old) (D.files store_disk) → IsDamaged result.status (λ kept found. ⊥)) }
     ensures no_room { IfSome result.setup (λ pool. IsNoRoom result.status (ShowsShort pool result.journal)) }
 
     // What was written.
@@ -229,7 +233,7 @@ pub fn run<
     ensures nothing { WritesNothing result.status → Keeps (W.written output.old) (W.written output.new) }
     ensures prefix { IsCut result.status →
         ForRun (call_of (length posts.old.items) (texts words.now)) (λ asked.
-        IfSome (S.left input.old) (λ bytes. AllTell asked.pool.workers (post_files D.files posts.old) →
+        IfSome (S.left input.old) (λ bytes. AllTell asked (post_files D.files posts.old) (D.files store_disk) →
         AppendsPrefix (W.written output.old) (W.written output.new) (printed_in (ending_of asked bytes)))) }
 
     // What the journal's sink gained.
@@ -249,13 +253,13 @@ pub fn run<
     ensures safe { IfSome result.setup (λ pool. IsSafeJournal pool result.journal) }
     ensures tasks { ForRun (call_of (length posts.old.items) (texts words.now)) (λ asked.
         IfSome result.setup (λ setup. (partitions : ℕ)
-        × HasTasks asked.pool.workers partitions (passes_of asked.job) result.status result.journal
+        × HasTasks asked.pool.workers partitions asked.job result.status result.journal
         × IfSome (S.left input.old) (λ bytes. partitions ≡ partitions_of asked bytes))) }
 
     // The posts' consumers.
     ensures fed { result.status ≡ Status.Done →
         ForRun (call_of (length posts.old.items) (texts words.now)) (λ asked.
-        IfSome (S.left input.old) (λ bytes. AllTell asked.pool.workers (post_files D.files posts.old) →
+        IfSome (S.left input.old) (λ bytes. AllTell asked (post_files D.files posts.old) (D.files store_disk) →
         (worker : ℕ) → worker < asked.pool.workers → FeedsRun asked (checked_for asked bytes) worker
         (states_at C.state posts.old.items worker) (states_at C.state posts.new.items worker))) }
     ensures others { ForRun (call_of (length posts.old.items) (texts words.now)) (λ asked.

@@ -3,13 +3,13 @@ use Rattle.std.proofs.Common.{◌≡◌, ◌∙◌, ◌++◌, ◌+◌, ◌-◌, 
 use Rattle.std.specs.Prelude.{Err}
 use Rattle.std.proofs.lemmas.List.{length-append}
 use Rattle.run_file.specs.declared.run.Run.{Run}
-use Rattle.run_file.specs.Several.{run_at}
+use Rattle.memory_core.specs.Caches.{RowsByName}
 use Rattle.turn_lock.specs.Passes.{PassState}
 use Rattle.memory_lock.specs.Workers.{IsFree, SeesMore}
 use Rattle.task_memory.proofs.Holding.{prefix_self, prefix_trans}
 use Rattle.task_memory.proofs.Places.{less_or_not}
 use Rattle.task_memory.proofs.Sameness.{leaves_self, leaves_trans}
-use Rattle.job_plan.specs.Plans.{form_in}
+use Rattle.task_runner.specs.Blocks.{TellsTask}
 use Rattle.task_runner.specs.OneWorker.{DoesFirst, DoesOne, Scene, Stays}
 use Rattle.task_runner.specs.PassViews.{PassView, parts_of, queries_of, rows_over, task_for}
 use Rattle.task_runner.specs.Workers.{DoesSome, IfSound, IsCount, part_at, rows_to}
@@ -18,7 +18,8 @@ use Rattle.task_runner.specs.declared.work_fault.WorkFault.{WorkFault}
 use Rattle.task_runner.specs.declared.work_fault.WorkFault.TheVariants.{NoRoom, DiskFault, Damaged, NoMemory}
 use Rattle.task_runner.proofs.BegunTasks.{does_more, does_none, does_same, parts_rise}
 use Rattle.task_runner.proofs.FedOn.{feeds_more, feeds_none, keeps_self, keeps_trans}
-use Rattle.task_runner.proofs.KeptRuns.{made_more, made_none, only_more, only_none, rows_kept, tell_more, tell_none}
+use Rattle.task_runner.proofs.KeptRuns.{made_more, made_none, only_more, only_none, part_kept, tell_more, tell_none}
+use Rattle.task_runner.proofs.ToldBlocks.{task_later}
 
 sees_self : (worker : PassState) → SeesMore worker worker
 sees_self worker = record { lock_is = refl; number_is = refl; speaks_is = refl; spare_is = refl; begins = prefix_self worker.seen }
@@ -52,9 +53,9 @@ stays_trans a b c first then = record {
 
 -- ---- none yet, and one more
 
-pub first_none : (pass : PassView) (workers : ℕ) (start : Scene) → IsFree start.worker → DoesFirst pass workers start start 0 []
+pub first_none : (given : RowsByName) (pass : PassView) (workers : ℕ) (start : Scene) → IsFree start.worker → DoesFirst given pass workers start start 0 []
 unfolding rows_to
-first_none pass workers start free = record {
+first_none given pass workers start free = record {
   stays = stays_self start free;
   many = omega arith;
   within = λ k below. absurd (omega (arith, below));
@@ -63,6 +64,7 @@ first_none pass workers start free = record {
   only = only_none start.files;
   fed = record { count = 0; feeds = feeds_none start.states pass.plan pass.queries; known = λ rows hold. refl };
   works = does_none pass.first workers start.worker;
+  told = λ k below. absurd (omega (arith, below));
 }
 
 rows_more : (pass : PassView) (workers worker : ℕ) (rows : ℕ → List (List (List ℕ))) (k : ℕ)
@@ -76,17 +78,17 @@ within_more workers worker partitions n within last k below =
     let rise = parts_rise workers worker k n (omega (arith, below)) in
     omega (arith, rise, last)
 
-pub first_more : (pass : PassView) (workers : ℕ) (start now after : Scene) (tasks : ℕ) (answers answers' found : List (Option Run)) → DoesFirst pass workers start now tasks answers
+pub first_more : (given : RowsByName) (pass : PassView) (workers : ℕ) (start now after : Scene) (tasks : ℕ) (answers answers' found : List (Option Run)) → DoesFirst given pass workers start now tasks answers
     → 1 ≤ queries_of pass → part_at workers start.worker.number tasks < parts_of pass
-    → DoesOne pass (run_at pass.parts (part_at workers start.worker.number tasks)) (part_at workers start.worker.number tasks) now after found
-    → answers' ≡ answers ++ found → DoesFirst pass workers start after (suc tasks) answers'
-first_more pass workers start now after tasks answers answers' found first some below one is =
-    subst (DoesFirst pass workers start after (suc tasks)) (sym is) (record {
+    → DoesOne given pass (part_at workers start.worker.number tasks) now after found
+    → answers' ≡ answers ++ found → DoesFirst given pass workers start after (suc tasks) answers'
+first_more given pass workers start now after tasks answers answers' found first some below one is =
+    subst (DoesFirst given pass workers start after (suc tasks)) (sym is) (record {
       stays = stays_trans start now after first.stays one.stays;
       many = let whole = length-append answers found in let was = first.many in let more = one.count in omega (arith, whole, was, more);
       within = λ k within. within_more workers number (parts_of pass) tasks first.within below k within;
       tells = λ rows hold. tell_more now.files after.files pass workers number tasks rows answers found some first.many one.count one.stays.disk.kept (first.tells rows hold) one.made
-          (one.tells (rows part) (rows_kept start.files now.files (form_in pass.plan) (run_at pass.parts part) (rows part) first.stays.disk.kept (hold tasks below)));
+          (one.tells (rows part) (part_kept start.files now.files given pass part (rows part) first.stays.disk.kept (hold tasks below)));
       made = made_more start.files now.files answers found first.stays.disk.kept first.made one.made;
       only = only_more start.files now.files after.files answers found first.stays.disk.kept first.only one.only;
       fed = record {
@@ -94,10 +96,11 @@ first_more pass workers start now after tasks answers answers' found first some 
         feeds = feeds_more start.states now.states after.states pass.plan pass.queries first.fed.count one.fed.count first.fed.feeds one.fed.feeds;
         known = λ rows hold.
             let before = first.fed.known rows hold in
-            let last = one.fed.known (rows part) (rows_kept start.files now.files (form_in pass.plan) (run_at pass.parts part) (rows part) first.stays.disk.kept (hold tasks below)) in
+            let last = one.fed.known (rows part) (part_kept start.files now.files given pass part (rows part) first.stays.disk.kept (hold tasks below)) in
             omega (arith, before, last, rows_more pass workers number rows tasks);
       };
       works = does_more pass.first workers tasks start.worker now.worker after.worker first.stays.sees.number_is first.works one.works;
+      told = told_more first.told;
     })
   where
     number : ℕ
@@ -105,6 +108,12 @@ first_more pass workers start now after tasks answers answers' found first some 
 
     part : ℕ
     part = part_at workers start.worker.number tasks
+
+    told_more : ((k : ℕ) → k < tasks → TellsTask pass (part_at workers number k) now.worker) → (k : ℕ) → k < suc tasks → TellsTask pass (part_at workers number k) after.worker
+    told_more told k below = elim (less_or_not k tasks) [
+      | inl earlier ↦ task_later pass (part_at workers number k) now.worker after.worker one.stays.sees (told k earlier)
+      | inr last ↦ subst (λ (n : ℕ). TellsTask pass (part_at workers number n) after.worker) (omega (arith, below, last)) one.told
+    ]
 
 -- ---- the count of parts
 
@@ -123,9 +132,9 @@ part_next workers worker part next tasks tasks' more is after =
     after ∙ ap (λ (n : ℕ). min n (2 ^ 64 - 1)) (step ∙ ap (part_at workers worker) (sym more))
 
 -- all parts were counted
-pub counts_all : (pass : PassView) (workers : ℕ) (start now : Scene) (tasks : ℕ) (answers : List (Option Run)) (part : ℕ) → DoesFirst pass workers start now tasks answers → parts_of pass ≤ 10000000
+pub counts_all : (given : RowsByName) (pass : PassView) (workers : ℕ) (start now : Scene) (tasks : ℕ) (answers : List (Option Run)) (part : ℕ) → DoesFirst given pass workers start now tasks answers → parts_of pass ≤ 10000000
     → part ≡ min (part_at workers start.worker.number tasks) (2 ^ 64 - 1) → parts_of pass ≤ part → IsCount workers start.worker.number (parts_of pass) tasks
-counts_all pass workers start now tasks answers part first few is over = record {
+counts_all given pass workers start now tasks answers part first few is over = record {
   within = first.within;
   covers = λ k inside. elim (less_or_not k tasks) [
     | inl below ↦ below
@@ -136,10 +145,10 @@ counts_all pass workers start now tasks answers part first few is over = record 
 -- ---- a task that gave up
 
 -- tasks that were done, and perhaps one that gave up
-pub some_more : (pass : PassView) (workers : ℕ) (start now : Scene) (after : PassState) (tasks : ℕ) (answers : List (Option Run)) → DoesFirst pass workers start now tasks answers
+pub some_more : (given : RowsByName) (pass : PassView) (workers : ℕ) (start now : Scene) (after : PassState) (tasks : ℕ) (answers : List (Option Run)) → DoesFirst given pass workers start now tasks answers
     → part_at workers start.worker.number tasks < parts_of pass → MayWork (task_for pass (part_at workers start.worker.number tasks)) now.worker after
     → DoesSome pass.first workers (parts_of pass) start.worker after
-some_more pass workers start now after tasks answers first below may = elim may [
+some_more given pass workers start now after tasks answers first below may = elim may [
   | inl same ↦ record { count = tasks; within = first.within; does = does_same pass.first workers tasks start.worker now.worker after first.works same }
   | inr works ↦ record {
     count = suc tasks;

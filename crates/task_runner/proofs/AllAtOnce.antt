@@ -6,6 +6,7 @@ use Rattle.std.proofs.lemmas.List.{get_or_past}
 use Rattle.pool_ledger.specs.Sizes.{Sizes}
 use Rattle.spill_disk.specs.Files.{Files}
 use Rattle.run_file.specs.declared.run.Run.{Run}
+use Rattle.memory_core.specs.Caches.{RowsByName}
 use Rattle.turn_lock.specs.Passes.{LockId, PassState}
 use Rattle.memory_lock.specs.Crew.{AreWorkers}
 use Rattle.memory_lock.specs.Workers.{IsFree, own_of}
@@ -36,11 +37,11 @@ reached_idle state files faults workers pass olds posts free = record {
 
 -- ---- the same pass
 
-pub ran_alike : {D C : Type 0} (state : C → State) (files : D → Option Files) (faults : D → ℕ) (sizes : Sizes) (count : ℕ) (inner pass : PassView) → inner ≡ pass
+pub ran_alike : {D C : Type 0} (state : C → State) (files : D → Option Files) (faults : D → ℕ) (sizes : Sizes) (count : ℕ) (given : RowsByName) (inner pass : PassView) → inner ≡ pass
     → (olds news : List PassState) (posts posts' : List (Post D C)) (told : List (Result (Vec (Option Run)) WorkFault))
-    → AtEachPlace (Ran state files faults sizes count inner) 0 olds news posts posts' told → AtEachPlace (Ran state files faults sizes count pass) 0 olds news posts posts' told
-ran_alike state files faults sizes count inner pass same olds news posts posts' told ran =
-    subst (λ (view : PassView). AtEachPlace (Ran state files faults sizes count view) 0 olds news posts posts' told) same ran
+    → AtEachPlace (Ran state files faults sizes count given inner) 0 olds news posts posts' told → AtEachPlace (Ran state files faults sizes count given pass) 0 olds news posts posts' told
+ran_alike state files faults sizes count given inner pass same olds news posts posts' told ran =
+    subst (λ (view : PassView). AtEachPlace (Ran state files faults sizes count given view) 0 olds news posts posts' told) same ran
 
 -- ---- a place of the lists
 
@@ -68,15 +69,15 @@ here : {W P A : Type 0} (R : ℕ → W → W → P → P → A → Type 0) (ws w
 here R ws ws' ps ps' told all k within =
     subst (λ (j : ℕ). AtPlace R j (slice_get ws k) (slice_get ws' k) (slice_get ps k) (slice_get ps' k) (slice_get told k)) (from_zero k) (all.each k within)
 
-module _ {D C : Type 0} (state : C → State) (files : D → Option Files) (faults : D → ℕ) (sizes : Sizes) (count : ℕ) (pass : PassView) (olds news : List PassState) (posts posts' : List (Post D C))
+module _ {D C : Type 0} (state : C → State) (files : D → Option Files) (faults : D → ℕ) (sizes : Sizes) (count : ℕ) (given : RowsByName) (pass : PassView) (olds news : List PassState) (posts posts' : List (Post D C))
     (told : List (Result (Vec (Option Run)) WorkFault)) (size : length olds ≡ count)
-    (ran : AtEachPlace (Ran state files faults sizes count pass) 0 olds news posts posts' told) where
+    (ran : AtEachPlace (Ran state files faults sizes count given pass) 0 olds news posts posts' told) where
   -- ---- what they left
 
   pub reached_at_once : Reached state files faults count count pass olds news posts posts'
   reached_at_once = record {
     each = λ w any below.
-        let at = here (Ran state files faults sizes count pass) olds news posts posts' told ran w (omega (arith, below, size)) in
+        let at = here (Ran state files faults sizes count given pass) olds news posts posts' told ran w (omega (arith, below, size)) in
         at_lists (λ before after post post'. Leaves state files faults count pass before after post post') olds news posts posts' w any
         at.one at.one_after at.other at.other_after at.one_is at.one_left at.other_is at.other_left at.did.leaves;
     still = λ w any above.
@@ -90,7 +91,7 @@ module _ {D C : Type 0} (state : C → State) (files : D → Option Files) (faul
   workers_at_once lock were = (
     ran.same_workers ∙ size,
     λ number any below.
-        let at = here (Ran state files faults sizes count pass) olds news posts posts' told ran number (omega (arith, below, size)) in
+        let at = here (Ran state files faults sizes count given pass) olds news posts posts' told ran number (omega (arith, below, size)) in
         let was = were.1 number any below in
         let old : get_or olds number any ≡ at.one = value_at olds number at.one any at.one_is in
         let new : get_or news number any ≡ at.one_after = value_at news number at.one_after any at.one_left in
@@ -111,28 +112,28 @@ module _ {D C : Type 0} (state : C → State) (files : D → Option Files) (faul
   is_told k one other first second = let both : Some one ≡ Some other = sym first ∙ second in let same : one ≡ other = cc in same
 
   finishes_of : (before after : PassState) (post post' : Option (Post D C)) (answer : Result (Vec (Option Run)) WorkFault) (answers : Vec (Option Run)) → answer ≡ Ok answers
-      → IfOk answer (λ answers. Finishes state files count pass before after post post' answers.items) → Finishes state files count pass before after post post' answers.items
+      → IfOk answer (λ answers. Finishes state files count given pass before after post post' answers.items) → Finishes state files count given pass before after post post' answers.items
   finishes_of before after post post' answer answers is done = rw is at done
 
-  pub finished_at_once : (all : List (List (Option Run))) → AreAnswers told all → Finished state files count count pass olds news posts posts' all
+  pub finished_at_once : (all : List (List (Option Run))) → AreAnswers told all → Finished state files count count given pass olds news posts posts' all
   finished_at_once all are =
       let answered = ran.all_answered in
       let many = are.count in
       record {
         count = omega (arith, many, answered, size);
         each = λ w any below.
-            let at = here (Ran state files faults sizes count pass) olds news posts posts' told ran w (omega (arith, below, size)) in
+            let at = here (Ran state files faults sizes count given pass) olds news posts posts' told ran w (omega (arith, below, size)) in
             let list = are.each w (omega (arith, below, size, answered)) in
             let done = finishes_of at.one at.one_after (Some at.other) (Some at.other_after) at.told list.0 (is_told w at.told (Ok list.0) at.told_is list.1) at.did.finishes in
-            subst (λ (answers : List (Option Run)). Finishes state files count pass (get_or olds w any) (get_or news w any) (slice_get posts w) (slice_get posts' w) answers) (sym list.2)
-            (at_lists (λ before after post post'. Finishes state files count pass before after post post' (list.0).items) olds news posts posts' w any
+            subst (λ (answers : List (Option Run)). Finishes state files count given pass (get_or olds w any) (get_or news w any) (slice_get posts w) (slice_get posts' w) answers) (sym list.2)
+            (at_lists (λ before after post post'. Finishes state files count given pass before after post post' (list.0).items) olds news posts posts' w any
             at.one at.one_after at.other at.other_after at.one_is at.one_left at.other_is at.other_left done);
       }
 
   -- ---- a fault of one of them
 
   pub sound_at_once : {T : Type 0} (lock : LockId) (result : Result T WorkFault) → AreWorkers lock count olds → GivesFirst told result → (rows : ℕ → List (List (List ℕ)))
-      → ((w : ℕ) → w < count → HoldsOwn (files_of files (slice_get posts w)) pass count w rows) → IfSound (λ _. ⊤) result
+      → ((w : ℕ) → w < count → HoldsOwn (files_of files (slice_get posts w)) given pass count w rows) → IfSound (λ _. ⊤) result
   sound_at_once lock (Ok all) were tells rows holds = tt
   sound_at_once lock (Err (NoRoom asked held floor)) were tells rows holds = tt
   sound_at_once lock (Err (DiskFault post)) were tells rows holds = tt
@@ -143,13 +144,13 @@ module _ {D C : Type 0} (state : C → State) (files : D → Option Files) (faul
         | inr first ↦
             let answered = ran.all_answered in
             let within = first.within in
-            let at = here (Ran state files faults sizes count pass) olds news posts posts' told ran first.place (omega (arith, within, answered)) in
+            let at = here (Ran state files faults sizes count given pass) olds news posts posts' told ran first.place (omega (arith, within, answered)) in
             let is : at.told ≡ Err (Damaged damage) = is_told first.place at.told (Err (Damaged damage)) at.told_is first.is in
             let number : at.one.number ≡ first.place =
             ap (λ (w : PassState). w.number) (sym (value_at olds first.place at.one at.one at.one_is)) ∙ (were.1 first.place at.one (omega (arith, within, answered, size))).number_is in
             let own = holds first.place (omega (arith, within, answered, size)) in
-            let there : HoldsOwn (files at.other.disk) pass count first.place rows = subst (λ (o : Option (Post D C)). HoldsOwn (files_of files o) pass count first.place rows) at.other_is own in
-            let mine : HoldsOwn (files at.other.disk) pass count at.one.number rows = subst (λ (n : ℕ). HoldsOwn (files at.other.disk) pass count n rows) (sym number) there in
+            let there : HoldsOwn (files at.other.disk) given pass count first.place rows = subst (λ (o : Option (Post D C)). HoldsOwn (files_of files o) given pass count first.place rows) at.other_is own in
+            let mine : HoldsOwn (files at.other.disk) given pass count at.one.number rows = subst (λ (n : ℕ). HoldsOwn (files at.other.disk) given pass count n rows) (sym number) there in
             let never : IfSound (λ _. ⊤) at.told = at.did.sound rows mine in
             rw is at never
       ]
@@ -166,7 +167,7 @@ module _ {D C : Type 0} (state : C → State) (files : D → Option Files) (faul
         | inr first ↦
             let answered = ran.all_answered in
             let within = first.within in
-            let at = here (Ran state files faults sizes count pass) olds news posts posts' told ran first.place (omega (arith, within, answered)) in
+            let at = here (Ran state files faults sizes count given pass) olds news posts posts' told ran first.place (omega (arith, within, answered)) in
             let is : at.told ≡ Err (NoRoom asked held floor) = is_told first.place at.told (Err (NoRoom asked held floor)) at.told_is first.is in
             let room : IfNoRoom at.told (λ asked held floor. (task : ℕ) × ShowsNoRoom sizes (own_of at.one_after) task asked held floor) = at.did.no_room in
             let shows : (task : ℕ) × ShowsNoRoom sizes (own_of at.one_after) task asked held floor = rw is at room in (
@@ -191,7 +192,7 @@ module _ {D C : Type 0} (state : C → State) (files : D → Option Files) (faul
         | inr first ↦
             let answered = ran.all_answered in
             let within = first.within in
-            let at = here (Ran state files faults sizes count pass) olds news posts posts' told ran first.place (omega (arith, within, answered)) in
+            let at = here (Ran state files faults sizes count given pass) olds news posts posts' told ran first.place (omega (arith, within, answered)) in
             let is : at.told ≡ Err fault = is_told first.place at.told (Err fault) at.told_is first.is in
             names_fault T first.place fault (omega (arith, within, answered, size)) (subst (λ (answer : Result (Vec (Option Run)) WorkFault). NamesPost first.place answer) is at.did.names)
       ]
@@ -213,7 +214,7 @@ module _ {D C : Type 0} (state : C → State) (files : D → Option Files) (faul
         | inr first ↦
             let answered = ran.all_answered in
             let within = first.within in
-            let at = here (Ran state files faults sizes count pass) olds news posts posts' told ran first.place (omega (arith, within, answered)) in
+            let at = here (Ran state files faults sizes count given pass) olds news posts posts' told ran first.place (omega (arith, within, answered)) in
             let is : at.told ≡ Err fault = is_told first.place at.told (Err fault) at.told_is first.is in
             let cause = at.did.cause before now (ap (λ (o : Option (Post D C)). faults_of faults o) at.other_is) (ap (λ (o : Option (Post D C)). faults_of faults o) at.other_left) in
             cause_fault T before now fault (subst (λ (answer : Result (Vec (Option Run)) WorkFault). HasCauseAmong before now answer) is cause)

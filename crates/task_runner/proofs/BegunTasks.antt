@@ -16,7 +16,8 @@ use Rattle.task_pool.proofs.GoingOn.{all_append}
 use Rattle.memory_lock.proofs.Staying.{all_imply}
 use Rattle.task_pool.specs.Asks.{IsOfTask}
 use Rattle.task_runner.specs.Workers.{AreTasks, DoesTasks, part_at}
-use Rattle.task_runner.specs.Works.{IsTaskOf, Works}
+use Rattle.lineage.specs.Entries.{IsRowsWork}
+use Rattle.task_runner.specs.Works.{IsInTask, IsTaskOf, Works}
 
 -- whatever tasks were begun, they are after
 abbrev LeavesBegun : Entry → Type 0
@@ -37,13 +38,31 @@ asks_leave worker task entry is = elim is [
   ]
 ]
 
+rows_leave : (worker : ℕ) (entry : Entry) → IsRowsWork worker entry → LeavesBegun entry
+rows_leave worker entry is = elim is [
+  | inl pinning ↦ elim pinning [
+    | inl pin ↦ subst LeavesBegun (sym pin.3) (λ tasks. refl)
+    | inr unpin ↦ subst LeavesBegun (sym unpin.2) (λ tasks. refl)
+  ]
+  | inr other ↦ elim other [
+    | inl keeping ↦ elim keeping [
+      | inl admit ↦ subst LeavesBegun (sym admit.6) (λ tasks. refl)
+      | inr refused ↦ subst LeavesBegun (sym refused.5) (λ tasks. refl)
+    ]
+    | inr eviction ↦ subst LeavesBegun (sym eviction.4) (λ tasks. refl)
+  ]
+]
+
+amid_leave : (worker task : ℕ) (entry : Entry) → IsInTask worker task entry → LeavesBegun entry
+amid_leave worker task entry is = elim is [ inl asks ↦ asks_leave worker task entry asks | inr work ↦ rows_leave worker entry work ]
+
 -- a task's entries begin the task, and no other
 begun_task : (worker task : ℕ) (before entries : List Entry) → IsTaskOf worker task entries → begun (history_of (before ++ entries)) ≡ task ∷ begun (history_of before)
 begun_task worker task before entries is =
     let first = entry_by worker (Begin task) in
     let last = entry_by worker (End task is.freed) in
     let rest : AllByRecursion LeavesBegun (is.amid ++ last ∷ []) =
-    all_append LeavesBegun is.amid (last ∷ []) (all_imply (IsOfTask worker task) LeavesBegun (asks_leave worker task) is.amid is.asks) (λ tasks. refl, tt) in
+    all_append LeavesBegun is.amid (last ∷ []) (all_imply (IsInTask worker task) LeavesBegun (amid_leave worker task) is.amid is.all) (λ tasks. refl, tt) in
     ap (λ (es : List Entry). begun (history_of (before ++ es))) is.are
     ∙ ap (λ (es : List Entry). begun (history_of es)) (sym (append_assoc before (first ∷ []) (is.amid ++ last ∷ [])))
     ∙ begun_all (before ++ first ∷ []) (is.amid ++ last ∷ []) rest ∙ ap begun (reverse-append before (first ∷ []))

@@ -1,5 +1,5 @@
 -- Rows of a page as entries of a query.
-use Rattle.std.proofs.Common.{◌≡◌, ◌∙◌, ℕ, zero, suc, ◌+◌, ◌*◌, ◌<◌, true, ◌≤◌, List, [], ◌∷◌, ◌++◌, refl, sym, ap, take, get_or, length, map, arith}
+use Rattle.std.proofs.Common.{◌≡◌, ◌∙◌, ℕ, zero, suc, ◌+◌, ◌*◌, ◌<◌, true, ◌≤◌, List, [], ◌∷◌, ◌++◌, refl, sym, ap, take, get_or, length, map, subst, arith}
 use Rattle.std.proofs.lemmas.List.{length-map, take_more}
 use Rattle.std.specs.Prelude.{slice_index, sum_by}
 use Rattle.std.specs.List.{AllByRecursion}
@@ -8,14 +8,17 @@ use Rattle.std.proofs.lemmas.List.Sums.{sum_by-cons}
 use Rattle.row_page.specs.Spelling.{row_length}
 use Rattle.run_file.specs.declared.form.Form.{Form}
 use Rattle.run_file.specs.declared.form.Form.TheVariants.{Entries, Landed}
+use Rattle.run_file.specs.Several.{run_at}
 use Rattle.run_file.specs.Forms.{IsWellFormed}
 use Rattle.aggregate.specs.Totals.{Entry}
 use Rattle.job_plan.specs.Entries.{entry_of, field_bytes}
-use Rattle.job_plan.specs.Plans.{kept_at}
+use Rattle.job_plan.specs.Plans.{form_in, kept_at}
 use Rattle.job_plan.specs.declared.query_plan.Plan.{Plan}
 use Rattle.job_plan.specs.Planning.{columns_of}
+use Rattle.task_runner.specs.PassViews.{PassView, lineage_of}
 use Rattle.task_runner.specs.Queries.{made_in}
-use Rattle.task_runner.specs.Reading.{is_landed}
+use Rattle.lineage.specs.Handed.{AreFormed}
+use Rattle.lineage.specs.LineageViews.{IsLineage, LineageView, is_landed}
 use Rattle.task_runner.specs.Spilling.{AreShort, entry_by}
 
 abbrev Row : Type 0
@@ -58,3 +61,10 @@ all_short columns greatest numbers (row ∷ rows) all few (suc i) below = all_sh
 pub short_rows : (form : Form) (greatest : ℕ) (rows : List Row) → is_landed form ≡ true → AllByRecursion (IsWellFormed form greatest) rows → greatest ≤ 36 + 4 * columns_of form + 65536 → AreShort form rows
 short_rows (Landed columns numbers) greatest rows landed all few = all_short columns greatest numbers rows all few
 short_rows (Entries kind) greatest rows landed all few = absurd (false≢true landed)
+
+-- so are those that were handed out of a partition whose landed rows are
+pub short_formed : (pass : PassView) (part : ℕ) (lineage : LineageView) (rows : List Row) → lineage ≡ lineage_of pass → IsLineage (lineage_of pass) → (run_at pass.parts part).greatest ≤ 36 + 4 * columns_of (form_in pass.plan) + 65536
+    → AreFormed lineage part rows → AreShort (form_in pass.plan) rows
+short_formed pass part lineage rows same is few formed =
+    let all : AreFormed (lineage_of pass) part rows = subst (λ (view : LineageView). AreFormed view part rows) same formed in
+    short_rows (form_in pass.plan) (run_at pass.parts part).greatest rows is.landed all.formed few

@@ -2,6 +2,7 @@
 use Rattle.std.proofs.Common.{ℕ, List, Option, Some, map}
 use Rattle.spill_disk.specs.Files.{Files}
 use Rattle.run_file.specs.declared.run.Run.{Run}
+use Rattle.memory_core.specs.Caches.{RowsByName}
 use Rattle.turn_lock.specs.Passes.{PassState}
 use Rattle.consumer_trait.specs.States.{State}
 use Rattle.task_runner.specs.AllWorkers.{Finishes, Leaves}
@@ -10,10 +11,10 @@ use Rattle.task_runner.specs.PassViews.{PassView, parts_of}
 use Rattle.task_runner.specs.Workers.{DoesSome, IsCount}
 use Rattle.task_runner.specs.declared.post.Post.{Post}
 
-pub finishes_of : {D C : Type 0} (state : C → State) (files : D → Option Files) (faults : D → ℕ) (workers : ℕ) (pass : PassView) (before after : PassState) (post post' : Post D C) (tasks : ℕ) (answers : List (Option Run))
-    → DoesFirst pass workers (scene_of before (map state post.consumers.items) (files post.disk) (faults post.disk)) (scene_of after (map state post'.consumers.items) (files post'.disk) (faults post'.disk)) tasks answers
-    → IsCount workers before.number (parts_of pass) tasks → Finishes state files workers pass before after (Some post) (Some post') answers
-finishes_of state files faults workers pass before after post post' tasks answers first count = record {
+pub finishes_of : {D C : Type 0} (state : C → State) (files : D → Option Files) (faults : D → ℕ) (workers : ℕ) (given : RowsByName) (pass : PassView) (before after : PassState) (post post' : Post D C) (tasks : ℕ) (answers : List (Option Run))
+    → DoesFirst given pass workers (scene_of before (map state post.consumers.items) (files post.disk) (faults post.disk)) (scene_of after (map state post'.consumers.items) (files post'.disk) (faults post'.disk)) tasks answers
+    → IsCount workers before.number (parts_of pass) tasks → Finishes state files workers given pass before after (Some post) (Some post') answers
+finishes_of state files faults workers given pass before after post post' tasks answers first count = record {
   tasks = tasks;
   count = count;
   many = first.many;
@@ -22,6 +23,7 @@ finishes_of state files faults workers pass before after post post' tasks answer
   made = first.made;
   only = first.only;
   tells = first.tells;
+  told = first.told;
 }
 
 pub leaves_of : {D C : Type 0} (state : C → State) (files : D → Option Files) (faults : D → ℕ) (workers : ℕ) (pass : PassView) (before after : PassState) (post post' : Post D C)

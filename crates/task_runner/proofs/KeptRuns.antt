@@ -13,6 +13,7 @@ use Rattle.run_file.specs.declared.form.Form.{Form}
 use Rattle.run_file.specs.declared.run.Run.{Run}
 use Rattle.run_file.specs.Runs.{Stands}
 use Rattle.run_file.specs.Several.{HasEntries, KeepsFile}
+use Rattle.memory_core.specs.Caches.{RowsByName}
 use Rattle.task_memory.specs.Disks.{KeepsFiles}
 use Rattle.task_memory.specs.Draining.{taken_at}
 use Rattle.task_memory.specs.RunLists.{HaveEntries}
@@ -20,9 +21,11 @@ use Rattle.task_memory.specs.Writing.{WasNotThere}
 use Rattle.task_memory.proofs.Holding.{not_there_before}
 use Rattle.task_memory.proofs.Places.{less_or_not}
 use Rattle.task_memory.proofs.Sameness.{same_at_self, same_at_trans}
-use Rattle.task_runner.specs.PartAnswers.{AnswerParts, answer_place}
-use Rattle.task_runner.specs.Parts.{HoldsRows, IsMade}
-use Rattle.task_runner.specs.PassViews.{PassView, queries_of, rows_over}
+use Rattle.lineage.specs.Standing.{HoldsRows, IsSaid}
+use Rattle.lineage.specs.LineageViews.{form_for, run_for}
+use Rattle.task_runner.specs.PartAnswers.{AnswerParts, HoldsPart, SaysPart, answer_place}
+use Rattle.task_runner.specs.Parts.{IsMade}
+use Rattle.task_runner.specs.PassViews.{PassView, lineage_of, queries_of, rows_over}
 use Rattle.task_runner.specs.Queries.{HaveAnswers, kind_in, made_in}
 use Rattle.task_runner.specs.Workers.{AreMade, HasAnswer, LeavesOnlyAnswers, answer_at, part_at}
 
@@ -44,8 +47,22 @@ kept_file (Some b) (Some a) file kept = kept file
 stands_kept : (before after : Option Files) (run : Run) (rows : List (List (List ℕ))) → KeepsFiles before after → Stands before run rows → Stands after run rows
 stands_kept before after run rows kept h = stands_at before after run rows (kept_file before after run.file kept) h
 
-pub rows_kept : (before after : Option Files) (form : Form) (run : Run) (rows : List (List (List ℕ))) → KeepsFiles before after → HoldsRows before form run rows → HoldsRows after form run rows
+rows_kept : (before after : Option Files) (form : Form) (run : Run) (rows : List (List (List ℕ))) → KeepsFiles before after → HoldsRows before form run rows → HoldsRows after form run rows
 rows_kept before after form run rows kept h = record { stands = stands_kept before after run rows kept h.stands; formed = h.formed }
+
+pub part_kept : (before after : Option Files) (given : RowsByName) (pass : PassView) (part : ℕ) (rows : List (List (List ℕ))) → KeepsFiles before after → HoldsPart before given pass part rows → HoldsPart after given pass part rows
+part_kept before after given pass part rows kept h = (rows_kept before after (form_for (lineage_of pass)) (run_for (lineage_of pass) part) rows kept h.0, h.1)
+
+-- what is said of a partition's blocks stays so
+pub says_kept : (before after : Option Files) (given : RowsByName) (pass : PassView) (part : ℕ) → KeepsFiles before after → SaysPart before given pass part → SaysPart after given pass part
+says_kept before after given pass part kept says dataset rows some there is =
+    let said : IsSaid given before (lineage_of pass) part dataset rows = says dataset rows some there is in
+    record {
+      input = said.input;
+      holds = rows_kept before after (form_for (lineage_of pass)) (run_for (lineage_of pass) part) said.input kept said.holds;
+      rows_are = said.rows_are;
+      kept = said.kept;
+    }
 
 entries_at : (before after : Option Files) (kind : Kind) (run : Run) (entries : List Entry) → KeepsFile before after run.file → HasEntries before kind run entries → HasEntries after kind run entries
 entries_at before after kind run entries kept h = record {

@@ -5,12 +5,13 @@ mod AllAtOnce
 mod Answered
 mod Told
 mod OneTask
+pub mod ToldBlocks
 mod Swapped
 mod BegunTasks
 mod FedOn
 mod KeptRuns
 mod Advancing
-mod OfPartitions
+pub mod OfPartitions
 mod InOrder
 mod Gathers
 mod Idle
@@ -22,7 +23,6 @@ mod Behind
 mod Feeds
 mod MoreRows
 mod Fields
-mod Derivation
 mod Drains
 mod DrainedAll
 mod Starts

@@ -8,6 +8,7 @@ use Rattle.std.proofs.lemmas.List.{get_or_past}
 use Rattle.spill_disk.specs.Files.{Files}
 use Rattle.run_file.specs.declared.run.Run.{Run}
 use Rattle.run_file.specs.Several.{IsFileAmong, KeepsFile, run_at as run_in}
+use Rattle.memory_core.specs.Caches.{RowsByName}
 use Rattle.task_memory.specs.Disks.{KeepsFiles, SameAt}
 use Rattle.task_memory.specs.RunLists.{runs_at}
 use Rattle.task_memory.specs.Writing.{WasNotThere}
@@ -50,8 +51,8 @@ made_new before (Some run) made = made.fresh
 
 -- ---- the runs that all workers answered, a list for each query
 
-module _ {D C : Type 0} (state : C → State) (files : D → Option Files) (workers : ℕ) (pass : PassView) (lock : LockId) (olds news : List PassState) (posts posts' : List (Post D C)) (all : List (List (Option Run))) (any : PassState)
-    (some : 1 ≤ workers) (are : AreWorkers lock workers olds) (done : Finished state files workers workers pass olds news posts posts' all) where
+module _ {D C : Type 0} (state : C → State) (files : D → Option Files) (workers : ℕ) (given : RowsByName) (pass : PassView) (lock : LockId) (olds news : List PassState) (posts posts' : List (Post D C)) (all : List (List (Option Run))) (any : PassState)
+    (some : 1 ≤ workers) (are : AreWorkers lock workers olds) (done : Finished state files workers workers given pass olds news posts posts' all) where
   abbrev n : ℕ
   n = queries_of pass
 
@@ -83,19 +84,19 @@ module _ {D C : Type 0} (state : C → State) (files : D → Option Files) (work
   answered_of size same part i below query = rw same (place_within part i below query)
 
   -- each worker's answers tell what its rows come to
-  tells_of : (rows : ℕ → List (List (List ℕ))) → HoldsAll before pass workers rows → (w : ℕ) → w < workers → AnswerParts (after w) pass workers w rows (answers_of all w)
+  tells_of : (rows : ℕ → List (List (List ℕ))) → HoldsAll before given pass workers rows → (w : ℕ) → w < workers → AnswerParts (after w) pass workers w rows (answers_of all w)
   tells_of rows holds w below =
       let number = (are.1 w any below).number_is in
-      let own = holds_of files pass workers w rows posts below holds in
+      let own = holds_of files given pass workers w rows posts below holds in
       subst (λ (m : ℕ). AnswerParts (after w) pass workers m rows (answers_of all w)) number
-      ((done.each w any below).tells rows (subst (λ (m : ℕ). HoldsOwn (before w) pass workers m rows) (sym number) own))
+      ((done.each w any below).tells rows (subst (λ (m : ℕ). HoldsOwn (before w) given pass workers m rows) (sym number) own))
 
   -- each worker's consumers were fed the dataset's rows of all of its partitions
-  pub feeds_parts : (w : ℕ) → w < workers → FeedsParts (states_of state (slice_get posts w)) (states_of state (slice_get posts' w)) (before w) pass workers w
+  pub feeds_parts : (w : ℕ) → w < workers → FeedsParts (states_of state (slice_get posts w)) (states_of state (slice_get posts' w)) (before w) given pass workers w
   feeds_parts w below =
       let number = (are.1 w any below).number_is in
       let one = done.each w any below in
-      let fed = subst (λ (m : ℕ). FeedsFirst (states_of state (slice_get posts w)) (states_of state (slice_get posts' w)) (before w) pass workers m (tasks_of w below)) number one.feeds in
+      let fed = subst (λ (m : ℕ). FeedsFirst (states_of state (slice_get posts w)) (states_of state (slice_get posts' w)) (before w) given pass workers m (tasks_of w below)) number one.feeds in
       record {
         tasks = tasks_of w below;
         all = counts_of w below;
@@ -146,7 +147,7 @@ module _ {D C : Type 0} (state : C → State) (files : D → Option Files) (work
         (λ i. none_all (λ run. WasNotThere (before run.disk) run.file))
 
     -- they tell what each query makes of the rows of all partitions
-    pub tell_all : (rows : ℕ → List (List (List ℕ))) → HoldsAll before pass workers rows → AnswerAllParts after pass rows lists
+    pub tell_all : (rows : ℕ → List (List (List ℕ))) → HoldsAll before given pass workers rows → AnswerAllParts after pass rows lists
     tell_all rows holds =
         let tells = tells_of rows holds in
         record {

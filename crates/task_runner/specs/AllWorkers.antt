@@ -4,15 +4,17 @@ use Rattle.std.specs.Prelude.{◌≡◌, ℕ, ◌*◌, ◌<◌, ◌≤◌, List,
 use Rattle.std.specs.Option.{option_and_then, option_map, option_map_or}
 use Rattle.spill_disk.specs.Files.{Files}
 use Rattle.run_file.specs.declared.run.Run.{Run}
+use Rattle.memory_core.specs.Caches.{RowsByName}
 use Rattle.task_memory.specs.Disks.{LeavesDisk}
 use Rattle.turn_lock.specs.Passes.{PassState}
 use Rattle.memory_lock.specs.Workers.{IsFree, KeepsPin, SeesMore}
 use Rattle.consumer_trait.specs.States.{State}
+use Rattle.task_runner.specs.Blocks.{TellsTask}
 use Rattle.task_runner.specs.Consumers.{KeepsConsumers}
 use Rattle.task_runner.specs.FedParts.{FeedsFirst}
 use Rattle.task_runner.specs.PartAnswers.{AnswerParts, HoldsOwn}
 use Rattle.task_runner.specs.PassViews.{PassView, parts_of, queries_of}
-use Rattle.task_runner.specs.Workers.{AreMade, DoesSome, DoesTasks, IsCount, LeavesOnlyAnswers}
+use Rattle.task_runner.specs.Workers.{AreMade, DoesSome, DoesTasks, IsCount, LeavesOnlyAnswers, part_at}
 use Rattle.task_runner.specs.declared.post.Post.{Post}
 use Rattle.task_runner.specs.declared.work_fault.WorkFault.{WorkFault}
 use Rattle.task_runner.specs.declared.work_fault.WorkFault.TheVariants.{NoRoom, DiskFault, Damaged, NoMemory}
@@ -50,15 +52,16 @@ pub record Leaves {D C : Type 0} (state : C → State) (files : D → Option Fil
   pub disk : LeavesDisk (files_of files post) (files_of files post') (faults_of faults post) (faults_of faults post')
 
 -- a worker did all of its tasks, with these answers
-pub record Finishes {D C : Type 0} (state : C → State) (files : D → Option Files) (workers : ℕ) (pass : PassView) (before after : PassState) (post post' : Option (Post D C)) (answers : List (Option Run)) : Type 0 where
+pub record Finishes {D C : Type 0} (state : C → State) (files : D → Option Files) (workers : ℕ) (given : RowsByName) (pass : PassView) (before after : PassState) (post post' : Option (Post D C)) (answers : List (Option Run)) : Type 0 where
   pub tasks : ℕ
   pub count : IsCount workers before.number (parts_of pass) tasks
   pub many : length answers ≡ tasks * queries_of pass
-  pub feeds : FeedsFirst (states_of state post) (states_of state post') (files_of files post) pass workers before.number tasks
+  pub feeds : FeedsFirst (states_of state post) (states_of state post') (files_of files post) given pass workers before.number tasks
   pub does : DoesTasks pass.first workers tasks before after
+  pub told : (k : ℕ) → k < tasks → TellsTask pass (part_at workers before.number k) after
   pub made : AreMade (files_of files post) answers
   pub only : LeavesOnlyAnswers (files_of files post) (files_of files post') answers
-  pub tells : (rows : ℕ → List (List (List ℕ))) → HoldsOwn (files_of files post) pass workers before.number rows
+  pub tells : (rows : ℕ → List (List (List ℕ))) → HoldsOwn (files_of files post) given pass workers before.number rows
       → AnswerParts (files_of files post') pass workers before.number rows answers
 
 -- ---- all workers
@@ -76,7 +79,7 @@ abbrev pub answers_of : List (List (Option Run)) → ℕ → List (Option Run)
 answers_of all worker = slice_index_or all worker []
 
 -- the workers below `n` did all of their tasks, with these answers, a list for each worker
-pub record Finished {D C : Type 0} (state : C → State) (files : D → Option Files) (workers n : ℕ) (pass : PassView) (olds news : List PassState) (posts posts' : List (Post D C)) (all : List (List (Option Run))) : Type 0 where
+pub record Finished {D C : Type 0} (state : C → State) (files : D → Option Files) (workers n : ℕ) (given : RowsByName) (pass : PassView) (olds news : List PassState) (posts posts' : List (Post D C)) (all : List (List (Option Run))) : Type 0 where
   pub count : length all ≡ n
   pub each : (w : ℕ) (any : PassState) → w < n
-      → Finishes state files workers pass (slice_index_or olds w any) (slice_index_or news w any) (slice_get posts w) (slice_get posts' w) (answers_of all w)
+      → Finishes state files workers given pass (slice_index_or olds w any) (slice_index_or news w any) (slice_get posts w) (slice_get posts' w) (answers_of all w)

@@ -7,12 +7,13 @@ use Rattle.pool_ledger.specs.History.{was_begun}
 use Rattle.pool_ledger.specs.Sizes.{Sizes}
 use Rattle.spill_disk.specs.Files.{Files}
 use Rattle.run_file.specs.declared.run.Run.{Run}
+use Rattle.memory_core.specs.Caches.{RowsByName}
 use Rattle.turn_lock.specs.Passes.{LockId, PassState}
-use Rattle.memory_lock.specs.Workers.{IsFree, own_of}
+use Rattle.memory_lock.specs.Workers.{HasNoPin, IsFree, own_of}
 use Rattle.task_runner.specs.AllWorkers.{Finishes, Leaves, answers_of}
 use Rattle.task_runner.specs.Answers.{HasCauseAmong, NamesPost}
 use Rattle.task_runner.specs.Consumers.{HasConsumers}
-use Rattle.task_runner.specs.PartAnswers.{HoldsOwn}
+use Rattle.task_runner.specs.PartAnswers.{HoldsOwn, SaysOwn}
 use Rattle.task_runner.specs.PassViews.{PassView, parts_of, task_for}
 use Rattle.task_runner.specs.Queries.{IsPass}
 use Rattle.task_runner.specs.Workers.{IfSound, part_at}
@@ -23,25 +24,28 @@ use Rattle.task_runner.specs.declared.work_fault.WorkFault.TheVariants.{NoMemory
 
 -- ---- one worker at its post
 
--- the worker of this place may do its tasks at this post: it has no task, owns those of its partitions, and began none of them
-pub record MayRun {D C : Type 0} (state : C → State) (lock : LockId) (owner : ℕ → Option ℕ) (workers : ℕ) (pass : PassView) (place : ℕ) (worker : PassState) (post : Post D C) : Type 0 where
+-- the worker of this place may do its tasks at this post: it has no task and no pin, owns those of its partitions, and began none of
+-- them
+pub record MayRun {D C : Type 0} (state : C → State) (files : D → Option Files) (lock : LockId) (owner : ℕ → Option ℕ) (workers : ℕ) (given : RowsByName) (pass : PassView) (place : ℕ) (worker : PassState) (post : Post D C) : Type 0 where
   pub lock_is : worker.lock ≡ lock
   pub number_is : worker.number ≡ place
   pub known : place < workers
   pub narrow : place < 2 ^ 32
   pub free : IsFree worker
+  pub unpinned : HasNoPin worker
   pub owns : (k : ℕ) → part_at workers worker.number k < parts_of pass
       → owner (task_for pass (part_at workers worker.number k)) ≡ Some worker.number
   pub fresh : (k : ℕ) → part_at workers worker.number k < parts_of pass
       → was_begun (own_of worker) (task_for pass (part_at workers worker.number k)) ≡ false
   pub consumers : HasConsumers (map state post.consumers.items)
+  pub says : SaysOwn (files post.disk) given pass workers worker.number
   pub pass_is : IsPass pass
 
 -- what the worker of this place leaves there, and what it answers
-pub record Ran {D C : Type 0} (state : C → State) (files : D → Option Files) (faults : D → ℕ) (sizes : Sizes) (workers : ℕ) (pass : PassView) (place : ℕ) (before after : PassState) (post post' : Post D C) (answer : Result (Vec (Option Run)) WorkFault) : Type 0 where
-  pub finishes : IfOk answer (λ answers. Finishes state files workers pass before after (Some post) (Some post') answers.items)
+pub record Ran {D C : Type 0} (state : C → State) (files : D → Option Files) (faults : D → ℕ) (sizes : Sizes) (workers : ℕ) (given : RowsByName) (pass : PassView) (place : ℕ) (before after : PassState) (post post' : Post D C) (answer : Result (Vec (Option Run)) WorkFault) : Type 0 where
+  pub finishes : IfOk answer (λ answers. Finishes state files workers given pass before after (Some post) (Some post') answers.items)
   pub leaves : Leaves state files faults workers pass before after (Some post) (Some post')
-  pub sound : (rows : ℕ → List (List (List ℕ))) → HoldsOwn (files post.disk) pass workers before.number rows → IfSound (λ _. ⊤) answer
+  pub sound : (rows : ℕ → List (List (List ℕ))) → HoldsOwn (files post.disk) given pass workers before.number rows → IfSound (λ _. ⊤) answer
   pub no_room : IfNoRoom answer (λ asked held floor. (task : ℕ) × ShowsNoRoom sizes (own_of after) task asked held floor)
   pub names : NamesPost place answer
   pub rests : after.base ≡ None
@@ -49,18 +53,19 @@ pub record Ran {D C : Type 0} (state : C → State) (files : D → Option Files)
 
 -- ---- all of them
 
--- the workers have no task, own those of their partitions, and began none of them
+-- the workers have no task and no pin, own those of their partitions, and began none of them
 pub record MayDoAll (owner : ℕ → Option ℕ) (count : ℕ) (pass : PassView) (workers : List PassState) : Type 0 where
   pub free : (worker : ℕ) (any : PassState) → worker < count → IsFree (slice_index_or workers worker any)
+  pub unpinned : (worker : ℕ) (any : PassState) → worker < count → HasNoPin (slice_index_or workers worker any)
   pub owns : (part : ℕ) → part < parts_of pass → owner (task_for pass part) ≡ Some (part % count)
   pub fresh : (worker part : ℕ) (any : PassState) → worker < count → part < parts_of pass
       → was_begun (own_of (slice_index_or workers worker any)) (task_for pass part) ≡ false
 
 -- the worker of each place may do its tasks there
-abbrev pub AllMayRun : {D C : Type 0} → (C → State) → LockId → (ℕ → Option ℕ) → ℕ → PassView → List PassState → List (Post D C) → Type 0
-AllMayRun {D = D} {C = C} state lock owner count pass workers posts =
+abbrev pub AllMayRun : {D C : Type 0} → (C → State) → (D → Option Files) → LockId → (ℕ → Option ℕ) → ℕ → RowsByName → PassView → List PassState → List (Post D C) → Type 0
+AllMayRun {D = D} {C = C} state files lock owner count given pass workers posts =
     (place : ℕ) (worker : PassState) (post : Post D C) → place < length workers
-    → MayRun state lock owner count pass place (slice_index_or workers place worker) (slice_index_or posts place post)
+    → MayRun state files lock owner count given pass place (slice_index_or workers place worker) (slice_index_or posts place post)
 
 -- each worker answered its list of these
 pub record AreAnswers (told : List (Result (Vec (Option Run)) WorkFault)) (all : List (List (Option Run))) : Type 0 where

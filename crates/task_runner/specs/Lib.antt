@@ -1,11 +1,11 @@
 pub mod PassViews
 pub mod Works
+pub mod Blocks
 pub mod Answers
 pub mod AtOnce
 pub mod Merging
 pub mod Consumers
 pub mod Parts
-pub mod Reading
 pub mod Spilling
 pub mod Workers
 pub mod Queries

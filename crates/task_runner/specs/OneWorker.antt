@@ -3,15 +3,15 @@
 use Rattle.std.specs.Prelude.{◌≡◌, ℕ, ◌*◌, ◌<◌, List, ◌++◌, Option, length}
 use Rattle.spill_disk.specs.Files.{Files}
 use Rattle.run_file.specs.declared.run.Run.{Run}
+use Rattle.memory_core.specs.Caches.{RowsByName}
 use Rattle.turn_lock.specs.Passes.{PassState}
 use Rattle.memory_lock.specs.Workers.{IsFree, KeepsPin, SeesMore}
 use Rattle.consumer_trait.specs.States.{State}
 use Rattle.task_memory.specs.Disks.{LeavesDisk}
-use Rattle.job_plan.specs.Plans.{form_in}
 use Rattle.task_runner.specs.Consumers.{KeepsConsumers}
 use Rattle.task_runner.specs.FedParts.{FeedsFirst, FeedsPart}
-use Rattle.task_runner.specs.PartAnswers.{AnswerParts, HoldsOwn}
-use Rattle.task_runner.specs.Parts.{HoldsRows}
+use Rattle.task_runner.specs.Blocks.{TellsTask}
+use Rattle.task_runner.specs.PartAnswers.{AnswerParts, HoldsOwn, HoldsPart}
 use Rattle.task_runner.specs.PassViews.{PassView, parts_of, queries_of, rows_over, task_for}
 use Rattle.task_runner.specs.Queries.{HaveAnswers, made_in}
 use Rattle.task_runner.specs.Workers.{AreMade, DoesTasks, LeavesOnlyAnswers, part_at}
@@ -36,30 +36,32 @@ pub record Stays (before after : Scene) : Type 0 where
   pub sees : SeesMore before.worker after.worker
   pub disk : LeavesDisk before.files after.files before.faults after.faults
 
--- one task was done, of this partition with this landed run: its answers are one for each query
-pub record DoesOne (pass : PassView) (landed : Run) (part : ℕ) (before after : Scene) (found : List (Option Run)) : Type 0 where
+-- one task was done, of this partition: its answers are one for each query
+pub record DoesOne (given : RowsByName) (pass : PassView) (part : ℕ) (before after : Scene) (found : List (Option Run)) : Type 0 where
   pub stays : Stays before after
   pub count : length found ≡ queries_of pass
-  pub tells : (rows : List (List (List ℕ))) → HoldsRows before.files (form_in pass.plan) landed rows
+  pub tells : (rows : List (List (List ℕ))) → HoldsPart before.files given pass part rows
       → HaveAnswers after.files pass.plan pass.queries (made_in pass.plan pass.queries (rows_over pass rows)) found
   pub made : AreMade before.files found
   pub only : LeavesOnlyAnswers before.files after.files found
-  pub fed : FeedsPart before.states after.states before.files pass landed
+  pub fed : FeedsPart before.states after.states before.files given pass part
   pub works : Works (task_for pass part) before.worker after.worker
+  pub told : TellsTask pass part after.worker
 
 -- one task was done, and its answers stand behind the others
-abbrev pub AddsOne : PassView → Run → ℕ → Scene → Scene → List (Option Run) → List (Option Run) → Type 0
-AddsOne pass landed part before after answers answers' =
-    (found : List (Option Run)) × DoesOne pass landed part before after found × (answers' ≡ answers ++ found)
+abbrev pub AddsOne : RowsByName → PassView → ℕ → Scene → Scene → List (Option Run) → List (Option Run) → Type 0
+AddsOne given pass part before after answers answers' =
+    (found : List (Option Run)) × DoesOne given pass part before after found × (answers' ≡ answers ++ found)
 
 -- so many tasks were done, with these answers
-pub record DoesFirst (pass : PassView) (workers : ℕ) (start now : Scene) (tasks : ℕ) (answers : List (Option Run)) : Type 0 where
+pub record DoesFirst (given : RowsByName) (pass : PassView) (workers : ℕ) (start now : Scene) (tasks : ℕ) (answers : List (Option Run)) : Type 0 where
   pub stays : Stays start now
   pub many : length answers ≡ tasks * queries_of pass
   pub within : (k : ℕ) → k < tasks → part_at workers start.worker.number k < parts_of pass
-  pub tells : (rows : ℕ → List (List (List ℕ))) → HoldsOwn start.files pass workers start.worker.number rows
+  pub tells : (rows : ℕ → List (List (List ℕ))) → HoldsOwn start.files given pass workers start.worker.number rows
       → AnswerParts now.files pass workers start.worker.number rows answers
   pub made : AreMade start.files answers
   pub only : LeavesOnlyAnswers start.files now.files answers
-  pub fed : FeedsFirst start.states now.states start.files pass workers start.worker.number tasks
+  pub fed : FeedsFirst start.states now.states start.files given pass workers start.worker.number tasks
   pub works : DoesTasks pass.first workers tasks start.worker now.worker
+  pub told : (k : ℕ) → k < tasks → TellsTask pass (part_at workers start.worker.number k) now.worker

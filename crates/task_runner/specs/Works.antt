@@ -11,16 +11,29 @@ use Rattle.pool_laws.specs.Growing.{entry_by}
 use Rattle.turn_lock.specs.Passes.{PassState}
 use Rattle.task_pool.specs.Accounts.{Held, WasShort}
 use Rattle.task_pool.specs.Asks.{IsOfTask}
-use Rattle.task_pool.specs.Workers.{own_entries}
+use Rattle.task_pool.specs.Workers.{KeepsTask, SeesMore, own_entries}
 use Rattle.task_account.specs.Attempts.{last_attempt}
+use Rattle.lineage.specs.Entries.{IsRowsWork}
 use Rattle.task_runner.specs.declared.work_fault.WorkFault.{WorkFault}
 use Rattle.task_runner.specs.declared.work_fault.WorkFault.TheVariants.{NoRoom, DiskFault, Damaged, NoMemory}
 
--- the entries of a task from its begin to its end: between them its attempts, evictions for them, and releases
+-- the entry is one of a task: of an ask for bytes, or of work on blocks
+abbrev pub IsInTask : ℕ → ℕ → Entry → Type 0
+IsInTask worker task entry = IsOfTask worker task entry ⊎ IsRowsWork worker entry
+
+-- a worker with this task went on: it has the task still, has seen more, and added entries of it alone
+pub record GoesOn (task : ℕ) (before after : PassState) : Type 0 where
+  pub task_is : KeepsTask before after
+  pub sees : SeesMore before after
+  pub added : List Entry
+  pub adds : own_entries after ≡ own_entries before ++ added
+  pub all : AllByRecursion (IsInTask before.number task) added
+
+-- the entries of a task from its begin to its end: between them its attempts and releases, its work on blocks, and evictions for them
 pub record IsTaskOf (worker task : ℕ) (entries : List Entry) : Type 0 where
   pub amid : List Entry
   pub freed : ℕ
-  pub asks : AllByRecursion (IsOfTask worker task) amid
+  pub all : AllByRecursion (IsInTask worker task) amid
   pub are : entries ≡ entry_by worker (Begin task) ∷ (amid ++ entry_by worker (End task freed) ∷ [])
 
 -- the worker began the task and ended it

@@ -10,18 +10,18 @@ ghost use Rattle.task_runner.specs.AllWorkers.{Finished, Reached};
 ghost use Rattle.task_runner.specs.Answers.{HasCauseAmong, NamesSomePost};
 ghost use Rattle.task_runner.specs.AtOnce.{MayDoAll};
 ghost use Rattle.task_runner.specs.Consumers.{HasConsumers};
-ghost use Rattle.task_runner.specs.PartAnswers.{HoldsAll};
+ghost use Rattle.task_runner.specs.PartAnswers.{HoldsAll, SaysAll};
 ghost use Rattle.task_runner.specs.Queries.{IsPass};
 ghost use Rattle.task_runner.specs.Workers.{IfSound};
 ghost use Rattle.task_runner.specs.Works.{IfNoRoom, ShowsNoRoom};
 
 use crate::answers::{all_of, no_answers};
 use crate::at_once::run_at_once;
-use crate::executor::Executor;
 use crate::pass::Pass;
 use crate::post::Post;
 use crate::work_fault::WorkFault;
 use consumer_trait::Consumer;
+use lineage::Executor;
 use memory_lock::{Basis, Worker};
 use run_file::Run;
 use spill_disk::Disk;
@@ -45,16 +45,17 @@ pub(crate) fn run_each<
     requires workers { AreWorkers executor.now.manager.now B.sizes.workers workers.old.items }
     requires pass { IsPass pass.now }
     requires may { MayDoAll B.owner B.sizes.workers pass.now workers.old.items }
+    requires basis { SaysAll (files_on (disk_at (λ post. post.disk)) D.files posts.old) B.rows pass.now B.sizes.workers }
     requires posts { B.sizes.workers ≤ length posts.old.items }
     requires few_posts { length posts.old.items < 2 ^ 32 }
     requires consumers { All (λ post. HasConsumers (map C.state post.consumers.items)) posts.old.items }
-    ensures finished { IfOk result (λ all. Finished C.state D.files B.sizes.workers B.sizes.workers pass.now
+    ensures finished { IfOk result (λ all. Finished C.state D.files B.sizes.workers B.sizes.workers B.rows pass.now
         workers.old.items workers.new.items posts.old.items posts.new.items (map (λ answers.
         answers.items) all.items)) }
     ensures reached { Reached C.state D.files D.faults B.sizes.workers B.sizes.workers pass.now
         workers.old.items workers.new.items posts.old.items posts.new.items }
     ensures sound { (rows : ℕ → List (List (List ℕ))) →
-        HoldsAll (files_on (disk_at (λ post. post.disk)) D.files posts.old) pass.now B.sizes.workers rows →
+        HoldsAll (files_on (disk_at (λ post. post.disk)) D.files posts.old) B.rows pass.now B.sizes.workers rows →
         IfSound (λ _. ⊤) result }
     ensures no_room { IfNoRoom result (λ asked held floor. (worker task : ℕ) × (worker < B.sizes.workers)
         × ((any : PassState) → ShowsNoRoom B.sizes (own_of (slice_index_or workers.new.items worker any)) task

@@ -4,12 +4,12 @@ ghost use Rattle.std.specs.Prelude.{◌≡◌};
 ghost use Rattle.task_runner.specs.AllWorkers.{named_as};
 ghost use Rattle.task_runner.specs.AtOnce.{MayRun, Ran};
 
-use crate::executor::Executor;
 use crate::pass::Pass;
 use crate::post::Post;
 use crate::work_fault::WorkFault;
 use crate::worker::run_worker;
 use consumer_trait::Consumer;
+use lineage::Executor;
 use memory_lock::{Basis, Worker};
 use run_file::{Damage, Run};
 use spill_disk::Disk;
@@ -25,9 +25,9 @@ pub(crate) fn run_as<K: Disk, D: Disk, C: Consumer, B: Basis, R: Wait>(
     post: &mut Post<D, C>,
     place: u32,
 ) -> Result<Vec<Option<Run>>, WorkFault>
-    requires may { MayRun C.state executor.now.manager.now B.owner workers pass.now place
+    requires may { MayRun C.state D.files executor.now.manager.now B.owner workers B.rows pass.now place
         worker.old post.old }
-    ensures ran { Ran C.state D.files D.faults B.sizes workers pass.now place worker.old worker.new
+    ensures ran { Ran C.state D.files D.faults B.sizes workers B.rows pass.now place worker.old worker.new
         post.old post.new result }
 {
     let answer = run_worker(executor, worker, pass, workers, post);

@@ -2,25 +2,22 @@
 
 ghost use Rattle.std.specs.Prelude.{◌≡◌, ◌<◌, ◌*◌, List, ℕ, Some, false, IfOk, OnOk, length, map};
 ghost use Rattle.pool_ledger.specs.History.{was_begun};
-ghost use Rattle.memory_lock.specs.Workers.{IsFree, own_of};
-ghost use Rattle.run_file.specs.Several.{run_at};
-ghost use Rattle.job_plan.specs.Plans.{form_in};
+ghost use Rattle.memory_lock.specs.Workers.{HasNoPin, IsFree, own_of};
 ghost use Rattle.task_runner.specs.Answers.{HasCauseAmong};
 ghost use Rattle.task_runner.specs.Consumers.{HasConsumers};
 ghost use Rattle.task_runner.specs.OneWorker.{AddsOne, DoesFirst, Stays, scene_of};
-ghost use Rattle.task_runner.specs.PartAnswers.{HoldsOwn};
-ghost use Rattle.task_runner.specs.Parts.{HoldsRows};
+ghost use Rattle.task_runner.specs.PartAnswers.{HoldsOwn, HoldsPart, SaysOwn, SaysPart};
 ghost use Rattle.task_runner.specs.PassViews.{parts_of, task_for};
 ghost use Rattle.task_runner.specs.Queries.{IsPass};
 ghost use Rattle.task_runner.specs.Workers.{DoesSome, IfSound, IsCount, part_at};
 ghost use Rattle.task_runner.specs.Works.{IfNoRoom, MayWork, ShowsNoRoom};
 
-use crate::executor::Executor;
 use crate::pass::Pass;
 use crate::post::Post;
 use crate::task::run_task;
 use crate::work_fault::WorkFault;
 use consumer_trait::Consumer;
+use lineage::Executor;
 use memory_lock::{Basis, Worker};
 use run_file::Run;
 use spill_disk::Disk;
@@ -40,14 +37,15 @@ fn next_task<K: Disk, D: Disk, C: Consumer, B: Basis, R: Wait>(
     requires within { part < parts_of pass.now }
     requires owner { B.owner (task_for pass.now part) ≡ Some worker.old.number }
     requires free { IsFree worker.old }
+    requires unpinned { HasNoPin worker.old }
     requires fresh { was_begun (own_of worker.old) (task_for pass.now part) ≡ false }
+    requires basis { SaysPart (D.files post.old.disk) B.rows pass.now part }
     requires consumers { HasConsumers (map C.state post.old.consumers.items) }
-    ensures adds { OnOk result (AddsOne pass.now (run_at pass.now.parts part) part
+    ensures adds { OnOk result (AddsOne B.rows pass.now part
         (scene_of worker.old (map C.state post.old.consumers.items) (D.files post.old.disk) (D.faults post.old.disk))
         (scene_of worker.new (map C.state post.new.consumers.items) (D.files post.new.disk) (D.faults post.new.disk))
         answers.old.items answers.new.items) }
-    ensures sound { (rows : List (List (List ℕ))) →
-        HoldsRows (D.files post.old.disk) (form_in pass.now.plan) (run_at pass.now.parts part) rows
+    ensures sound { (rows : List (List (List ℕ))) → HoldsPart (D.files post.old.disk) B.rows pass.now part rows
         → IfSound (λ _. Unit {0}) result }
     ensures stays { Stays
         (scene_of worker.old (map C.state post.old.consumers.items) (D.files post.old.disk) (D.faults post.old.disk))
@@ -78,17 +76,19 @@ pub(crate) fn run_worker<K: Disk, D: Disk, C: Consumer, B: Basis, R: Wait>(
     requires pass { IsPass pass.now }
     requires known { worker.old.number < workers }
     requires free { IsFree worker.old }
+    requires unpinned { HasNoPin worker.old }
     requires owner { (k : ℕ) → part_at workers worker.old.number k < parts_of pass.now
         → B.owner (task_for pass.now (part_at workers worker.old.number k)) ≡ Some worker.old.number }
     requires fresh { (k : ℕ) → part_at workers worker.old.number k < parts_of pass.now
         → was_begun (own_of worker.old) (task_for pass.now (part_at workers worker.old.number k)) ≡ false }
+    requires basis { SaysOwn (D.files post.old.disk) B.rows pass.now workers worker.old.number }
     requires consumers { HasConsumers (map C.state post.old.consumers.items) }
-    ensures all { IfOk result (λ answers. (tasks : ℕ) × DoesFirst pass.now workers
+    ensures all { IfOk result (λ answers. (tasks : ℕ) × DoesFirst B.rows pass.now workers
         (scene_of worker.old (map C.state post.old.consumers.items) (D.files post.old.disk) (D.faults post.old.disk))
         (scene_of worker.new (map C.state post.new.consumers.items) (D.files post.new.disk) (D.faults post.new.disk))
         tasks answers.items × IsCount workers worker.old.number (parts_of pass.now) tasks) }
     ensures sound { (rows : ℕ → List (List (List ℕ)))
-        → HoldsOwn (D.files post.old.disk) pass.now workers worker.old.number rows
+        → HoldsOwn (D.files post.old.disk) B.rows pass.now workers worker.old.number rows
         → IfSound (λ _. Unit {0}) result }
     ensures stays { Stays
         (scene_of worker.old (map C.state post.old.consumers.items) (D.files post.old.disk) (D.faults post.old.disk))

@@ -9,22 +9,23 @@ ghost use Rattle.task_memory.specs.RunLists.{lists_of, runs_at};
 ghost use Rattle.turn_lock.specs.Passes.{PassState};
 ghost use Rattle.task_runner.specs.Answers.{HasCauseAmong, NamesSomePost};
 ghost use Rattle.task_runner.specs.AtOnce.{MayDoAll};
+ghost use Rattle.task_runner.specs.Blocks.{TellsTask};
 ghost use Rattle.task_runner.specs.Consumers.{HasConsumers, KeepsConsumers};
-ghost use Rattle.task_runner.specs.PartAnswers.{HoldsAll};
+ghost use Rattle.task_runner.specs.PartAnswers.{HoldsAll, SaysAll};
 ghost use Rattle.task_runner.specs.Pass.{AnswerAllParts, AreInNewFiles, FeedsParts, KeepsAll, LeavesOnlyRuns, states_at};
 ghost use Rattle.task_runner.specs.PassViews.{parts_of, queries_of};
 ghost use Rattle.task_runner.specs.Queries.{IsPass};
 ghost use Rattle.task_runner.specs.RunsApart.{AllOfLists};
-ghost use Rattle.task_runner.specs.Workers.{DoesAll, DoesSome, IfSound};
+ghost use Rattle.task_runner.specs.Workers.{DoesAll, DoesSome, IfSound, part_at};
 ghost use Rattle.task_runner.specs.Works.{IfNoRoom, ShowsNoRoom};
 
 use crate::each_worker::run_each;
-use crate::executor::Executor;
 use crate::gathering::gather_all;
 use crate::pass::Pass;
 use crate::post::Post;
 use crate::work_fault::WorkFault;
 use consumer_trait::Consumer;
+use lineage::Executor;
 use memory_lock::{Basis, Worker};
 use run_file::Run;
 use spill_disk::Disk;
@@ -51,11 +52,12 @@ pub fn run_workers<
     requires some { 1 ≤ B.sizes.workers }
     requires pass { IsPass pass.now }
     requires may { MayDoAll B.owner B.sizes.workers pass.now workers.old.items }
+    requires basis { SaysAll (files_on (disk_at (λ post. post.disk)) D.files posts.old) B.rows pass.now B.sizes.workers }
     requires posts { B.sizes.workers ≤ length posts.old.items }
     requires few_posts { length posts.old.items < 2 ^ 32 }
     requires consumers { All (λ post. HasConsumers (map C.state post.consumers.items)) posts.old.items }
     ensures answer { (rows : ℕ → List (List (List ℕ))) →
-        HoldsAll (files_on (disk_at (λ post. post.disk)) D.files posts.old) pass.now B.sizes.workers rows →
+        HoldsAll (files_on (disk_at (λ post. post.disk)) D.files posts.old) B.rows pass.now B.sizes.workers rows →
         IfSound (λ lists. AnswerAllParts (files_on (disk_at (λ post. post.disk)) D.files posts.new)
         pass.now rows (lists_of lists.items)) result }
     ensures count { IfOk result (λ lists. length lists.items ≡ queries_of pass.now) }
@@ -70,7 +72,7 @@ pub fn run_workers<
     // The posts.
     ensures fed { OnOk result ((worker : ℕ) → worker < B.sizes.workers
         → FeedsParts (states_at C.state posts.old.items worker) (states_at C.state posts.new.items worker)
-        (files_on (disk_at (λ post. post.disk)) D.files posts.old worker) pass.now B.sizes.workers worker) }
+        (files_on (disk_at (λ post. post.disk)) D.files posts.old worker) B.rows pass.now B.sizes.workers worker) }
     ensures others { (place : ℕ) → B.sizes.workers ≤ place
         → slice_get posts.new.items place ≡ slice_get posts.old.items place }
     ensures consumers { (worker : ℕ) → KeepsConsumers (states_at C.state posts.old.items worker)
@@ -85,6 +87,9 @@ pub fn run_workers<
     ensures may_work { (worker : ℕ) (any : PassState) → worker < B.sizes.workers
         → DoesSome pass.now.first B.sizes.workers (parts_of pass.now)
         (slice_index_or workers.old.items worker any) (slice_index_or workers.new.items worker any) }
+    ensures told { OnOk result ((worker k : ℕ) (any : PassState) → worker < B.sizes.workers
+        → part_at B.sizes.workers worker k < parts_of pass.now
+        → TellsTask pass.now (part_at B.sizes.workers worker k) (slice_index_or workers.new.items worker any)) }
     ensures no_room { IfNoRoom result (λ asked held floor. (worker task : ℕ) × (worker < B.sizes.workers)
         × ((any : PassState) → ShowsNoRoom B.sizes (own_of (slice_index_or workers.new.items worker any)) task
         asked held floor)) }

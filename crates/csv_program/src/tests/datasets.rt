@@ -1,4 +1,4 @@
-// Jobs of several queries, and of datasets that aren't kept.
+// Jobs of several queries, and of datasets.
 use crate::tests::running::{CITIES, call_of, generated, run_on, run_with, told};
 use pool_ledger::Event;
 use std::test::Fail;

@@ -13,8 +13,8 @@ fn verdict(alloc: Global, text: &[u8]) -> Result<Vec<u8>, AllocError> {
     sink.bytes().to_vec(alloc)
 }
 
-// Whether the journal that a run wrote has the verdict yes, with as many entries as its pool had events.
-fn is_legal(alloc: Global, ran: &Ran) -> Result<bool, AllocError> {
+/// Whether the journal that a run wrote has the verdict yes, with as many entries as its pool had events.
+pub fn is_legal(alloc: Global, ran: &Ran) -> Result<bool, AllocError> {
     let events = ran.outcome.journal.entries().len();
     let wanted = format!(in alloc; "yes {events}\n")?;
     let line = verdict(alloc, &ran.recorded)?;

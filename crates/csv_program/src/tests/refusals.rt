@@ -221,9 +221,6 @@ fn a_text_that_is_no_job_is_refused_at_its_place(rt: HostRuntime) -> Result<(), 
         ("group city: count, sum number", 23),
         ("group city, city: count", 12),
         ("order city: price down", 18),
-        // Jobs of the language that aren't run so far.
-        ("let a = input keep memory; group city: count from a", 0),
-        ("let a = input keep disk; let b = a; group city: count", 0),
     ];
     for (job, place) in jobs {
         let ran = run_on(&rt, alloc, call_of(&["run", job], CITIES))?;

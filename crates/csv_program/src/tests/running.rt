@@ -17,7 +17,8 @@ pub const CITIES: &[u8] = b"city,price\nOslo,3\nBergen,4\nOslo,5\n";
 
 pub const BOTH: &str = "group city: count, sum price";
 
-/// The words, the input, and the calls of the input, of the output, of the journal's sink and of post 0's disk that fail.
+/// The words, the input, and the calls of the input, of the output, of the journal's sink, of post 0's disk and of the store disk
+/// that fail.
 #[derive(Clone, Copy)]
 pub struct Call<'a> {
     pub words: &'a [&'a str],
@@ -26,6 +27,7 @@ pub struct Call<'a> {
     pub writes: &'a [u64],
     pub records: &'a [u64],
     pub disk: &'a [u64],
+    pub store: &'a [u64],
 }
 
 /// What a call left, what it wrote to the output and as the journal, and how many files post 0's disk made.
@@ -46,6 +48,7 @@ pub fn call_of<'a>(words: &'a [&'a str], input: &'a [u8]) -> Call<'a> {
         writes: &[],
         records: &[],
         disk: &[],
+        store: &[],
     }
 }
 
@@ -92,7 +95,7 @@ pub fn run_with<X: Threads + Wait + Sync>(
     let mut sink = MemorySink::new(alloc, call.writes.to_vec(alloc)?);
     let mut journal = MemorySink::new(alloc, call.records.to_vec(alloc)?);
     let mut posts = posts_of(alloc, posts, call.disk)?;
-    let store = MemoryDisk::new(alloc, Vec::new(alloc));
+    let store = MemoryDisk::new(alloc, call.store.to_vec(alloc)?);
     let outcome = run(
         rt,
         alloc,

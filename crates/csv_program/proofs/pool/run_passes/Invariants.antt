@@ -2,6 +2,7 @@ use Rattle.std.proofs.Common.{◌≡◌, ℕ, ◌+◌, ◌*◌, ◌<◌, List, l
 use Rattle.std.specs.Prelude.{All, IfSome}
 use Rattle.job_plan.specs.Plans.{kept_in}
 use Rattle.task_runner.specs.Pass.{states_at}
+use Rattle.csv_program.specs.Cached.{EachTells}
 use Rattle.csv_program.specs.Doing.{AreBetween, EachBegins}
 use Rattle.csv_program.specs.Passing.{LeavesPosts}
 use Rattle.csv_program.specs.Posts.{post_files}
@@ -14,12 +15,13 @@ abbrev pub invariant-loop-number : goal.invariant-loop-number
 invariant-loop-number g l = record {
   count : length l.answers.items ≡ length (kept_in l.plan);
   there : All (λ answer. IfSome answer (λ run. run.disk < g.B.Basis.sizes.workers)) l.answers.items;
-  answer : (rows : ℕ → List (List (List ℕ))) → HoldsParts (post_files g.D.Disk.files l.initial.posts) l.plan l.parts g.B.Basis.sizes.workers rows
+  answer : (rows : ℕ → List (List (List ℕ))) → HoldsParts (post_files g.D.Disk.files l.initial.posts) g.B.Basis.rows l.plan l.parts l.part_rows g.B.Basis.sizes.workers rows
       → HaveUpTo (post_files g.D.Disk.files l.posts) l.plan (totals_of_parts l.plan (length l.parts) rows) l.number l.answers.items;
-  fed : (rows : ℕ → List (List (List ℕ))) → HoldsParts (post_files g.D.Disk.files l.initial.posts) l.plan l.parts g.B.Basis.sizes.workers rows
+  fed : (rows : ℕ → List (List (List ℕ))) → HoldsParts (post_files g.D.Disk.files l.initial.posts) g.B.Basis.rows l.plan l.parts l.part_rows g.B.Basis.sizes.workers rows
       → (worker : ℕ) → worker < g.B.Basis.sizes.workers
       → FeedsUpTo (states_at g.C.Consumer.state l.initial.posts.items worker) (states_at g.C.Consumer.state l.posts.items worker) l.plan (length l.parts) rows g.B.Basis.sizes.workers worker l.number;
   posts : LeavesPosts g.C.Consumer.state g.D.Disk.files g.D.Disk.faults g.B.Basis.sizes.workers l.initial.posts l.posts;
   workers : AreBetween l.executor.manager.now g.B.Basis.owner g.B.Basis.sizes.workers (l.number * (length l.parts + 1)) l.workers.items;
+  told : EachTells l.plan g.B.Basis.sizes.workers (length l.parts) l.number l.workers.items;
   begun : EachBegins g.B.Basis.owner g.B.Basis.sizes.workers (l.number * (length l.parts + 1)) l.workers.items;
 }

@@ -12,7 +12,8 @@ use Rattle.task_runner.specs.PassViews.{PassView, parts_of, task_for}
 use Rattle.task_runner.specs.Works.{ShowsNoRoom, Works}
 use Rattle.csv_program.specs.Doing.{AreBetween, EachBegins}
 use Rattle.csv_program.specs.Posts.{post_files}
-use Rattle.csv_program.proofs.Crews.{begun_pass, between_more, between_passes, between_tasks, fresh_each, may_do, own_final}
+use Rattle.csv_program.proofs.CachedTasks.{by_part, parts_later}
+use Rattle.csv_program.proofs.Crews.{begun_pass, between_more, between_passes, between_tasks, fresh_each, may_do, own_final, sees_first, sees_then}
 use Rattle.csv_program.proofs.Followed.{on_ok_more, room_more}
 use Rattle.csv_program.proofs.Worked.{first_tells, leaves_merged, leaves_rest, on_more, on_ok_all, result_none, result_of, states_alike, there_of}
 use Rattle.csv_program.proofs.pool.work.Goals as goal
@@ -30,7 +31,7 @@ finish-requires-clause-fresh g c = λ any.
     let pass = c.args.pass.now in
     let mid : AreBetween c.args.executor.now.manager.now g.B.Basis.owner count (pass.first + parts_of pass) c.run_workers.new.workers.items =
     between_tasks g.B.Basis.owner c.args.executor.now.manager.now count (parts_of pass) pass.first c.args.workers.now.items c.run_workers.new.workers.items (omega (arith, c.requires.some)) c.requires.owner c.requires.workers
-    c.run_workers.ensures.workers c.run_workers.ensures.may_work c.run_workers.ensures.free in
+    c.run_workers.ensures.workers c.run_workers.ensures.may_work c.run_workers.ensures.free c.run_workers.ensures.pins in
     fresh_each g.B.Basis.owner count (pass.first + parts_of pass) (task_for pass (parts_of pass)) c.run_workers.new.workers.items mid.does (omega arith) 0 any (omega (arith, c.requires.some))
 
 pub finish-requires-clause-there : goal.finish-requires-clause-there
@@ -46,7 +47,7 @@ finish-requires-2-clause-fresh g c = λ any.
     let pass = c.args.pass.now in
     let mid : AreBetween c.args.executor.now.manager.now g.B.Basis.owner count (pass.first + parts_of pass) c.run_workers.new.workers.items =
     between_tasks g.B.Basis.owner c.args.executor.now.manager.now count (parts_of pass) pass.first c.args.workers.now.items c.run_workers.new.workers.items (omega (arith, c.requires.some)) c.requires.owner c.requires.workers
-    c.run_workers.ensures.workers c.run_workers.ensures.may_work c.run_workers.ensures.free in
+    c.run_workers.ensures.workers c.run_workers.ensures.may_work c.run_workers.ensures.free c.run_workers.ensures.pins in
     fresh_each g.B.Basis.owner count (pass.first + parts_of pass) (task_for pass (parts_of pass)) c.run_workers.new.workers.items mid.does (omega arith) 0 any (omega (arith, c.requires.some))
 
 pub finish-requires-2-clause-there : goal.finish-requires-2-clause-there
@@ -66,7 +67,7 @@ returns-in-Err-clause-workers g c =
     let pass = c.args.pass.now in
     between_more g.B.Basis.owner c.args.executor.now.manager.now count (pass.first + parts_of pass) (pass.first + parts_of pass + 1) c.run_workers.new.workers.items (omega arith)
     (between_tasks g.B.Basis.owner c.args.executor.now.manager.now count (parts_of pass) pass.first c.args.workers.now.items c.run_workers.new.workers.items (omega (arith, c.requires.some)) c.requires.owner c.requires.workers
-    c.run_workers.ensures.workers c.run_workers.ensures.may_work c.run_workers.ensures.free)
+    c.run_workers.ensures.workers c.run_workers.ensures.may_work c.run_workers.ensures.free c.run_workers.ensures.pins)
 
 -- ---- no partition
 
@@ -82,7 +83,7 @@ returns-in-Ok-finish-clause-there g c =
 
 pub returns-in-Ok-finish-clause-fed : goal.returns-in-Ok-finish-clause-fed
 returns-in-Ok-finish-clause-fed g c = λ worker below.
-    subst (λ (states : List State). FeedsParts (states_at g.C.Consumer.state c.args.posts.now.items worker) states (post_files g.D.Disk.files c.args.posts.now worker) c.args.pass.now g.B.Basis.sizes.workers worker)
+    subst (λ (states : List State). FeedsParts (states_at g.C.Consumer.state c.args.posts.now.items worker) states (post_files g.D.Disk.files c.args.posts.now worker) g.B.Basis.rows c.args.pass.now g.B.Basis.sizes.workers worker)
     (sym (states_alike g.C.Consumer.state c.finish.new.posts.items c.run_workers.new.posts.items c.finish.ensures.kept worker))
     (c.in-Ok.ensures.fed worker below)
 
@@ -104,9 +105,9 @@ returns-in-Ok-finish-clause-workers g c =
     let pass = c.args.pass.now in
     let mid : AreBetween c.args.executor.now.manager.now g.B.Basis.owner count (pass.first + parts_of pass) c.run_workers.new.workers.items =
     between_tasks g.B.Basis.owner c.args.executor.now.manager.now count (parts_of pass) pass.first c.args.workers.now.items c.run_workers.new.workers.items (omega (arith, c.requires.some)) c.requires.owner c.requires.workers
-    c.run_workers.ensures.workers c.run_workers.ensures.may_work c.run_workers.ensures.free in
+    c.run_workers.ensures.workers c.run_workers.ensures.may_work c.run_workers.ensures.free c.run_workers.ensures.pins in
     between_passes g.B.Basis.owner c.args.executor.now.manager.now count (parts_of pass) pass.first c.run_workers.new.workers.items c.finish.new.workers.items c.requires.owner mid
-    c.finish.ensures.workers c.finish.ensures.may_work c.finish.ensures.free c.finish.ensures.others
+    c.finish.ensures.workers c.finish.ensures.may_work c.finish.ensures.free c.finish.ensures.pin c.finish.ensures.others
 
 pub returns-in-Err-finish-clause-posts : goal.returns-in-Err-finish-clause-posts
 returns-in-Err-finish-clause-posts g c =
@@ -121,9 +122,9 @@ returns-in-Err-finish-clause-workers g c =
     let pass = c.args.pass.now in
     let mid : AreBetween c.args.executor.now.manager.now g.B.Basis.owner count (pass.first + parts_of pass) c.run_workers.new.workers.items =
     between_tasks g.B.Basis.owner c.args.executor.now.manager.now count (parts_of pass) pass.first c.args.workers.now.items c.run_workers.new.workers.items (omega (arith, c.requires.some)) c.requires.owner c.requires.workers
-    c.run_workers.ensures.workers c.run_workers.ensures.may_work c.run_workers.ensures.free in
+    c.run_workers.ensures.workers c.run_workers.ensures.may_work c.run_workers.ensures.free c.run_workers.ensures.pins in
     between_passes g.B.Basis.owner c.args.executor.now.manager.now count (parts_of pass) pass.first c.run_workers.new.workers.items c.finish.new.workers.items c.requires.owner mid
-    c.finish.ensures.workers c.finish.ensures.may_work c.finish.ensures.free c.finish.ensures.others
+    c.finish.ensures.workers c.finish.ensures.may_work c.finish.ensures.free c.finish.ensures.pin c.finish.ensures.others
 
 -- ---- the final task
 
@@ -136,7 +137,7 @@ returns-clause-answer g c =
     result_of (post_files files c.run_workers.new.posts) c.args.pass.now rows (lists_of c.in-Ok.lists.items) (c.in-Ok.ensures.answer rows holds)
     (post_files files c.finish-2.new.posts) c.finish-2.result c.requires.told
     (λ entries. c.finish-2.ensures.answer entries
-    (first_tells c.args.pass.now g.B.Basis.sizes.workers rows (post_files files c.args.posts.now) (post_files files c.run_workers.new.posts) (omega (arith, c.requires.some)) some c.run_workers.ensures.files holds))
+    (first_tells g.B.Basis.rows c.args.pass.now g.B.Basis.sizes.workers rows (post_files files c.args.posts.now) (post_files files c.run_workers.new.posts) (omega (arith, c.requires.some)) some c.run_workers.ensures.files holds))
 
 pub returns-clause-there : goal.returns-clause-there
 returns-clause-there g c =
@@ -147,7 +148,7 @@ pub returns-clause-fed : goal.returns-clause-fed
 returns-clause-fed g c =
     on_ok_all c.finish-2.result
     (λ worker below.
-    subst (λ (states : List State). FeedsParts (states_at g.C.Consumer.state c.args.posts.now.items worker) states (post_files g.D.Disk.files c.args.posts.now worker) c.args.pass.now g.B.Basis.sizes.workers worker)
+    subst (λ (states : List State). FeedsParts (states_at g.C.Consumer.state c.args.posts.now.items worker) states (post_files g.D.Disk.files c.args.posts.now worker) g.B.Basis.rows c.args.pass.now g.B.Basis.sizes.workers worker)
     (sym (states_alike g.C.Consumer.state c.finish-2.new.posts.items c.run_workers.new.posts.items c.finish-2.ensures.kept worker))
     (c.in-Ok.ensures.fed worker below))
 
@@ -183,6 +184,36 @@ returns-clause-workers g c =
     let pass = c.args.pass.now in
     let mid : AreBetween c.args.executor.now.manager.now g.B.Basis.owner count (pass.first + parts_of pass) c.run_workers.new.workers.items =
     between_tasks g.B.Basis.owner c.args.executor.now.manager.now count (parts_of pass) pass.first c.args.workers.now.items c.run_workers.new.workers.items (omega (arith, c.requires.some)) c.requires.owner c.requires.workers
-    c.run_workers.ensures.workers c.run_workers.ensures.may_work c.run_workers.ensures.free in
+    c.run_workers.ensures.workers c.run_workers.ensures.may_work c.run_workers.ensures.free c.run_workers.ensures.pins in
     between_passes g.B.Basis.owner c.args.executor.now.manager.now count (parts_of pass) pass.first c.run_workers.new.workers.items c.finish-2.new.workers.items c.requires.owner mid
-    c.finish-2.ensures.workers c.finish-2.ensures.may_work c.finish-2.ensures.free c.finish-2.ensures.others
+    c.finish-2.ensures.workers c.finish-2.ensures.may_work c.finish-2.ensures.free c.finish-2.ensures.pin c.finish-2.ensures.others
+
+pub returns-in-Ok-finish-clause-sees : goal.returns-in-Ok-finish-clause-sees
+returns-in-Ok-finish-clause-sees g c =
+    sees_then g.B.Basis.sizes.workers c.args.workers.now.items c.run_workers.new.workers.items c.finish.new.workers.items c.run_workers.ensures.sees
+    (sees_first g.B.Basis.sizes.workers c.run_workers.new.workers.items c.finish.new.workers.items c.finish.ensures.sees c.finish.ensures.others)
+
+pub returns-in-Err-finish-clause-sees : goal.returns-in-Err-finish-clause-sees
+returns-in-Err-finish-clause-sees g c =
+    sees_then g.B.Basis.sizes.workers c.args.workers.now.items c.run_workers.new.workers.items c.finish.new.workers.items c.run_workers.ensures.sees
+    (sees_first g.B.Basis.sizes.workers c.run_workers.new.workers.items c.finish.new.workers.items c.finish.ensures.sees c.finish.ensures.others)
+
+pub returns-clause-sees : goal.returns-clause-sees
+returns-clause-sees g c =
+    sees_then g.B.Basis.sizes.workers c.args.workers.now.items c.run_workers.new.workers.items c.finish-2.new.workers.items c.run_workers.ensures.sees
+    (sees_first g.B.Basis.sizes.workers c.run_workers.new.workers.items c.finish-2.new.workers.items c.finish-2.ensures.sees c.finish-2.ensures.others)
+
+pub returns-in-Ok-finish-clause-told : goal.returns-in-Ok-finish-clause-told
+returns-in-Ok-finish-clause-told g c =
+    let count = g.B.Basis.sizes.workers in
+    let mids = c.run_workers.new.workers.items in
+    let news = c.finish.new.workers.items in
+    parts_later c.args.pass.now count mids news c.requires.some (sees_first count mids news c.finish.ensures.sees c.finish.ensures.others) (by_part c.args.pass.now count mids c.requires.some c.in-Ok.ensures.told)
+
+pub returns-clause-told : goal.returns-clause-told
+returns-clause-told g c =
+    let count = g.B.Basis.sizes.workers in
+    let mids = c.run_workers.new.workers.items in
+    let news = c.finish-2.new.workers.items in
+    on_ok_all c.finish-2.result
+    (parts_later c.args.pass.now count mids news c.requires.some (sees_first count mids news c.finish-2.ensures.sees c.finish-2.ensures.others) (by_part c.args.pass.now count mids c.requires.some c.in-Ok.ensures.told))

@@ -6,8 +6,8 @@ use Rattle.byte_io.specs.Sinks.{AppendsPrefix}
 use Rattle.pool_ledger.specs.declared.entry.Entry.{Entry as JournalEntry}
 use Rattle.journal_audit.specs.Text.{text_of}
 use Rattle.job_plan.specs.Columns.{Fields}
-use Rattle.job_plan.specs.Plans.{form_in, kind_at, passes_in}
-use Rattle.landing.specs.Landed.{AreChecked, AreLanded, partition_of}
+use Rattle.job_plan.specs.Plans.{kind_at, passes_in}
+use Rattle.landing.specs.Landed.{partition_of}
 use Rattle.result_table.specs.Results.{HasResult}
 use Rattle.run_file.specs.declared.run.Run.{Run}
 use Rattle.consumer_trait.specs.States.{State}
@@ -17,7 +17,9 @@ use Rattle.task_runner.specs.Workers.{IfSound, answer_at}
 use Rattle.task_runner.specs.declared.post.Post.{Post}
 use Rattle.csv_program.specs.Endings.{MayEndAs, ending_of_totals, printed_in, totals_of, wide_of}
 use Rattle.csv_program.specs.Feeds.{FeedsPlan}
-use Rattle.csv_program.specs.Posts.{AllTell, post_files}
+use Rattle.csv_program.specs.Basis.{StandAs}
+use Rattle.csv_program.specs.Cached.{TellsPasses}
+use Rattle.csv_program.specs.Posts.{post_files}
 use Rattle.csv_program.specs.QueryResults.{HaveResults, totals_of_parts}
 use Rattle.csv_program.specs.Statuses.{IsCut}
 use Rattle.csv_program.specs.Tasks.{BeginsAll}
@@ -38,19 +40,18 @@ pub returns-in_default-clause-tasks : goal.returns-in_default-clause-tasks
 returns-in_default-clause-tasks g c = follows_none c.args.asked.now.pool.workers (length c.args.parts.now) (length (passes_in c.args.plan.now)) c.unpooled.result.journal c.unpooled.ensures.journal
 
 -- the answers of the tasks are runs of what all entries come to
-sound : (g : given.Over) (c : goal.Joined-told-2 g) (part_rows : ℕ) (rows : List Fields) → 1 ≤ part_rows → AllTell c.args.asked.now.pool.workers (post_files g.D.Disk.files c.args.posts.now)
-    → AreLanded (post_files g.D.Disk.files c.args.posts.now) part_rows c.args.asked.now.pool.workers c.args.parts.now rows → AreChecked (form_in c.args.plan.now) rows
+sound : (g : given.Over) (c : goal.Joined-told-2 g) (rows : List Fields) → StandAs g.B.Basis.rows (post_files g.D.Disk.files c.args.posts.now) c.args.asked.now c.args.plan.now c.args.parts.now rows
     → IfSound (λ answers. HaveResults (post_files g.D.Disk.files c.run_tasks-told.new.posts) c.args.plan.now (totals_of c.args.plan.now rows) answers.items) c.run_tasks-told.result.0
-sound g c part_rows rows some tell landed checked =
+sound g c rows stand =
     let plan = c.args.plan.now in
     let parts = c.args.parts.now in
     let files = post_files g.D.Disk.files c.args.posts.now in
     let after = post_files g.D.Disk.files c.run_tasks-told.new.posts in
-    let each : ℕ → List Fields = λ part. partition_of part_rows part rows in
+    let each : ℕ → List Fields = λ part. partition_of c.args.asked.now.part_rows part rows in
     sound_more (λ answers. HaveResults after plan (totals_of_parts plan (length parts) each) answers.items) (λ answers. HaveResults after plan (totals_of plan rows) answers.items)
-    (λ answers has query below. subst (HasResult after (kind_at plan query) (answer_at answers.items query)) (whole_totals plan rows part_rows _ query some landed.count) (has query below))
+    (λ answers has query below. subst (HasResult after (kind_at plan query) (answer_at answers.items query)) (whole_totals plan rows c.args.asked.now.part_rows _ query c.requires.parts stand.landed.count) (has query below))
     c.run_tasks-told.result.0
-    (c.run_tasks-told.ensures.answer each (holds_parts files plan part_rows c.args.asked.now.pool.workers parts rows c.requires.some tell landed checked))
+    (c.run_tasks-told.ensures.answer each (holds_parts g.B.Basis.rows files c.args.asked.now plan parts rows c.requires.some stand))
 
 -- the results that are printed
 printed : (g : given.Over) (c : goal.Joined-told-2 g) (rows : List Fields) (answers : Vec (Option Run)) (seen : List (Option Run)) → c.run_tasks-told.result.0 ≡ Ok answers → seen ≡ answers.items
@@ -61,22 +62,22 @@ printed g c rows answers seen is same known =
     subst has (sym same) (sound_ok (λ answers. has answers.items) c.run_tasks-told.result.0 answers is known)
 
 pub returns-clause-ending : goal.returns-clause-ending
-returns-clause-ending g c part_rows rows some tell landed checked =
+returns-clause-ending g c rows stand =
     let plan = c.args.plan.now in
     let says = λ (answers : Vec (Option Run)). HaveResults (post_files g.D.Disk.files c.run_tasks-told.new.posts) plan (totals_of plan rows) answers.items in
-    let known = sound g c part_rows rows some tell landed checked in
+    let known = sound g c rows stand in
     elim c.match-told-2.branch [
       | in-Ok w ↦
           subst (λ (ended : Status). MayEndAs (ending_of_totals plan (totals_of plan rows)) ended) (sym w.status-is)
-          (w.print_answers-status.ensures.ending (totals_of plan rows) (printed g c rows w.in-Ok.answers _ w.in-Ok.is w.deref.ensures.value known) (told_plan plan rows c.short_shapes_are_told.ensures checked))
+          (w.print_answers-status.ensures.ending (totals_of plan rows) (printed g c rows w.in-Ok.answers _ w.in-Ok.is w.deref.ensures.value known) (told_plan plan rows c.short_shapes_are_told.ensures stand.checked))
       | in-Err w ↦ may_end _ (wide_of plan (totals_of plan rows)) c.match-told-2.status
           (unprinted_work says c.run_tasks-told.result.0 w.in-Err.fault c.match-told-2.status w.in-Err.is known (w.status-is ∙ w.from-status.ensures))
     ]
 
 pub returns-clause-done : goal.returns-clause-done
-returns-clause-done g c part_rows rows some tell landed checked done =
+returns-clause-done g c rows stand done =
     let plan = c.args.plan.now in
-    let known = sound g c part_rows rows some tell landed checked in
+    let known = sound g c rows stand in
     elim c.match-told-2.branch [
       | in-Ok w ↦
           subst (λ (output : g.row.W.Denot). Appends (g.W.Sink.written c.args.output.now) (g.W.Sink.written output) (printed_in (ending_of_totals plan (totals_of plan rows)))) (sym w.output-is)
@@ -85,9 +86,9 @@ returns-clause-done g c part_rows rows some tell landed checked done =
     ]
 
 pub returns-clause-prefix : goal.returns-clause-prefix
-returns-clause-prefix g c part_rows rows some tell landed checked cut =
+returns-clause-prefix g c rows stand cut =
     let plan = c.args.plan.now in
-    let known = sound g c part_rows rows some tell landed checked in
+    let known = sound g c rows stand in
     elim c.match-told-2.branch [
       | in-Ok w ↦
           subst (λ (output : g.row.W.Denot). AppendsPrefix (g.W.Sink.written c.args.output.now) (g.W.Sink.written output) (printed_in (ending_of_totals plan (totals_of plan rows)))) (sym w.output-is)
@@ -101,6 +102,16 @@ returns-clause-all g c done = elim c.match-told-2.branch [
   | in-Err w ↦ absurd (fault_not_done w.in-Err.fault c.match-told-2.status (w.status-is ∙ w.from-status.ensures) done)
 ]
 
+pub returns-clause-told : goal.returns-clause-told
+returns-clause-told g c done = elim c.match-told-2.branch [
+  | in-Ok w ↦
+      let partitions = length c.args.parts.now in
+      let passes = length (passes_in c.args.plan.now) in
+      ok_holds c.run_tasks-told.result.0 w.in-Ok.answers w.in-Ok.is
+      (subst (λ (journal : Option (List JournalEntry)). OnOk c.run_tasks-told.result.0 (IfSome journal (TellsPasses c.args.plan.now c.args.asked.now.pool.workers partitions passes))) c.in-Some.is c.run_tasks-told.ensures.told)
+  | in-Err w ↦ absurd (fault_not_done w.in-Err.fault c.match-told-2.status (w.status-is ∙ w.from-status.ensures) done)
+]
+
 -- printing leaves the consumers
 states_stay : (g : given.Over) (c : goal.Joined-told-2 g) (place : ℕ) → states_at g.C.Consumer.state c.match-told-2.posts.items place ≡ states_at g.C.Consumer.state c.run_tasks-told.new.posts.items place
 states_stay g c place = elim c.match-told-2.branch [
@@ -111,11 +122,11 @@ states_stay g c place = elim c.match-told-2.branch [
 ]
 
 pub returns-clause-fed : goal.returns-clause-fed
-returns-clause-fed g c done part_rows rows tell landed checked worker below = elim c.match-told-2.branch [
+returns-clause-fed g c done rows stand worker below = elim c.match-told-2.branch [
   | in-Ok w ↦
-      subst (λ (states : List State). FeedsPlan (states_at g.C.Consumer.state c.args.posts.now.items worker) states c.args.plan.now (length c.args.parts.now) (λ part. partition_of part_rows part rows) c.args.asked.now.pool.workers worker) (sym (states_stay g c worker))
-      (ok_holds c.run_tasks-told.result.0 w.in-Ok.answers w.in-Ok.is c.run_tasks-told.ensures.fed (λ part. partition_of part_rows part rows)
-      (holds_parts (post_files g.D.Disk.files c.args.posts.now) c.args.plan.now part_rows c.args.asked.now.pool.workers c.args.parts.now rows c.requires.some tell landed checked) worker below)
+      subst (λ (states : List State). FeedsPlan (states_at g.C.Consumer.state c.args.posts.now.items worker) states c.args.plan.now (length c.args.parts.now) (λ part. partition_of c.args.asked.now.part_rows part rows) c.args.asked.now.pool.workers worker) (sym (states_stay g c worker))
+      (ok_holds c.run_tasks-told.result.0 w.in-Ok.answers w.in-Ok.is c.run_tasks-told.ensures.fed (λ part. partition_of c.args.asked.now.part_rows part rows)
+      (holds_parts g.B.Basis.rows (post_files g.D.Disk.files c.args.posts.now) c.args.asked.now c.args.plan.now c.args.parts.now rows c.requires.some stand) worker below)
   | in-Err w ↦ absurd (fault_not_done w.in-Err.fault c.match-told-2.status (w.status-is ∙ w.from-status.ensures) done)
 ]
 

@@ -24,7 +24,7 @@ pub returns-in-Ok-clause-called : goal.returns-in-Ok-clause-called
 returns-in-Ok-clause-called g c = for_run (call_of (length c.args.posts.now.items) (texts c.args.words.now)) c.in-Ok.asked _ (subst (λ (posts : ℕ). call_of posts (texts c.args.words.now) ≡ Runs c.in-Ok.asked) (omega (arith, c.len.ensures, c.args.posts.now.ok.0)) c.in-Ok.ensures.ok) c.run_job.ensures.called
 
 pub returns-in-Ok-clause-complete : goal.returns-in-Ok-clause-complete
-returns-in-Ok-clause-complete g c = completes_call g.D.Disk.files c.args.posts.now (g.S.Source.left c.args.input.now) (call_of (length c.args.posts.now.items) (texts c.args.words.now)) c.in-Ok.asked c.run_job.result.status c.run_job.result.journal (g.S.Source.faults c.args.input.now) _ (g.W.Sink.faults c.args.output.now) _ (g.J.Sink.faults c.args.journal.now) _
+returns-in-Ok-clause-complete g c = completes_call g.D.Disk.files (g.D.Disk.files c.args.store_disk) c.args.posts.now (g.S.Source.left c.args.input.now) (call_of (length c.args.posts.now.items) (texts c.args.words.now)) c.in-Ok.asked c.run_job.result.status c.run_job.result.journal (g.S.Source.faults c.args.input.now) _ (g.W.Sink.faults c.args.output.now) _ (g.J.Sink.faults c.args.journal.now) _
     (post_faults g.D.Disk.faults c.args.posts.now) _ (subst (λ (posts : ℕ). call_of posts (texts c.args.words.now) ≡ Runs c.in-Ok.asked) (omega (arith, c.len.ensures, c.args.posts.now.ok.0)) c.in-Ok.ensures.ok) c.run_job.ensures.read c.run_job.ensures.write c.run_job.ensures.recorded c.run_job.ensures.disk c.run_job.ensures.no_room c.run_job.ensures.ending
 
 pub returns-in-Ok-clause-named : goal.returns-in-Ok-clause-named

@@ -14,17 +14,17 @@ returns-in_default-clause-reached g c =
 pub run_at_once-requires-clause-may : goal.run_at_once-requires-clause-may
 run_at_once-requires-clause-may g c κs within =
     let size : c.len-count.result ≡ g.B.Basis.sizes.workers = omega (arith, c.len-count.ensures, c.args.workers.now.ok.0, c.requires.workers.0) in
-    rw size (all_may g.C.Consumer.state c.args.executor.now.manager.now g.B.Basis.owner g.B.Basis.sizes.workers c.args.pass.now c.args.workers.now.items c.args.posts.now.items
-    c.requires.workers c.requires.posts c.requires.few_posts c.requires.pass c.requires.may c.requires.consumers)
+    rw size (all_may g.C.Consumer.state g.D.Disk.files c.args.executor.now.manager.now g.B.Basis.owner g.B.Basis.sizes.workers g.B.Basis.rows c.args.pass.now c.args.workers.now.items c.args.posts.now.items
+    c.requires.workers c.requires.posts c.requires.few_posts c.requires.pass c.requires.may c.requires.basis c.requires.consumers)
 
 pub returns-clause-finished : goal.returns-clause-finished
 returns-clause-finished g c =
     let size : c.len-count.result ≡ g.B.Basis.sizes.workers = omega (arith, c.len-count.ensures, c.args.workers.now.ok.0, c.requires.workers.0) in
     let ran = rw size at c.run_at_once.ensures.ran in
     IfOk-weaker c.all_of.result (λ all. AreAnswers c.run_at_once.new.answers.items (map (λ answers. answers.items) all.items))
-    (λ all. Finished g.C.Consumer.state g.D.Disk.files g.B.Basis.sizes.workers g.B.Basis.sizes.workers c.args.pass.now c.args.workers.now.items c.run_at_once.new.workers.items
+    (λ all. Finished g.C.Consumer.state g.D.Disk.files g.B.Basis.sizes.workers g.B.Basis.sizes.workers g.B.Basis.rows c.args.pass.now c.args.workers.now.items c.run_at_once.new.workers.items
     c.args.posts.now.items c.run_at_once.new.posts.items (map (λ answers. answers.items) all.items))
-    (λ all are. finished_at_once g.C.Consumer.state g.D.Disk.files g.D.Disk.faults g.B.Basis.sizes g.B.Basis.sizes.workers c.args.pass.now c.args.workers.now.items
+    (λ all are. finished_at_once g.C.Consumer.state g.D.Disk.files g.D.Disk.faults g.B.Basis.sizes g.B.Basis.sizes.workers g.B.Basis.rows c.args.pass.now c.args.workers.now.items
     c.run_at_once.new.workers.items c.args.posts.now.items c.run_at_once.new.posts.items c.run_at_once.new.answers.items c.requires.workers.0 ran (map (λ answers. answers.items) all.items) are)
     c.all_of.ensures.all
 
@@ -32,7 +32,7 @@ pub returns-clause-reached : goal.returns-clause-reached
 returns-clause-reached g c =
     let size : c.len-count.result ≡ g.B.Basis.sizes.workers = omega (arith, c.len-count.ensures, c.args.workers.now.ok.0, c.requires.workers.0) in
     let ran = rw size at c.run_at_once.ensures.ran in
-    reached_at_once g.C.Consumer.state g.D.Disk.files g.D.Disk.faults g.B.Basis.sizes g.B.Basis.sizes.workers c.args.pass.now c.args.workers.now.items
+    reached_at_once g.C.Consumer.state g.D.Disk.files g.D.Disk.faults g.B.Basis.sizes g.B.Basis.sizes.workers g.B.Basis.rows c.args.pass.now c.args.workers.now.items
     c.run_at_once.new.workers.items c.args.posts.now.items c.run_at_once.new.posts.items c.run_at_once.new.answers.items c.requires.workers.0 ran
 
 pub returns-clause-sound : goal.returns-clause-sound
@@ -40,35 +40,35 @@ returns-clause-sound g c =
     let size : c.len-count.result ≡ g.B.Basis.sizes.workers = omega (arith, c.len-count.ensures, c.args.workers.now.ok.0, c.requires.workers.0) in
     let ran = rw size at c.run_at_once.ensures.ran in
     λ rows holds.
-    sound_at_once g.C.Consumer.state g.D.Disk.files g.D.Disk.faults g.B.Basis.sizes g.B.Basis.sizes.workers c.args.pass.now c.args.workers.now.items
+    sound_at_once g.C.Consumer.state g.D.Disk.files g.D.Disk.faults g.B.Basis.sizes g.B.Basis.sizes.workers g.B.Basis.rows c.args.pass.now c.args.workers.now.items
     c.run_at_once.new.workers.items c.args.posts.now.items c.run_at_once.new.posts.items c.run_at_once.new.answers.items c.requires.workers.0 ran
     c.args.executor.now.manager.now c.all_of.result c.requires.workers c.all_of.ensures.first rows
-    (λ w below. holds_of g.D.Disk.files c.args.pass.now g.B.Basis.sizes.workers w rows c.args.posts.now.items below holds)
+    (λ w below. holds_of g.D.Disk.files g.B.Basis.rows c.args.pass.now g.B.Basis.sizes.workers w rows c.args.posts.now.items below holds)
 
 pub returns-clause-no_room : goal.returns-clause-no_room
 returns-clause-no_room g c =
     let size : c.len-count.result ≡ g.B.Basis.sizes.workers = omega (arith, c.len-count.ensures, c.args.workers.now.ok.0, c.requires.workers.0) in
     let ran = rw size at c.run_at_once.ensures.ran in
-    room_at_once g.C.Consumer.state g.D.Disk.files g.D.Disk.faults g.B.Basis.sizes g.B.Basis.sizes.workers c.args.pass.now c.args.workers.now.items
+    room_at_once g.C.Consumer.state g.D.Disk.files g.D.Disk.faults g.B.Basis.sizes g.B.Basis.sizes.workers g.B.Basis.rows c.args.pass.now c.args.workers.now.items
     c.run_at_once.new.workers.items c.args.posts.now.items c.run_at_once.new.posts.items c.run_at_once.new.answers.items c.requires.workers.0 ran c.all_of.result c.all_of.ensures.first
 
 pub returns-clause-names : goal.returns-clause-names
 returns-clause-names g c =
     let size : c.len-count.result ≡ g.B.Basis.sizes.workers = omega (arith, c.len-count.ensures, c.args.workers.now.ok.0, c.requires.workers.0) in
     let ran = rw size at c.run_at_once.ensures.ran in
-    names_at_once g.C.Consumer.state g.D.Disk.files g.D.Disk.faults g.B.Basis.sizes g.B.Basis.sizes.workers c.args.pass.now c.args.workers.now.items
+    names_at_once g.C.Consumer.state g.D.Disk.files g.D.Disk.faults g.B.Basis.sizes g.B.Basis.sizes.workers g.B.Basis.rows c.args.pass.now c.args.workers.now.items
     c.run_at_once.new.workers.items c.args.posts.now.items c.run_at_once.new.posts.items c.run_at_once.new.answers.items c.requires.workers.0 ran c.all_of.result c.all_of.ensures.first
 
 pub returns-clause-workers : goal.returns-clause-workers
 returns-clause-workers g c =
     let size : c.len-count.result ≡ g.B.Basis.sizes.workers = omega (arith, c.len-count.ensures, c.args.workers.now.ok.0, c.requires.workers.0) in
     let ran = rw size at c.run_at_once.ensures.ran in
-    workers_at_once g.C.Consumer.state g.D.Disk.files g.D.Disk.faults g.B.Basis.sizes g.B.Basis.sizes.workers c.args.pass.now c.args.workers.now.items
+    workers_at_once g.C.Consumer.state g.D.Disk.files g.D.Disk.faults g.B.Basis.sizes g.B.Basis.sizes.workers g.B.Basis.rows c.args.pass.now c.args.workers.now.items
     c.run_at_once.new.workers.items c.args.posts.now.items c.run_at_once.new.posts.items c.run_at_once.new.answers.items c.requires.workers.0 ran c.args.executor.now.manager.now c.requires.workers
 
 pub returns-clause-cause : goal.returns-clause-cause
 returns-clause-cause g c =
     let size : c.len-count.result ≡ g.B.Basis.sizes.workers = omega (arith, c.len-count.ensures, c.args.workers.now.ok.0, c.requires.workers.0) in
     let ran = rw size at c.run_at_once.ensures.ran in
-    cause_at_once g.C.Consumer.state g.D.Disk.files g.D.Disk.faults g.B.Basis.sizes g.B.Basis.sizes.workers c.args.pass.now c.args.workers.now.items
+    cause_at_once g.C.Consumer.state g.D.Disk.files g.D.Disk.faults g.B.Basis.sizes g.B.Basis.sizes.workers g.B.Basis.rows c.args.pass.now c.args.workers.now.items
     c.run_at_once.new.workers.items c.args.posts.now.items c.run_at_once.new.posts.items c.run_at_once.new.answers.items c.requires.workers.0 ran c.all_of.result c.all_of.ensures.first

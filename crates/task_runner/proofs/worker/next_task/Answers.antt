@@ -1,5 +1,4 @@
 use Rattle.std.proofs.Common.{map}
-use Rattle.run_file.specs.Several.{run_at}
 use Rattle.task_runner.specs.OneWorker.{DoesOne, Scene, scene_of}
 use Rattle.task_runner.proofs.worker.next_task.Goals as goal
 
@@ -11,7 +10,7 @@ returns-in-Ok-clause-adds g c =
     let before : Scene = scene_of c.args.worker.now (map g.C.Consumer.state post.consumers.items) (g.D.Disk.files post.disk) (g.D.Disk.faults post.disk) in
     let new = c.run_task.new.post in
     let after : Scene = scene_of c.run_task.new.worker (map g.C.Consumer.state new.consumers.items) (g.D.Disk.files new.disk) (g.D.Disk.faults new.disk) in
-    let one : DoesOne c.args.pass.now (run_at c.args.pass.now.parts c.args.part) c.args.part before after found = record {
+    let one : DoesOne g.B.Basis.rows c.args.pass.now c.args.part before after found = record {
       stays = record { consumers = done.consumers; free = done.free; pin = done.pin; sees = done.sees; disk = done.disk };
       count = done.count;
       tells = λ rows hold. done.answer rows hold;
@@ -19,5 +18,6 @@ returns-in-Ok-clause-adds g c =
       only = done.only;
       fed = done.fed;
       works = done.works;
+      told = done.told;
     } in
     (found, one, c.in-Ok.ensures.items)

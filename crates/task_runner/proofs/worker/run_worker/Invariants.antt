@@ -7,7 +7,7 @@ use Rattle.task_runner.proofs.worker.run_worker.Given as goal
 abbrev pub invariant-tasks : goal.invariant-tasks
 invariant-tasks g l = record {
   tasks : ℕ;
-  first : DoesFirst l.pass l.workers
+  first : DoesFirst g.B.Basis.rows l.pass l.workers
       (scene_of l.fn.worker (map g.C.Consumer.state l.fn.post.consumers.items) (g.D.Disk.files l.fn.post.disk) (g.D.Disk.faults l.fn.post.disk))
       (scene_of l.worker (map g.C.Consumer.state l.post.consumers.items) (g.D.Disk.files l.post.disk) (g.D.Disk.faults l.post.disk))
       tasks l.answers.items;

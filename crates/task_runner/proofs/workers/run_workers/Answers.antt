@@ -60,12 +60,12 @@ gather_all-requires-clause-answered g c =
     let size : length c.in-Ok.all.items ≡ g.B.Basis.sizes.workers = omega (arith, length-map c.in-Ok.all.items (λ answers. answers.items), c.in-Ok.ensures.finished.count) in
     subst (λ (view : PassView). (part i : ℕ) → part < parts_of view → i < queries_of view
     → answer_place (queries_of view) (part / length c.in-Ok.all.items) i < length (answers_of (map (λ answers. answers.items) c.in-Ok.all.items) (part % length c.in-Ok.all.items))) (sym c.pass.view_is)
-    (answered_of g.C.Consumer.state g.D.Disk.files g.B.Basis.sizes.workers c.args.pass.now c.args.executor.now.manager.now c.args.workers.now.items c.run_each.new.workers.items c.args.posts.now.items c.run_each.new.posts.items
+    (answered_of g.C.Consumer.state g.D.Disk.files g.B.Basis.sizes.workers g.B.Basis.rows c.args.pass.now c.args.executor.now.manager.now c.args.workers.now.items c.run_each.new.workers.items c.args.posts.now.items c.run_each.new.posts.items
     (map (λ answers. answers.items) c.in-Ok.all.items) (new_worker c.args.executor.now.manager.now 0 0) c.requires.some c.requires.workers c.in-Ok.ensures.finished (length c.in-Ok.all.items) size)
 
 pub returns-in-Ok-gather_all-clause-fed : goal.returns-in-Ok-gather_all-clause-fed
 returns-in-Ok-gather_all-clause-fed g c =
-    feeds_parts g.C.Consumer.state g.D.Disk.files g.B.Basis.sizes.workers c.args.pass.now c.args.executor.now.manager.now c.args.workers.now.items c.run_each.new.workers.items c.args.posts.now.items c.run_each.new.posts.items
+    feeds_parts g.C.Consumer.state g.D.Disk.files g.B.Basis.sizes.workers g.B.Basis.rows c.args.pass.now c.args.executor.now.manager.now c.args.workers.now.items c.run_each.new.workers.items c.args.posts.now.items c.run_each.new.posts.items
     (map (λ answers. answers.items) c.in-Ok.all.items) (new_worker c.args.executor.now.manager.now 0 0) c.requires.some c.requires.workers c.in-Ok.ensures.finished
 
 pub returns-in-Ok-gather_all-clause-answer : goal.returns-in-Ok-gather_all-clause-answer
@@ -75,7 +75,7 @@ returns-in-Ok-gather_all-clause-answer g c =
     let all = ap (λ (view : PassView). queries_of view) c.pass.view_is in
     let are = subst (λ (view : PassView). (i : ℕ) → i < queries_of view
     → runs_at (lists_of c.in-Ok-gather_all.lists.items) i ≡ gathered (queries_of view) i (map (λ answers. answers.items) c.in-Ok.all.items) (length c.in-Ok.all.items) (parts_of view)) c.pass.view_is c.in-Ok-gather_all.ensures.lists in
-    tell_all g.C.Consumer.state g.D.Disk.files g.B.Basis.sizes.workers c.args.pass.now c.args.executor.now.manager.now c.args.workers.now.items c.run_each.new.workers.items c.args.posts.now.items c.run_each.new.posts.items
+    tell_all g.C.Consumer.state g.D.Disk.files g.B.Basis.sizes.workers g.B.Basis.rows c.args.pass.now c.args.executor.now.manager.now c.args.workers.now.items c.run_each.new.workers.items c.args.posts.now.items c.run_each.new.posts.items
     (map (λ answers. answers.items) c.in-Ok.all.items) (new_worker c.args.executor.now.manager.now 0 0) c.requires.some c.requires.workers c.in-Ok.ensures.finished
     (length c.in-Ok.all.items) (lists_of c.in-Ok-gather_all.lists.items) size (omega (arith, count, all, c.in-Ok-gather_all.ensures.count)) are
 
@@ -86,7 +86,7 @@ returns-in-Ok-gather_all-clause-few g c =
     let all = ap (λ (view : PassView). queries_of view) c.pass.view_is in
     let are = subst (λ (view : PassView). (i : ℕ) → i < queries_of view
     → runs_at (lists_of c.in-Ok-gather_all.lists.items) i ≡ gathered (queries_of view) i (map (λ answers. answers.items) c.in-Ok.all.items) (length c.in-Ok.all.items) (parts_of view)) c.pass.view_is c.in-Ok-gather_all.ensures.lists in
-    all_few g.C.Consumer.state g.D.Disk.files g.B.Basis.sizes.workers c.args.pass.now c.args.executor.now.manager.now c.args.workers.now.items c.run_each.new.workers.items c.args.posts.now.items c.run_each.new.posts.items
+    all_few g.C.Consumer.state g.D.Disk.files g.B.Basis.sizes.workers g.B.Basis.rows c.args.pass.now c.args.executor.now.manager.now c.args.workers.now.items c.run_each.new.workers.items c.args.posts.now.items c.run_each.new.posts.items
     (map (λ answers. answers.items) c.in-Ok.all.items) (new_worker c.args.executor.now.manager.now 0 0) c.requires.some c.requires.workers c.in-Ok.ensures.finished
     (length c.in-Ok.all.items) (lists_of c.in-Ok-gather_all.lists.items) size (omega (arith, count, all, c.in-Ok-gather_all.ensures.count)) are
 
@@ -97,7 +97,7 @@ returns-in-Ok-gather_all-clause-there g c =
     let all = ap (λ (view : PassView). queries_of view) c.pass.view_is in
     let are = subst (λ (view : PassView). (i : ℕ) → i < queries_of view
     → runs_at (lists_of c.in-Ok-gather_all.lists.items) i ≡ gathered (queries_of view) i (map (λ answers. answers.items) c.in-Ok.all.items) (length c.in-Ok.all.items) (parts_of view)) c.pass.view_is c.in-Ok-gather_all.ensures.lists in
-    all_there g.C.Consumer.state g.D.Disk.files g.B.Basis.sizes.workers c.args.pass.now c.args.executor.now.manager.now c.args.workers.now.items c.run_each.new.workers.items c.args.posts.now.items c.run_each.new.posts.items
+    all_there g.C.Consumer.state g.D.Disk.files g.B.Basis.sizes.workers g.B.Basis.rows c.args.pass.now c.args.executor.now.manager.now c.args.workers.now.items c.run_each.new.workers.items c.args.posts.now.items c.run_each.new.posts.items
     (map (λ answers. answers.items) c.in-Ok.all.items) (new_worker c.args.executor.now.manager.now 0 0) c.requires.some c.requires.workers c.in-Ok.ensures.finished
     (length c.in-Ok.all.items) (lists_of c.in-Ok-gather_all.lists.items) size (omega (arith, count, all, c.in-Ok-gather_all.ensures.count)) are
 
@@ -108,7 +108,7 @@ returns-in-Ok-gather_all-clause-bounded g c =
     let all = ap (λ (view : PassView). queries_of view) c.pass.view_is in
     let are = subst (λ (view : PassView). (i : ℕ) → i < queries_of view
     → runs_at (lists_of c.in-Ok-gather_all.lists.items) i ≡ gathered (queries_of view) i (map (λ answers. answers.items) c.in-Ok.all.items) (length c.in-Ok.all.items) (parts_of view)) c.pass.view_is c.in-Ok-gather_all.ensures.lists in
-    all_small g.C.Consumer.state g.D.Disk.files g.B.Basis.sizes.workers c.args.pass.now c.args.executor.now.manager.now c.args.workers.now.items c.run_each.new.workers.items c.args.posts.now.items c.run_each.new.posts.items
+    all_small g.C.Consumer.state g.D.Disk.files g.B.Basis.sizes.workers g.B.Basis.rows c.args.pass.now c.args.executor.now.manager.now c.args.workers.now.items c.run_each.new.workers.items c.args.posts.now.items c.run_each.new.posts.items
     (map (λ answers. answers.items) c.in-Ok.all.items) (new_worker c.args.executor.now.manager.now 0 0) c.requires.some c.requires.workers c.in-Ok.ensures.finished
     (length c.in-Ok.all.items) (lists_of c.in-Ok-gather_all.lists.items) size (omega (arith, count, all, c.in-Ok-gather_all.ensures.count)) are
 
@@ -119,7 +119,7 @@ returns-in-Ok-gather_all-clause-made g c =
     let all = ap (λ (view : PassView). queries_of view) c.pass.view_is in
     let are = subst (λ (view : PassView). (i : ℕ) → i < queries_of view
     → runs_at (lists_of c.in-Ok-gather_all.lists.items) i ≡ gathered (queries_of view) i (map (λ answers. answers.items) c.in-Ok.all.items) (length c.in-Ok.all.items) (parts_of view)) c.pass.view_is c.in-Ok-gather_all.ensures.lists in
-    all_new g.C.Consumer.state g.D.Disk.files g.B.Basis.sizes.workers c.args.pass.now c.args.executor.now.manager.now c.args.workers.now.items c.run_each.new.workers.items c.args.posts.now.items c.run_each.new.posts.items
+    all_new g.C.Consumer.state g.D.Disk.files g.B.Basis.sizes.workers g.B.Basis.rows c.args.pass.now c.args.executor.now.manager.now c.args.workers.now.items c.run_each.new.workers.items c.args.posts.now.items c.run_each.new.posts.items
     (map (λ answers. answers.items) c.in-Ok.all.items) (new_worker c.args.executor.now.manager.now 0 0) c.requires.some c.requires.workers c.in-Ok.ensures.finished
     (length c.in-Ok.all.items) (lists_of c.in-Ok-gather_all.lists.items) size (omega (arith, count, all, c.in-Ok-gather_all.ensures.count)) are
 
@@ -130,6 +130,6 @@ returns-in-Ok-gather_all-clause-only g c =
     let all = ap (λ (view : PassView). queries_of view) c.pass.view_is in
     let are = subst (λ (view : PassView). (i : ℕ) → i < queries_of view
     → runs_at (lists_of c.in-Ok-gather_all.lists.items) i ≡ gathered (queries_of view) i (map (λ answers. answers.items) c.in-Ok.all.items) (length c.in-Ok.all.items) (parts_of view)) c.pass.view_is c.in-Ok-gather_all.ensures.lists in
-    only_all g.C.Consumer.state g.D.Disk.files g.B.Basis.sizes.workers c.args.pass.now c.args.executor.now.manager.now c.args.workers.now.items c.run_each.new.workers.items c.args.posts.now.items c.run_each.new.posts.items
+    only_all g.C.Consumer.state g.D.Disk.files g.B.Basis.sizes.workers g.B.Basis.rows c.args.pass.now c.args.executor.now.manager.now c.args.workers.now.items c.run_each.new.workers.items c.args.posts.now.items c.run_each.new.posts.items
     (map (λ answers. answers.items) c.in-Ok.all.items) (new_worker c.args.executor.now.manager.now 0 0) c.requires.some c.requires.workers c.in-Ok.ensures.finished
     (length c.in-Ok.all.items) (lists_of c.in-Ok-gather_all.lists.items) size (omega (arith, count, all, c.in-Ok-gather_all.ensures.count)) are g.D.Disk.faults c.requires.pass.queries.some c.run_each.ensures.reached

@@ -7,7 +7,7 @@ use Rattle.csv_program.specs.Posts.{post_faults, post_files}
 use Rattle.csv_program.proofs.Aside.{cause_around, faults_alike, files_alike, lists_alike, merges_alike}
 use Rattle.csv_program.proofs.Named.{final_named}
 use Rattle.csv_program.proofs.StillThere.{others_around, tells_around}
-use Rattle.csv_program.proofs.pool.merge_aside.Goals as goal
+use Rattle.csv_program.proofs.finishing.merge_aside.Goals as goal
 
 pub returns-clause-answer : goal.returns-clause-answer
 returns-clause-answer g c =

@@ -4,7 +4,7 @@ use Rattle.task_runner.specs.PassViews.{parts_of, task_for}
 use Rattle.task_runner.specs.Works.{Works}
 use Rattle.csv_program.proofs.Crews.{works_at}
 use Rattle.csv_program.proofs.Followed.{on_ok_more}
-use Rattle.csv_program.proofs.pool.finish.Goals as goal
+use Rattle.csv_program.proofs.finishing.finish.Goals as goal
 
 pub returns-clause-works : goal.returns-clause-works
 returns-clause-works g c =

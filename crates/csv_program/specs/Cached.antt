@@ -1,0 +1,37 @@
+-- What the journal of a run tells of cached blocks.
+-- This project's own.
+use Rattle.std.specs.Prelude.{ℕ, ◌+◌, ◌*◌, ◌%◌, ◌<◌, IfSome, List, length, slice_index_or}
+use Rattle.pool_ledger.specs.declared.entry.Entry.{Entry}
+use Rattle.job_plan.specs.Columns.{Fields}
+use Rattle.job_plan.specs.Plans.{IsPlanOf, chain_in, passes_in}
+use Rattle.job_plan.specs.declared.query_plan.Plan.{Plan}
+use Rattle.job_text.specs.declared.job.Job.{Job}
+use Rattle.turn_lock.specs.Passes.{PassState}
+use Rattle.lineage.specs.LineageViews.{name_for}
+use Rattle.lineage.specs.Telling.{nearest}
+use Rattle.task_runner.specs.Blocks.{TellsBlock}
+
+-- the task of a partition in a pass of a plan, over so many partitions, has an entry of the block of the nearest kept dataset on the
+-- way from the pass's dataset to the input, if there is one: its pin, its admission or its refusal
+abbrev pub TellsAt : Plan → ℕ → ℕ → ℕ → ℕ → List Entry → Type 0
+TellsAt plan workers partitions pass part entries =
+    IfSome (nearest (chain_in plan) (slice_index_or (passes_in plan) pass 0))
+    (λ kept. TellsBlock (part % workers) (part + pass * (partitions + 1)) (name_for (chain_in plan) kept) part entries)
+
+-- the same of each partition in the first passes
+abbrev pub TellsPasses : Plan → ℕ → ℕ → ℕ → List Entry → Type 0
+TellsPasses plan workers partitions passes entries =
+    (pass part : ℕ) → pass < passes → part < partitions → TellsAt plan workers partitions pass part entries
+
+-- the same by what the partition's worker has seen
+abbrev pub EachTells : Plan → ℕ → ℕ → ℕ → List PassState → Type 0
+EachTells plan count partitions passes workers =
+    (pass part : ℕ) (any : PassState) → pass < passes → part < partitions
+    → TellsAt plan count partitions pass part (slice_index_or workers (part % count) any).seen
+
+-- the same of a job, by its plan for a header
+pub record HasCached (job : Job) (workers partitions : ℕ) (entries : List Entry) : Type 0 where
+  pub header : Fields
+  pub plan : Plan
+  pub planned : IsPlanOf job header plan
+  pub tells : TellsPasses plan workers partitions (length (passes_in plan)) entries
