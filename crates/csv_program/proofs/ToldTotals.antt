@@ -86,8 +86,10 @@ all_take P (suc n) (x ∷ xs) all = (all.0, all_take P n xs all.1)
 
 pub holds_parts : (given : RowsByName) (files : ℕ → Option Files) (asked : RunCall) (plan : Plan) (parts : List Run) (rows : List Fields) → 1 ≤ asked.pool.workers → StandAs given files asked plan parts rows
     → HoldsParts files given plan parts asked.part_rows asked.pool.workers (λ part. partition_of asked.part_rows part rows)
-holds_parts given files asked plan parts rows some stand part below =
-    (record {
-      stands = stand.landed.stand part below (stand.tell (part % asked.pool.workers) (mod-lt part some));
-      formed = all_take (HasForm (form_in plan)) asked.part_rows (drop (part * asked.part_rows) rows) (all_drop (HasForm (form_in plan)) (part * asked.part_rows) rows stand.checked.formed);
-    }, stand.says part below)
+holds_parts given files asked plan parts rows some stand part below = (
+  record {
+    stands = stand.landed.stand part below (stand.tell (part % asked.pool.workers) (mod-lt part some));
+    formed = all_take (HasForm (form_in plan)) asked.part_rows (drop (part * asked.part_rows) rows) (all_drop (HasForm (form_in plan)) (part * asked.part_rows) rows stand.checked.formed);
+  },
+  stand.says part below,
+)

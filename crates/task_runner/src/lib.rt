@@ -24,9 +24,9 @@ mod workers;
 
 pub use aside::{swap_consumers, take_consumers};
 pub use final_task::run_final;
+pub use lineage::Executor;
 pub use pass::Pass;
 pub use post::Post;
 pub use task::run_task;
-pub use lineage::Executor;
 pub use work_fault::WorkFault;
 pub use workers::run_workers;

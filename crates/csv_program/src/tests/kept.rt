@@ -60,7 +60,8 @@ fn blocks_in(entries: &[Entry]) -> Blocks {
             Event::Pin { copy: false, .. } => &mut seen.pinned,
             Event::Pin { copy: true, .. } => &mut seen.read_back,
             Event::Evict {
-                fate: Fate::Disk, ..
+                fate: Fate::Disk,
+                ..
             } => &mut seen.written,
             Event::Evict { .. } => &mut seen.dropped,
             Event::Remove { .. } => &mut seen.removed,
@@ -71,14 +72,14 @@ fn blocks_in(entries: &[Entry]) -> Blocks {
     seen
 }
 
-// The words of a job in a pool of so many workers that is all of a heap of so many bytes, in partitions of a hundred rows.
-fn words_of<'a>(workers: &'a str, heap: &'a str, job: &'a str) -> [&'a str; 8] {
+// The words of a job in a pool of so many workers that is all of a heap of so many bytes, in partitions of so many rows.
+fn words_of<'a>(workers: &'a str, heap: &'a str, part_rows: &'a str, job: &'a str) -> [&'a str; 8] {
     [
         "run",
         workers,
         "--reserved=0",
         "--fraction=1000",
-        "--part-rows=100",
+        part_rows,
         "--journal",
         heap,
         job,
@@ -107,7 +108,8 @@ fn a_kept_dataset_is_cached_in_its_one_pass(rt: HostRuntime) -> Result<(), Fail>
         order number amount down: order_id, amount from paid";
     let ran = run_with(&rt, alloc, 4, call_of(&["run", job], ORDERS))?;
     assert_eq!(rt; told(alloc, &ran.outcome.status)?.as_str(), "0 ");
-    let wanted = b"region,count,sum_amount,max_amount\n\"East, upper\",1,75,75\nNorth,2,325,250\n\norder_id,amount\n1001,250\n1003,75\n1004,75\n";
+    let wanted =
+        b"region,count,sum_amount,max_amount\n\"East, upper\",1,75,75\nNorth,2,325,250\n\norder_id,amount\n1001,250\n1003,75\n1004,75\n";
     assert_eq!(rt; ran.written.as_slice(), wanted.as_slice());
     let seen = blocks_in(ran.outcome.journal.entries());
     assert_eq!(rt; (seen.admitted, seen.pinned, seen.removed), (1, 0, 1));
@@ -119,7 +121,7 @@ fn a_kept_dataset_is_cached_in_its_one_pass(rt: HostRuntime) -> Result<(), Fail>
 fn later_passes_pin_what_was_cached(rt: HostRuntime) -> Result<(), Fail> {
     let alloc = rt.alloc();
     let input = generated(alloc, 1_000)?;
-    let words = words_of("--workers=4", "--heap=1000000000", JOB);
+    let words = words_of("--workers=4", "--heap=1000000000", "--part-rows=100", JOB);
     let ran = run_in(&rt, alloc, &words, &input, &[])?;
     assert_eq!(rt; told(alloc, &ran.outcome.status)?.as_str(), "0 ");
     assert!(rt; is_legal(alloc, &ran)?);
@@ -140,19 +142,24 @@ fn later_passes_pin_what_was_cached(rt: HostRuntime) -> Result<(), Fail> {
 #[test]
 fn pools_agree_whatever_they_evict(rt: HostRuntime) -> Result<(), Fail> {
     let alloc = rt.alloc();
-    let input = generated(alloc, 20_000)?;
-    let plain = words_of("--workers=1", "--heap=1000000000", UNKEPT);
+    let input = generated(alloc, 100_000)?;
+    let plain = words_of(
+        "--workers=1",
+        "--heap=1000000000",
+        "--part-rows=1000",
+        UNKEPT,
+    );
     let wanted = run_in(&rt, alloc, &plain, &input, &[])?;
     assert_eq!(rt; wanted.outcome.status.number(), 0);
     let mut all = blocks_in(&[]);
     for workers in ["--workers=1", "--workers=4"] {
         for heap in [
-            "--heap=60000",
             "--heap=200000",
             "--heap=700000",
-            "--heap=9000000",
+            "--heap=2000000",
+            "--heap=6000000",
         ] {
-            let words = words_of(workers, heap, JOB);
+            let words = words_of(workers, heap, "--part-rows=1000", JOB);
             let ran = run_in(&rt, alloc, &words, &input, &[])?;
             assert!(rt; agrees(alloc, &ran, &wanted)?, "{workers} {heap}");
             let seen = blocks_in(ran.outcome.journal.entries());
@@ -166,7 +173,8 @@ fn pools_agree_whatever_they_evict(rt: HostRuntime) -> Result<(), Fail> {
 
 // Whether a run has the tables of another one and a legal journal.
 fn agrees(alloc: Global, ran: &Ran, wanted: &Ran) -> Result<bool, AllocError> {
-    let same = ran.outcome.status.number() == 0 && ran.written.as_slice() == wanted.written.as_slice();
+    let same = ran.outcome.status.number() == 0
+        && ran.written.as_slice() == wanted.written.as_slice();
     Ok(same && is_legal(alloc, ran)?)
 }
 
@@ -192,7 +200,7 @@ fn has_each(all: Blocks) -> bool {
 fn a_pool_that_is_too_small_is_told(rt: HostRuntime) -> Result<(), Fail> {
     let alloc = rt.alloc();
     let input = generated(alloc, 2_000)?;
-    let words = words_of("--workers=1", "--heap=400", JOB);
+    let words = words_of("--workers=1", "--heap=400", "--part-rows=100", JOB);
     let ran = run_in(&rt, alloc, &words, &input, &[])?;
     assert_eq!(rt; ran.outcome.status.number(), 12);
     assert!(rt; ran.written.is_empty());
@@ -204,7 +212,7 @@ fn a_pool_that_is_too_small_is_told(rt: HostRuntime) -> Result<(), Fail> {
 fn a_failing_store_disk_changes_no_table(rt: HostRuntime) -> Result<(), Fail> {
     let alloc = rt.alloc();
     let input = generated(alloc, 3_000)?;
-    let words = words_of("--workers=1", "--heap=40000", JOB);
+    let words = words_of("--workers=1", "--heap=40000", "--part-rows=100", JOB);
     let wanted = run_in(&rt, alloc, &words, &input, &[])?;
     assert_eq!(rt; wanted.outcome.status.number(), 0);
     let seen = blocks_in(wanted.outcome.journal.entries());
@@ -265,7 +273,7 @@ fn run_cut<X: Threads + Wait + Sync>(
 fn copies_that_were_cut_change_no_table(rt: HostRuntime) -> Result<(), Fail> {
     let alloc = rt.alloc();
     let input = generated(alloc, 3_000)?;
-    let words = words_of("--workers=1", "--heap=40000", JOB);
+    let words = words_of("--workers=1", "--heap=40000", "--part-rows=100", JOB);
     let wanted = run_in(&rt, alloc, &words, &input, &[])?;
     for hidden in [0, 1, 40, 100_000] {
         let written = run_cut(&rt, alloc, &words, &input, hidden)?;

@@ -1,4 +1,4 @@
-use Rattle.std.proofs.Common.{◌≡◌, ◌∙◌, ◌+◌, ◌∷◌, [], ℕ, ap, inr, subst, sym}
+use Rattle.std.proofs.Common.{◌≡◌, ◌∙◌, ◌+◌, ◌∷◌, [], ℕ, ap, inr, subst}
 use Rattle.pool_ledger.specs.History.{held}
 use Rattle.pool_ledger.specs.Sizes.{floor_of}
 use Rattle.pool_ledger.specs.declared.entry.Event.TheVariants.{End}
