@@ -164,7 +164,7 @@ fn run_job<
 ///
 /// The rows of a kept dataset in a partition are cached as a block of the pool, where there is room: a task has them from a pin or
 /// from the copy that an eviction wrote to `store_disk`, or computes them again from the landed rows. Behind the last pass that
-/// needs them its blocks are removed. What the store disk does changes no output.
+/// needs them its blocks are removed. Where the disks return what was written, the store disk changes no output.
 ///
 /// With `--journal` the text of the pool's journal is written to `journal` when all sums are known to fit, before the first table.
 ///
