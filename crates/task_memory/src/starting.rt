@@ -73,6 +73,7 @@ pub fn start<C: Consumer, P: Pool>(
     requires places { ArePlaces picks.now kinds.now (map C.state consumers.old) }
     ensures live { IfOk result (λ started. (files : Option Files) (faults : ℕ) → IsLive
         (begun_scene (map C.state consumers.new) (P.state pool.new) files faults started.spills started.leasts)) }
+    ensures leasts { IfOk result (λ started. started.leasts ≡ leasts_of picks.now (map C.state consumers.old)) }
     ensures picks { IfOk result (λ started. started.spills.picks.items ≡ picks.now) }
     ensures runs { IfOk result (λ started. lists_of started.spills.runs.items ≡ replicate (length consumers.old) []) }
     ensures begun { IfOk result

@@ -1,4 +1,4 @@
-use Rattle.std.proofs.Common.{map, length, sym, subst, ℕ, refl, arith}
+use Rattle.std.proofs.Common.{◌∙◌, map, length, sym, subst, ℕ, refl, arith}
 use Rattle.std.proofs.lemmas.List.{length-map}
 use Rattle.task_memory.specs.declared.starting.Started.{Started}
 use Rattle.task_memory.specs.Leasts.{IsLeastLacking}
@@ -24,6 +24,10 @@ returns-in-Ok-take_leasts-clause-live g c = λ files faults.
       };
       live = refl;
     }
+
+pub returns-in-Ok-take_leasts-clause-leasts : goal.returns-in-Ok-take_leasts-clause-leasts
+returns-in-Ok-take_leasts-clause-leasts g c =
+    c.in-Ok-take_leasts.ensures.takes.all ∙ leasts_kept c.args.picks.now c.args.kinds.now (map g.C.Consumer.state c.args.consumers.now) (map g.C.Consumer.state c.begin_all.new.consumers) c.in-Ok.ensures.ok
 
 pub returns-in-Err-clause-no_room : goal.returns-in-Err-clause-no_room
 returns-in-Err-clause-no_room g c =
