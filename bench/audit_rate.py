@@ -3,9 +3,11 @@
 
 Run it at the top of the repository, after `rt run` in crates/audit_rate has built the program. The journals are made by
 tools/audit_model.py: a task that asks and gives back, and with blocks a pin and its unpin between two asks; blocks of which
-each admission evicts one; blocks of which each ask evicts one; blocks whose dataset is refused more of them; and blocks whose
-dataset stays, where each further one of it evicts a block of another. Each round audits all of them, one right after another,
-so that other work on the machine meets them alike.
+each admission evicts one; blocks of which each ask evicts one; blocks whose dataset is refused more of them; blocks whose
+dataset stays, where each further one of it evicts a block of another; blocks that are too few for a further one since a pin
+keeps the largest; blocks of two datasets of which one is removed and comes again; blocks that go to copies and are read back;
+and blocks that an ask evicts all but one. Each round audits all of them, one right after another, so that other work on the
+machine meets them alike.
 """
 import os
 import subprocess
@@ -14,7 +16,7 @@ import tempfile
 import time
 
 sys.path.insert(0, "tools")
-from audit_model import asking, keeping, many, refusing, turning
+from audit_model import asking, copying, emptying, keeping, many, pinned, refusing, removing, turning
 
 PROGRAM = os.path.abspath("crates/audit_rate/out/audit_rate")
 ENTRIES = int(sys.argv[1]) if len(sys.argv) > 1 else 1_000_000
@@ -31,6 +33,14 @@ JOURNALS = [
     ("1,000 blocks, and refusals", refusing, 1000),
     ("10 blocks that stay", keeping, 10),
     ("1,000 blocks that stay", keeping, 1000),
+    ("10 blocks, a pin refuses", pinned, 10),
+    ("1,000 blocks, a pin refuses", pinned, 1000),
+    ("10 blocks, one removed", removing, 10),
+    ("1,000 blocks, one removed", removing, 1000),
+    ("10 blocks, copies read back", copying, 10),
+    ("1,000 blocks, copies read back", copying, 1000),
+    ("10 blocks, an ask evicts all", emptying, 10),
+    ("1,000 blocks, an ask evicts all", emptying, 1000),
 ]
 
 

@@ -177,7 +177,7 @@ class Pool:
             if self.held[e[2]] == 0:
                 self.active.discard(e[2])
             if kind == 'end':
-                del self.open[w]
+                del self.open[w], self.held[e[2]]
         elif kind == 'admit':
             self.blocks.append([e[2], e[3], e[4], e[5]])
             self.execution -= e[6]
@@ -226,17 +226,18 @@ def rows_in(path):
             yield row.split(': ')[-1], answer
 
 
-def history(seed, workers, calls):
-    """A drawn journal, made by the model of the pool."""
+def history(seed, workers, calls, datasets=3, parts=3, entries=0):
+    """A drawn journal of so many calls, or so many entries at least, made by the model of the pool."""
     sys.path.insert(0, 'tools')
     from pool_model import Model
     draw = random.Random(seed)
     model = Model(draw.choice([600, 997, 4096]), 500, workers)
     setup = (model.maximum, model.region, workers)
     task = 0
-    for _ in range(calls):
+    while calls > 0 or len(model.journal) < entries:
+        calls -= 1
         w = draw.randrange(workers)
-        name = (draw.randrange(1, 4), draw.randrange(3))
+        name = (draw.randrange(1, datasets + 1), draw.randrange(parts))
         what = draw.choice(['task', 'ask', 'ask', 'ask', 'release', 'end', 'admit', 'admit', 'admit', 'pin', 'pin', 'unpin', 'remove'])
         if what == 'task' and w not in model.open:
             model.begin(w, task)
@@ -350,6 +351,58 @@ def keeping(count, blocks):
         out += [f'evict,0,2,{other},{size},gone', f'admit,0,1,{blocks},{size},memory,0,1', f'remove,0,1,{blocks},{size}',
                 f'admit,0,2,{other + 1},{size},memory,0,0']
         other += 1
+    return '\n'.join(out) + '\n'
+
+
+def pinned(count, blocks):
+    """A legal journal of refusals that only a pin causes: a large block of another dataset has more than is wanted, and without
+    it all the others have too little, each of one byte and of its own dataset."""
+    size = 2 * blocks
+    region = size + blocks
+    out = [f'memory journal 1,{region},{region},1']
+    out += [f'admit,0,{1 + part},0,1,memory,0,0' for part in range(blocks)]
+    out += [f'admit,0,0,0,{size},memory,0,0', 'pin,0,0,0,resident']
+    while len(out) <= count:
+        out.append(f'refused,0,{len(out)},1,{size},0,0')
+    return '\n'.join(out) + '\n'
+
+
+def removing(count, blocks):
+    """A legal journal of blocks of two datasets in turn: one of them is removed each time, and comes again as the last."""
+    size = 1000
+    region = blocks * size
+    out = [f'memory journal 1,{region},{region},1']
+    out += [f'admit,0,{part % 2},{part},{size},disk,0,0' for part in range(blocks)]
+    step = 0
+    while len(out) + 1 <= count:
+        part = step % blocks
+        out += [f'remove,0,{part % 2},{part},{size}', f'admit,0,{part % 2},{part},{size},disk,0,0']
+        step += 7919
+    return '\n'.join(out) + '\n'
+
+
+def copying(count, blocks):
+    """A legal journal of blocks of two levels that fill the pool: the oldest goes to a copy, is read back, and evicts the next."""
+    size = 1000
+    region = blocks * size
+    out = [f'memory journal 1,{region},{region},1']
+    out += [f'admit,0,{1 + part},0,{size},disk,0,0' for part in range(blocks)]
+    oldest, missing = 0, blocks
+    while len(out) + 2 <= count:
+        out += [f'evict,0,{1 + oldest},0,{size},disk', f'admit,0,{1 + missing},0,{size},disk,0,1', f'pin,0,{1 + oldest},0,copy']
+        oldest, missing = (oldest + 1) % (blocks + 1), oldest
+    return '\n'.join(out) + '\n'
+
+
+def emptying(count, blocks):
+    """A legal journal of blocks that fill the pool: each ask evicts all of them but one, and gives back, and they come again."""
+    size = 1000
+    out = [f'memory journal 1,{blocks * size},{size},1', 'begin,0,0']
+    asked = (blocks - 1) * size
+    while len(out) + 2 * blocks + 1 <= count:
+        out += [f'admit,0,{1 + part},0,{size},memory,{size if part else 0},0' for part in range(blocks)]
+        out += [f'evict,0,{1 + part},0,{size},gone' for part in range(blocks - 1)]
+        out += [f'attempt,0,0,{asked},{asked},{blocks - 1},{asked}', f'release,0,0,{asked}', f'remove,0,{blocks},0,{size}']
     return '\n'.join(out) + '\n'
 
 

@@ -53,6 +53,12 @@ a refusal of what is admitted: 600,300,2/admit,0,1,0,150,disk,0,0/admit,0,2,0,15
 a release of more than is held: 600,300,2/admit,0,1,0,150,disk,0,0/admit,0,2,0,150,memory,0,0/begin,0,7/attempt,0,7,350,0,0,300/release,0,7,301/ -> no 5 freed
 an end that leaves a byte: 600,300,2/admit,0,1,0,150,disk,0,0/admit,0,2,0,150,memory,0,0/begin,0,7/attempt,0,7,350,0,0,300/end,0,7,299/ -> no 5 freed
 an end that frees a byte more: 600,300,2/admit,0,1,0,150,disk,0,0/admit,0,2,0,150,memory,0,0/begin,0,7/attempt,0,7,350,0,0,300/end,0,7,301/ -> no 5 freed
+all that storage has free moves: 600,300,1/begin,0,0/attempt,0,0,500,200,0,500/attempt,0,0,200,100,0,100/ -> yes 3
+a byte more than all that is left: 600,300,1/begin,0,0/attempt,0,0,500,200,0,500/attempt,0,0,200,100,0,101/ -> no 3 share
+a line without its task: 600,300,1/begin,0/attempt,0,0,500,200,0,500/attempt,0,0,200,100,0,100/ -> bad line 2
+a refusal that only pins cause: 600,600,2/admit,0,1,0,300,memory,0,0/admit,0,2,0,300,memory,0,0/pin,0,1,0,resident/pin,1,2,0,resident/refused,0,3,0,300,0,0/ -> yes 5
+a block that two pins keep: 600,600,2/admit,0,1,0,300,memory,0,0/admit,0,2,0,300,memory,0,0/pin,0,1,0,resident/pin,1,1,0,resident/evict,0,2,0,300,gone/admit,0,3,0,300,memory,0,1/ -> yes 6
+a pin of the same dataset: 600,600,2/admit,0,1,0,300,memory,0,0/admit,0,2,0,300,memory,0,0/pin,0,1,0,resident/evict,0,2,0,300,gone/admit,0,1,1,300,memory,0,1/ -> yes 5
 a bad line behind a broken rule: 600,300,2/admit,0,1,0,150,disk,0,0/admit,0,2,0,150,memory,0,0/begin,0,7/begin,0,8/begin,0/ -> bad line 6";
 
 #[test]

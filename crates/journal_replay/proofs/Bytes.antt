@@ -1,5 +1,5 @@
--- The bytes of each dataset's blocks after an event, and those that may go at most.
-use Rattle.std.proofs.Common.{◌≡◌, ℕ, ◌+◌, ◌-◌, ◌^◌, ◌≤◌, Bool, true, false, not, cond, List, [], ◌∷◌, sum_by, Some, refl, sym, ap, ◌∙◌, inl, inr, arith}
+-- The bytes of each dataset's blocks after an event.
+use Rattle.std.proofs.Common.{◌≡◌, ℕ, ◌+◌, ◌-◌, ◌^◌, ◌≤◌, Bool, true, false, not, cond, List, [], ◌∷◌, sum_by, refl, sym, ap, ◌∙◌, inl, inr, arith}
 use Rattle.std.specs.Prelude.{nat_eq}
 use Rattle.std.specs.HashMap.{HashMap}
 use Rattle.std.specs.List.{filter}
@@ -11,10 +11,9 @@ use Rattle.pool_ledger.specs.declared.entry.Event.{Event}
 use Rattle.pool_ledger.specs.declared.entry.Event.TheVariants.{Admit, Evict, Pin, Remove}
 use Rattle.pool_ledger.specs.Sizes.{Sizes}
 use Rattle.pool_ledger.specs.History.{History}
-use Rattle.pool_ledger.specs.Blocks.{Resident, evictable, is_block, is_pinned, only, residents, residents_after, sizes, stored, without}
+use Rattle.pool_ledger.specs.Blocks.{Resident, is_block, only, residents, residents_after, sizes, without}
 use Rattle.pool_ledger.specs.Recorded.{CanCome, IsLeaving, IsRecorded}
 use Rattle.pool_ledger.proofs.Residents.{stored-without}
-use Rattle.journal_replay.proofs.Gone.{may_go}
 use Rattle.journal_replay.specs.Tables.{bytes_after, bytes_at, bytes_of, IsSmall, TellsBytes}
 
 -- the bytes that a block adds to its dataset, and to the others
@@ -97,29 +96,3 @@ small_noted bytes s h entry low recorded tells = by entry.worker entry.event rec
     by : (w : ℕ) (e : Event) → CanCome s h w e → IsSmall e bytes
     by w (Admit d p size level borrowed evictions) can = omega (arith, low, can.sum_fits, tells d, bytes_within d (residents h))
     by w _ can = tt
-
--- What may go at most
-
-isn't : (t : Bool) → not t ≡ true → t ≡ false
-isn't false h = refl
-isn't true h = absurd (cc h)
-
-may_go_within : (h : History) (dataset : ℕ) (blocks : List Resident) → sizes (filter (may_go h (Some dataset)) blocks) + bytes_of dataset blocks ≤ sizes blocks
-may_go_within h dataset [] = omega arith
-may_go_within h dataset (b ∷ blocks) =
-    let before = may_go_within h dataset blocks in
-    let here = sum_by-cons (own dataset) b blocks in
-    let all = sum_by-cons (λ (x : Resident). x.size) b blocks in
-    let own_size = either (nat_eq b.dataset dataset) b.size in
-    elim (cases_Bool (may_go h (Some dataset) b)) [
-      | inl holds ↦
-          let apart = isn't (nat_eq b.dataset dataset) (and_parts (not (is_pinned h b.dataset b.part)) (not (nat_eq b.dataset dataset)) holds).1 in
-          rw (cond-true (may_go h (Some dataset) b) (b ∷ filter (may_go h (Some dataset)) blocks) (filter (may_go h (Some dataset)) blocks) holds)
-          (omega (arith, before, here, all, cond-false (nat_eq b.dataset dataset) b.size 0 apart, sum_by-cons (λ (x : Resident). x.size) b (filter (may_go h (Some dataset)) blocks)))
-      | inr fails ↦
-          rw (cond-false (may_go h (Some dataset) b) (b ∷ filter (may_go h (Some dataset)) blocks) (filter (may_go h (Some dataset)) blocks) fails)
-          (omega (arith, before, here, all, own_size))
-    ]
-
-pub goes_within : (h : History) (dataset : ℕ) → sizes (evictable h (Some dataset)) ≤ stored h - bytes_of dataset (residents h)
-goes_within h dataset = omega (arith, may_go_within h dataset (residents h))

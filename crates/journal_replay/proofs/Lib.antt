@@ -10,5 +10,6 @@ pub mod Lists
 pub mod Walked
 pub mod Chosen
 pub mod Bytes
+pub mod MayGo
 pub mod OneVerdict
 pub mod Answered

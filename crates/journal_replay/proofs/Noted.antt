@@ -116,7 +116,7 @@ pins_stay pins h w e tells stays pins_none unpins_none = record {
   counted = λ d p. omega (arith, tells.counted d p, pins_none d p, unpins_none d p);
 }
 
-turned : (a b c d : ℕ) → (nat_eq a c && nat_eq b d) ≡ (nat_eq c a && nat_eq d b)
+pub turned : (a b c d : ℕ) → (nat_eq a c && nat_eq b d) ≡ (nat_eq c a && nat_eq d b)
 turned a b c d = ap (λ t. t && nat_eq b d) (nat_eq_equiv.symm a c) ∙ ap (λ t. nat_eq c a && t) (nat_eq_equiv.symm b d)
 
 noted_at : (s : Sizes) (pins : List (Option BlockName)) (h : History) (w : ℕ) (e : Event) → w < 16 → MayCome s h w e → TellsPins pins h → TellsPins (pins_after w e pins) (entry_by w e ∷ h)

@@ -11,7 +11,7 @@ use Rattle.std.specs.Ordering.{nat_cmp}
 use Rattle.std.specs.declared.ops.Bound.TheVariants.{Included, Unbounded}
 use Rattle.pool_ledger.specs.Blocks.{Resident, is_block}
 use Rattle.eviction.specs.declared.candidate.Candidate.{Candidate}
-use Rattle.eviction.specs.Victims.{evictable}
+use Rattle.eviction.specs.Victims.{evictable, sizes}
 use Rattle.journal_replay.specs.declared.block_name.BlockName.{BlockName}
 use Rattle.journal_replay.specs.declared.placed.Placed.{Placed}
 use Rattle.journal_replay.specs.declared.use_order.UseOrder.{UseOrder}
@@ -36,6 +36,10 @@ entries_from from entries = entries_between nat_cmp (Included from) Unbounded en
 -- of the entries from this place on, the blocks that may go
 abbrev pub evictable_from : Option ℕ → List (Option BlockName) → ℕ → List (ℕ × Placed) → List Candidate
 evictable_from except pins from entries = evictable except (candidates_of pins (entries_from from entries))
+
+-- the bytes of the blocks that may go, with these pins
+abbrev pub evictable_bytes : Option ℕ → List (Option BlockName) → List (ℕ × Placed) → ℕ
+evictable_bytes except pins entries = sizes (evictable except (candidates_of pins entries))
 
 -- the block at a place
 abbrev pub block_by : BTreeMap ℕ Placed → ℕ → Option Placed

@@ -100,7 +100,7 @@ fn next_other(order: &UseOrder, from: u64, except: Option<u32>) -> Option<(u64, 
     let _count = order.placed.len();
     let mut at = from;
     while let Some((place, placed)) = first_from(&order.placed, at) {
-        if !is_excepted(placed, except) {
+        if !is_excepted(placed.name.dataset, except) {
             return Some((place, placed));
         }
         let Some(start) = next_start(&order.starts, place + 1) else {
@@ -111,12 +111,12 @@ fn next_other(order: &UseOrder, from: u64, except: Option<u32>) -> Option<(u64, 
     None
 }
 
-// Whether the block is of the excepted dataset.
-fn is_excepted(placed: Placed, except: Option<u32>) -> bool
-    ensures { result ≡ is_excepted except placed.name.dataset }
+/// Whether the dataset is the excepted one.
+pub(crate) fn is_excepted(dataset: u32, except: Option<u32>) -> bool
+    ensures { result ≡ is_excepted except dataset }
 {
     match except {
-        Some(dataset) => placed.name.dataset == dataset,
+        Some(excepted) => dataset == excepted,
         None => false,
     }
 }

@@ -9,6 +9,7 @@ mod block_rules;
 mod blocks;
 mod check;
 mod copies;
+mod evictable;
 mod fronts;
 mod laws;
 mod pins;

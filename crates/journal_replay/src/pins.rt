@@ -1,6 +1,6 @@
 //! The blocks that workers have pinned, at most one each.
 
-ghost use Rattle.std.specs.Prelude.{◌≡◌, ◌<◌};
+ghost use Rattle.std.specs.Prelude.{◌≡◌, ◌≤◌, ◌<◌, take};
 ghost use Rattle.std.specs.List.{list_any};
 ghost use Rattle.journal_replay.specs.Tables.{is_pin, pins_after};
 
@@ -25,6 +25,16 @@ pub(crate) fn is_pinned(pins: &Pins, dataset: u32, part: u32) -> bool
     ensures { result ≡ list_any (is_pin dataset part) pins.now }
 {
     pins.iter().any(|pin| is_pin(*pin, dataset, part))
+}
+
+/// Whether one of so many first workers has pinned the block.
+pub(crate) fn is_pinned_by_first(pins: &Pins, workers: usize, dataset: u32, part: u32) -> bool
+    requires { workers ≤ 16 }
+    ensures { result ≡ list_any (is_pin dataset part) (take workers pins.now) }
+{
+    pins[..workers]
+        .iter()
+        .any(|pin| is_pin(*pin, dataset, part))
 }
 
 /// Notes the pin that an event of this worker makes or takes back.

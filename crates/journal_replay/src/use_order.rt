@@ -4,7 +4,7 @@
 ghost use Rattle.std.specs.Prelude.{◌≡◌, ◌≤◌, ◌+◌, ◌<◌, ◌++◌, ◌∷◌, ℕ, [], false, None, IfOk, OnOk};
 ghost use Rattle.std.specs.List.{list_any};
 ghost use Rattle.std.specs.Option.{option_map_or};
-ghost use Rattle.pool_ledger.specs.Blocks.{is_block, only, residents_after, without};
+ghost use Rattle.pool_ledger.specs.Blocks.{is_block, only, residents_after, sizes, without};
 ghost use Rattle.journal_replay.specs.Tables.{IsFree};
 ghost use Rattle.journal_replay.specs.UseOrder.{block_by, is_start, resident_in, residents_in, AreKnown, AreStretches, IsInOrder};
 
@@ -67,6 +67,22 @@ pub(crate) fn note_order(order: &mut UseOrder, place: u64, event: Event) -> Resu
             copy: false,
         } => move_last(order, place, dataset, part),
         _ => Ok(()),
+    }
+}
+
+/// The bytes of the block; 0 where it isn't there.
+pub(crate) fn bytes_of_block(order: &UseOrder, dataset: u32, part: u32) -> u64
+    requires known { AreKnown order.now.placed order.now.places }
+    ensures { result ≡ sizes (only dataset part (residents_in order.now.placed.entries)) }
+{
+    // For the proof: no place stands twice.
+    let _count = order.placed.len();
+    let Some(place) = order.places.get(&BlockName { dataset, part }) else {
+        return 0;
+    };
+    match order.placed.get(place) {
+        Some(placed) => placed.kept.size,
+        None => 0,
     }
 }
 

@@ -6,7 +6,7 @@ ghost use Rattle.journal_audit.specs.Rules.{goes};
 ghost use Rattle.journal_replay.specs.Replays.{history_of, seen, IsReplay, TellsTurns};
 ghost use Rattle.journal_replay.specs.UseOrder.{HasRoom};
 
-use crate::before::bytes_at;
+use crate::evictable::evictable_bytes;
 use crate::fronts::{Freed, front_of, go_first};
 use crate::replay::Replay;
 use crate::turns::{Turns, ledger_keeps_laws, next_place};
@@ -25,8 +25,8 @@ pub(crate) fn freed_by(replay: &Replay, need: u64, except: Option<u32>) -> Freed
 {
     ledger_keeps_laws(&replay.turns.ledger);
     order_has_room(&replay.turns);
-    // Where all blocks of other datasets don't reach the need, none of them is looked at.
-    if bytes_beside(&replay.turns, except) < need {
+    // Where all that may go don't reach the need, none of them is looked at.
+    if evictable_bytes(&replay.turns, &replay.tables.pins, except) < need {
         return Freed { count: 0, bytes: 0 };
     }
     match front_of(
@@ -46,20 +46,6 @@ fn order_has_room(turns: &Turns)
     ensures { HasRoom turns.now.before.order.placed }
 {
     let _place = next_place(&turns.ledger);
-}
-
-// The bytes of the blocks before the evictions that wait, but for those of this dataset.
-fn bytes_beside(turns: &Turns, except: Option<u32>) -> u64
-    requires { TellsTurns turns.now (seen turns.now) }
-    ensures { sizes (evictable turns.now.ledger.history except) ≤ result }
-{
-    match except {
-        Some(dataset) => turns
-            .ledger
-            .stored()
-            .saturating_sub(bytes_at(&turns.before.bytes, dataset)),
-        None => turns.ledger.stored(),
-    }
 }
 
 /// Whether the evictions that wait are of so many blocks, the first of those before them that may go, in

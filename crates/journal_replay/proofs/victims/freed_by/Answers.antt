@@ -1,6 +1,10 @@
-use Rattle.std.proofs.Common.{◌≡◌, List, [], Option, ap, arith, length, sym, unwrap_or, ◌∙◌}
-use Rattle.pool_ledger.specs.Blocks.{Resident, evictable, sizes, victims}
+use Rattle.std.proofs.Common.{◌<◌, List, ap, arith, length, sym, ◌∙◌}
+use Rattle.std.specs.Option.{option_map}
+use Rattle.eviction.specs.declared.candidate.Candidate.{Candidate}
+use Rattle.eviction.specs.Victims.{evictable as evictable_in, sizes as bytes_in}
+use Rattle.pool_ledger.specs.Blocks.{Resident, sizes}
 use Rattle.pool_ledger.proofs.Fronts.{front_none}
+use Rattle.journal_replay.specs.Checks.{sum_of}
 use Rattle.journal_replay.specs.UseOrder.{candidates_of}
 use Rattle.journal_replay.proofs.Chosen.{all_stored, chosen_are, found_are, none_are}
 use Rattle.journal_replay.proofs.Lists.{listed_before}
@@ -16,12 +20,14 @@ front_of-requires-clause-small c =
       laws.range.maximum_small,
     )
 
-pub returns-then-bytes_beside-need : goal.returns-then-bytes_beside-need
-returns-then-bytes_beside-need c =
+pub returns-then-evictable_bytes-need : goal.returns-then-evictable_bytes-need
+returns-then-evictable_bytes-need c =
     let base = c.args.replay.now.turns.ledger.history in
-    let none : unwrap_or (victims base c.args.need c.args.except) [] ≡ [] =
-    ap (λ (o : Option (List Resident)). unwrap_or o [])
-    (front_none (λ (block : Resident). block.size) c.args.need (evictable base c.args.except) (omega (arith, c.bytes_beside.ensures, c.if-bytes_beside-need.true))) in
+    let list = candidates_of c.args.replay.now.tables.pins c.args.replay.now.turns.before.order.placed.entries in
+    let few : bytes_in (evictable_in c.args.except list) < c.args.need = omega (arith, c.evictable_bytes.ensures, c.if-evictable_bytes-need.true) in
+    let none =
+    none_are base list (listed_before c.args.replay.now c.requires.tells) c.args.except c.args.need c.requires.some_need
+    (sym (ap (option_map sum_of) (front_none (λ (block : Candidate). block.size) c.args.need (evictable_in c.args.except list) few))) in
     record {
       count = ap (λ (bs : List Resident). length bs) (sym none);
       bytes = ap sizes (sym none);
