@@ -1,0 +1,11 @@
+pub mod Examples
+pub mod Decimals
+pub mod ReadBack
+pub mod Growing
+pub mod Reading
+pub mod Numbers
+pub mod GoodInput
+pub mod Sums
+pub mod Tables
+pub mod Told
+pub mod WholeJob
