@@ -1,7 +1,7 @@
 -- What the workers of a pass did, the tasks of each over its partitions and then the final one.
 use Rattle.std.proofs.Common.{◌≡◌, ◌≢◌, ◌∙◌, ℕ, zero, suc, ◌+◌, ◌*◌, ◌<◌, ◌≤◌, ◌++◌, ◌%◌, Bool, false, List, [], Option, Some, None, get_or, length, set, sym, ap, subst, inl, inr, arith}
 use Rattle.std.specs.Prelude.{if◌then◌else◌}
-use Rattle.std.proofs.Math.Nat.{add-mul-mod_self_right, mod-eq_of_lt, mul-le-mul_right}
+use Rattle.std.proofs.Math.Nat.{add-mul-mod_self_right, mod-eq_of_lt, mod-lt, mul-le-mul_right}
 use Rattle.std.proofs.lemmas.Bool.{lt-ltb, le-ltb}
 use Rattle.std.proofs.lemmas.List.{get_or-set_same, get_or_default}
 use Rattle.pool_ledger.specs.Blocks.{worker_pin}
@@ -61,39 +61,45 @@ pub fresh_each : (owner : ℕ → Option ℕ) (workers limit task : ℕ) (olds :
 fresh_each owner workers limit task olds did most w any below = fresh_from owner w limit task (own_entries (get_or olds w any)) most (did w any below)
 
 -- workers between two tasks may do all tasks of a pass that are theirs
-pub may_do : (owner : ℕ → Option ℕ) (lock : LockId) (workers : ℕ) (pass : PassView) (olds : List PassState) → OwnsPass owner workers (parts_of pass) pass.first → AreBetween lock owner workers pass.first olds → MayDoAll owner workers pass olds
-may_do owner lock workers pass olds owns are = record {
-  free = are.free;
-  unpinned = are.unpinned;
-  owns = λ part inside. own_part owner workers (parts_of pass) pass.first part owns inside;
-  fresh = λ w part any below inside. fresh_each owner workers pass.first (task_for pass part) olds are.does (omega arith) w any below;
-}
+pub may_do : (owner : ℕ → Option ℕ) (lock : LockId) (workers : ℕ) (pass : PassView) (olds : List PassState) → OwnsPass owner workers (parts_of pass) pass.first → 0 < workers → AreBetween lock owner workers pass.first olds → MayDoAll lock owner pass olds
+may_do owner lock workers pass olds owns some are =
+    let size : length olds ≡ workers = are.workers_are.0 in
+    -- the worker of a partition
+    let its : (part : ℕ) → part % length olds < workers = λ part. let low : part % length olds < length olds = mod-lt part {m = length olds} (omega (arith, some, size)) in omega (arith, low, size) in
+    record {
+      locks = λ w any below. (are.workers_are.1 w any (omega (arith, below, size))).lock_is;
+      rests = λ w any below. (are.workers_are.1 w any (omega (arith, below, size))).free;
+      free = λ w any below. are.free w any (omega (arith, below, size));
+      unpinned = λ w any below. are.unpinned w any (omega (arith, below, size));
+      owns = λ part any inside. own_part owner workers (parts_of pass) pass.first part owns inside ∙ ap (λ (n : ℕ). Some (part % n)) (sym size)
+          ∙ ap Some (sym (are.workers_are.1 (part % length olds) any (its part)).number_is);
+      fresh = λ part any inside. fresh_each owner workers pass.first (task_for pass part) olds are.does (omega arith) (part % length olds) any (its part);
+    }
 
 -- ---- the partitions
 
 pub tasks_each : (owner : ℕ → Option ℕ) (lock : LockId) (workers partitions first : ℕ) (olds mids : List PassState) → 0 < workers → OwnsPass owner workers partitions first → AreWorkers lock workers olds → EachDoes owner workers first olds
-    → ((w : ℕ) (any : PassState) → w < workers → DoesSome first workers partitions (get_or olds w any) (get_or mids w any)) → EachDoes owner workers (first + partitions) mids
+    → ((w : ℕ) (any : PassState) → w < workers → DoesSome first workers w partitions (get_or olds w any) (get_or mids w any)) → EachDoes owner workers (first + partitions) mids
 tasks_each owner lock workers partitions first olds mids some owns are did more w any below =
     let old = get_or olds w any in
     let adds = more w any below in
     let number : old.number ≡ w = (are.1 w any below).number_is in
-    let within : (j : ℕ) → j < adds.count → part_at workers w j < partitions = λ j low. subst (λ (n : ℕ). part_at workers n j < partitions) number (adds.within j low) in
-    let tasks : AreTasks first workers w adds.count adds.does.0 = subst (λ (n : ℕ). AreTasks first workers n adds.count adds.does.0) number adds.does.1 in
+    let within = adds.within in
+    let tasks : AreTasks first workers w w adds.count adds.does.0 = subst (λ (n : ℕ). AreTasks first workers w n adds.count adds.does.0) number adds.does.1 in
     subst (DoesOwn owner w (first + partitions)) (sym adds.does.2)
     (does_tasks owner first workers w first (first + partitions) adds.count (own_entries old) adds.does.0 some (omega arith) (omega arith)
     (λ j low. let inside = within j low in omega (arith, inside))
     (λ j low. own_part owner workers partitions first (part_at workers w j) owns (within j low) ∙ ap Some (worker_of workers w j below)) tasks (did w any below))
 
 pub begun_each : (owner : ℕ → Option ℕ) (lock : LockId) (workers partitions first : ℕ) (olds mids : List PassState) → OwnsPass owner workers partitions first → AreWorkers lock workers olds → EachBegins owner workers first olds
-    → ((w : ℕ) (any : PassState) → w < workers → DoesAll first workers partitions (get_or olds w any) (get_or mids w any)) → EachBegins owner workers (first + partitions) mids
+    → ((w : ℕ) (any : PassState) → w < workers → DoesAll first workers w partitions (get_or olds w any) (get_or mids w any)) → EachBegins owner workers (first + partitions) mids
 begun_each owner lock workers partitions first olds mids owns are began more w any below =
     let old = get_or olds w any in
     let adds = more w any below in
     let number : old.number ≡ w = (are.1 w any below).number_is in
     subst (BeginsOwn owner w (first + partitions)) (sym adds.does.2)
     (begins_tasks owner first workers partitions w adds.count (own_entries old) adds.does.0 (λ part within. own_part owner workers partitions first part owns within)
-    (subst (λ (n : ℕ). IsCount workers n partitions adds.count) number adds.all)
-    (subst (λ (n : ℕ). AreTasks first workers n adds.count adds.does.0) number adds.does.1) (began w any below))
+    adds.all (subst (λ (n : ℕ). AreTasks first workers w n adds.count adds.does.0) number adds.does.1) (began w any below))
 
 -- ---- and the final one
 
@@ -133,9 +139,27 @@ begun_final owner lock workers partitions first mids news owns are began works o
 
 -- ---- a whole pass
 
+-- the workers of a manager that have seen more are its workers still
+pub still_workers : (lock : LockId) (workers : ℕ) (olds mids : List PassState) → AreWorkers lock workers olds → length mids ≡ length olds → EachSees workers olds mids
+    → ((w : ℕ) (any : PassState) → w < workers → (get_or mids w any).base ≡ None) → AreWorkers lock workers mids
+still_workers lock workers olds mids were same sees rests = (
+  same ∙ were.0,
+  λ w any below.
+      let was = were.1 w any below in
+      let more = sees w any below in
+      record {
+        lock_is = more.lock_is ∙ was.lock_is;
+        number_is = more.number_is ∙ was.number_is;
+        speaks_is = more.speaks_is ∙ was.speaks_is;
+        last = λ end. more.spare_is ∙ was.last end;
+        others = λ next. more.spare_is ∙ was.others next;
+        free = rests w any below;
+      },
+)
+
 -- the workers did their tasks, and not the final one
 pub between_tasks : (owner : ℕ → Option ℕ) (lock : LockId) (workers partitions first : ℕ) (olds mids : List PassState) → 0 < workers → OwnsPass owner workers partitions first → AreBetween lock owner workers first olds → AreWorkers lock workers mids
-    → ((w : ℕ) (any : PassState) → w < workers → DoesSome first workers partitions (get_or olds w any) (get_or mids w any)) → ((w : ℕ) (any : PassState) → w < workers → IsFree (get_or mids w any))
+    → ((w : ℕ) (any : PassState) → w < workers → DoesSome first workers w partitions (get_or olds w any) (get_or mids w any)) → ((w : ℕ) (any : PassState) → w < workers → IsFree (get_or mids w any))
     → ((w : ℕ) (any : PassState) → w < workers → KeepsPin (get_or olds w any) (get_or mids w any)) → AreBetween lock owner workers (first + partitions) mids
 between_tasks owner lock workers partitions first olds mids some owns old are more free pins = record {
   workers_are = are;
@@ -143,6 +167,18 @@ between_tasks owner lock workers partitions first olds mids some owns old are mo
   unpinned = λ w any below. pins w any below ∙ old.unpinned w any below;
   does = tasks_each owner lock workers partitions first olds mids some owns old.workers_are old.does more;
 }
+
+-- the same, of what is told of all workers that there are
+pub between_ran : (owner : ℕ → Option ℕ) (lock : LockId) (workers partitions first : ℕ) (olds mids : List PassState) → 0 < workers → OwnsPass owner workers partitions first → AreBetween lock owner workers first olds
+    → length mids ≡ length olds → ((w : ℕ) (any : PassState) → w < length olds → (get_or mids w any).base ≡ None) → ((w : ℕ) (any : PassState) → w < length olds → SeesMore (get_or olds w any) (get_or mids w any))
+    → ((w : ℕ) (any : PassState) → w < length olds → DoesSome first (length olds) w partitions (get_or olds w any) (get_or mids w any)) → ((w : ℕ) (any : PassState) → w < length olds → IsFree (get_or mids w any))
+    → ((w : ℕ) (any : PassState) → w < length olds → KeepsPin (get_or olds w any) (get_or mids w any)) → AreBetween lock owner workers (first + partitions) mids
+between_ran owner lock workers partitions first olds mids some owns old same rests sees more free pins =
+    let size : length olds ≡ workers = old.workers_are.0 in
+    between_tasks owner lock workers partitions first olds mids some owns old
+    (still_workers lock workers olds mids old.workers_are same (λ w any below. sees w any (omega (arith, below, size))) (λ w any below. rests w any (omega (arith, below, size))))
+    (λ w any below. subst (λ (n : ℕ). DoesSome first n w partitions (get_or olds w any) (get_or mids w any)) size (more w any (omega (arith, below, size))))
+    (λ w any below. free w any (omega (arith, below, size))) (λ w any below. pins w any (omega (arith, below, size)))
 
 pub between_more : (owner : ℕ → Option ℕ) (lock : LockId) (workers limit higher : ℕ) (states : List PassState) → limit ≤ higher → AreBetween lock owner workers limit states → AreBetween lock owner workers higher states
 between_more owner lock workers limit higher states most are = record {
@@ -173,7 +209,7 @@ between_passes owner lock workers partitions first mids news owns mid are may fr
 
 -- each worker began all tasks of the pass that are its own
 pub begun_pass : (owner : ℕ → Option ℕ) (lock : LockId) (workers partitions first : ℕ) (olds mids news : List PassState) → OwnsPass owner workers partitions first → AreWorkers lock workers olds → AreWorkers lock workers mids → EachBegins owner workers first olds
-    → ((w : ℕ) (any : PassState) → w < workers → DoesAll first workers partitions (get_or olds w any) (get_or mids w any)) → ((any : PassState) → Works (partitions + first) (get_or mids 0 any) (get_or news 0 any))
+    → ((w : ℕ) (any : PassState) → w < workers → DoesAll first workers w partitions (get_or olds w any) (get_or mids w any)) → ((any : PassState) → Works (partitions + first) (get_or mids 0 any) (get_or news 0 any))
     → ((w : ℕ) (any : PassState) → w ≢ 0 → get_or news w any ≡ get_or mids w any) → EachBegins owner workers (first + partitions + 1) news
 begun_pass owner lock workers partitions first olds mids news owns old mid began more works others =
     begun_final owner lock workers partitions first mids news owns mid (begun_each owner lock workers partitions first olds mids owns old began more) works others

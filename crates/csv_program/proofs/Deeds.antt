@@ -200,7 +200,7 @@ parts_rise workers w k some j below = let less : j * workers < k * workers = mul
 
 -- the first tasks of a pass more, above those that it did
 pub does_tasks : (owner : ℕ → Option ℕ) (first workers w limit bound k : ℕ) (entries added : List Entry) → 0 < workers → limit ≤ first → limit ≤ bound → ((j : ℕ) → j < k → part_at workers w j + first < bound)
-    → ((j : ℕ) → j < k → owner (part_at workers w j + first) ≡ Some w) → AreTasks first workers w k added → DoesOwn owner w limit entries → DoesOwn owner w bound (entries ++ added)
+    → ((j : ℕ) → j < k → owner (part_at workers w j + first) ≡ Some w) → AreTasks first workers w w k added → DoesOwn owner w limit entries → DoesOwn owner w bound (entries ++ added)
 unfolding AreTasks
 does_tasks owner first workers w limit bound zero entries added some low most within owns are did =
     subst (DoesOwn owner w bound) (sym (ap (λ (es : List Entry). entries ++ es) are ∙ append-nil entries)) (does_raise owner w limit bound entries most did)
@@ -222,7 +222,7 @@ begins_more t entries added =
     let split = total_append (begin_of t) entries added in
     omega (arith, began, all_began, split)
 
-tasks_begin : (first workers w k j : ℕ) (entries : List Entry) → AreTasks first workers w k entries → j < k → 1 ≤ total (begin_of (part_at workers w j + first)) entries
+tasks_begin : (first workers w k j : ℕ) (entries : List Entry) → AreTasks first workers w w k entries → j < k → 1 ≤ total (begin_of (part_at workers w j + first)) entries
 unfolding AreTasks
 tasks_begin first workers w zero j entries are below = absurd (omega (arith, below))
 tasks_begin first workers w (suc k) j entries are below =
@@ -241,7 +241,7 @@ tasks_begin first workers w (suc k) j entries are below =
 
 -- all tasks of a pass that are a worker's, but for the final one
 pub begins_tasks : (owner : ℕ → Option ℕ) (first workers partitions w count : ℕ) (entries added : List Entry) → ((part : ℕ) → part < partitions → owner (part + first) ≡ Some (part % workers))
-    → IsCount workers w partitions count → AreTasks first workers w count added → BeginsOwn owner w first entries → BeginsOwn owner w (first + partitions) (entries ++ added)
+    → IsCount workers w partitions count → AreTasks first workers w w count added → BeginsOwn owner w first entries → BeginsOwn owner w (first + partitions) (entries ++ added)
 begins_tasks owner first workers partitions w count entries added owns all are began task within mine =
     let more = begins_more task entries added in
     elim (cases_lt task first) [

@@ -27,7 +27,7 @@ use Rattle.csv_program.proofs.Deeds.{none_ascend}
 use Rattle.csv_program.proofs.Journals.{all_known, begun_least, ended_all, none_of, owned_all}
 
 -- a worker's own entries are those that the journal has of it
-whole_of : (lock : LockId) (workers : ℕ) (news : List PassState) (journal : List Entry) → AreWorkers lock workers news → HasAll news journal → (w : ℕ) (any : PassState) → w < workers → entries_of w journal ≡ own_entries (get_or news w any)
+pub whole_of : (lock : LockId) (workers : ℕ) (news : List PassState) (journal : List Entry) → AreWorkers lock workers news → HasAll news journal → (w : ℕ) (any : PassState) → w < workers → entries_of w journal ≡ own_entries (get_or news w any)
 whole_of lock workers news journal are whole w any below =
     (whole w any (omega (arith, below, are.0))).own w (0, omega arith, refl) ∙ ap (λ (n : ℕ). entries_of n (get_or news w any).seen) (sym (are.1 w any below).number_is)
 

@@ -23,6 +23,7 @@ pub mod FedByPasses
 pub mod Gathered
 pub mod Based
 pub mod CachedTasks
+mod ChargedPasses
 pub mod RemovedBlocks
 pub mod Leaving
 pub mod Passed

@@ -12,13 +12,14 @@ use Rattle.job_plan.specs.Plans.{IsPlanOf, dataset_names_in, datasets_of, passes
 use Rattle.job_plan.specs.declared.query_plan.Plan.{Plan}
 use Rattle.job_text.specs.declared.job.Job.{Job}
 use Rattle.landing.specs.Checks.{Checked, Refused}
-use Rattle.landing.specs.Headers.{IsPlanOver, checked_header}
+use Rattle.landing.specs.Headers.{IsOfHeader, IsPlanOver, checked_header}
 use Rattle.landing.specs.Landed.{IsOfInput}
 use Rattle.landing.specs.declared.fault.LandFault.{LandFault}
 use Rattle.landing.specs.declared.fault.LandFault.TheVariants as fault
 use Rattle.csv_program.specs.Endings.{status_of}
-use Rattle.csv_program.specs.PlanCalls.{IsUnread, MayPrint, PrintsPart, PrintsPlan, TellsRefusal, text_over}
+use Rattle.csv_program.specs.PlanCalls.{IsOfPlan, IsOfPrint, IsUnread, MayPrint, PrintsPart, PrintsPlan, TellsRefusal, text_over}
 use Rattle.csv_program.specs.declared.outcome.Status.{Status}
+use Rattle.csv_program.specs.declared.outcome.Status.TheVariants as status
 
 -- ---- the text
 
@@ -96,3 +97,41 @@ pub plan_refused : (job : Job) (left : Option (List ℕ)) (found : LandFault) (e
     → IfSome left (λ bytes. (why : LandFault) → checked_header job (rows_of bytes) ≡ Refused why → TellsRefusal why ended)
 plan_refused job None found ended tells calls never = tt
 plan_refused job (Some bytes) found ended tells calls never = λ why refused. refusal_told found ended why (checked_header job (rows_of bytes)) tells calls never refused
+
+-- ---- how the call of a job ends
+
+-- with the writing of its plan
+pub printing_ends : (ended : Status) → IsOfPrint ended → IsOfPlan ended
+printing_ends status.Done is = tt
+printing_ends status.WriteFault is = tt
+printing_ends status.NoMemory is = tt
+printing_ends status.BadWords is = is
+printing_ends (status.BadJob place) is = is
+printing_ends status.HeapTooSmall is = is
+printing_ends status.NoHeader is = tt
+printing_ends (status.NoColumn column) is = tt
+printing_ends (status.Ragged row) is = is
+printing_ends (status.RowTooLong row) is = absurd is
+printing_ends (status.BadNumber row column) is = is
+printing_ends status.TooManyRows is = is
+printing_ends (status.SumTooWide query key) is = is
+printing_ends (status.NoRoom asked held floor) is = is
+printing_ends status.ReadFault is = tt
+printing_ends status.JournalFault is = is
+printing_ends (status.DiskFault post) is = is
+printing_ends (status.Damaged post file kept found) is = is
+
+-- with what is told of the header
+told_header : (found : LandFault) → IsOfHeader found → IsOfPlan (status_of found)
+told_header fault.NoHeader is = tt
+told_header (fault.NoColumn column) is = tt
+told_header (fault.Ragged row) is = is
+told_header (fault.RowTooLong row) is = is
+told_header (fault.BadNumber row column) is = is
+told_header fault.TooManyRows is = is
+told_header fault.ReadFault is = tt
+told_header (fault.DiskFault disk) is = is
+told_header fault.NoMemory is = tt
+
+pub header_ends : (found : LandFault) (ended : Status) → ended ≡ status_of found → IsOfHeader found → IsOfPlan ended
+header_ends found ended tells is = subst IsOfPlan (sym tells) (told_header found is)

@@ -186,3 +186,10 @@ leaves_merged state files faults workers before mid after lists left kept size m
 pub on_ok_all : {T P : Type 0} (answer : Result T WorkFault) → P → OnOk answer P
 on_ok_all (Ok x) holds = holds
 on_ok_all (Err e) holds = tt
+
+-- a fault that is no damage is sound for any answer
+pub fault_sound : {T U : Type 0} (P : T → Type 0) (Q : U → Type 0) (fault : WorkFault) → IfSound P (Err fault) → IfSound Q (Err fault)
+fault_sound P Q (NoRoom asked held floor) is = _
+fault_sound P Q (DiskFault post) is = _
+fault_sound P Q (Damaged damage) is = is
+fault_sound P Q NoMemory is = _

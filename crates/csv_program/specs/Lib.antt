@@ -13,6 +13,7 @@ pub mod QueryResults
 pub mod Posts
 pub mod Feeds
 pub mod Cached
+pub mod Charges
 pub mod Complete
 pub mod Made
 pub mod QueryConsumers

@@ -17,7 +17,6 @@ use Rattle.landing.specs.declared.fault.LandFault.{LandFault}
 use Rattle.words.specs.Calls.{behind_first}
 use Rattle.words.specs.Programs.{plan_words}
 use Rattle.csv_program.specs.Endings.{status_of}
-use Rattle.csv_program.specs.Statuses.{IsJudged}
 use Rattle.csv_program.specs.declared.outcome.Status.{Status}
 use Rattle.csv_program.specs.declared.outcome.Status.TheVariants as status
 
@@ -47,11 +46,22 @@ ForPlan NoPlan P = ⊤
 ForPlan (NoText place) P = ⊤
 ForPlan (Plans job) P = P job
 
--- the status tells what the call is for, or want of memory; that of a job tells neither its words, its text nor a heap
+-- how the call of a job may end: with its plan, with what may be told of a header, which is row 0, or with a failed write
+abbrev pub IsOfPlan : Status → Type 0
+IsOfPlan status.Done = ⊤
+IsOfPlan status.NoHeader = ⊤
+IsOfPlan (status.NoColumn column) = ⊤
+IsOfPlan (status.RowTooLong row) = row ≡ 0
+IsOfPlan status.ReadFault = ⊤
+IsOfPlan status.WriteFault = ⊤
+IsOfPlan status.NoMemory = ⊤
+IsOfPlan _ = ⊥
+
+-- the status tells what the call is for, or want of memory; that of a job ends as its plan may
 abbrev pub TellsPlan : PlanCall → Status → Type 0
 TellsPlan NoPlan s = (s ≡ status.BadWords) ⊎ (s ≡ status.NoMemory)
 TellsPlan (NoText place) s = (s ≡ status.BadJob place) ⊎ (s ≡ status.NoMemory)
-TellsPlan (Plans job) s = IsJudged s
+TellsPlan (Plans job) s = IsOfPlan s
 
 -- why there is no job: what the call is for, or want of memory
 abbrev pub IsWhyNoPlan : PlanCall → Status → Type 0

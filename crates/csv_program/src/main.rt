@@ -29,6 +29,7 @@ use std::fmt::Display;
 use std::process::ExitCode;
 use std::rt::{Env, Files};
 use std::{env, io};
+use task_runner::NoGate;
 use top::run;
 use words::begins_with;
 
@@ -123,6 +124,7 @@ fn main(rt: HostRuntime) -> ExitCode {
         &mut journal,
         &mut posts,
         store,
+        &NoGate,
     )
     .status;
     end_with(&rt, status.number(), &status)

@@ -9,6 +9,7 @@ ghost use Rattle.pool_ledger.specs.Journal.{history_of};
 ghost use Rattle.pool_ledger.specs.Legal.{IsLegal};
 ghost use Rattle.task_runner.specs.Answers.{HasCauseAmong};
 ghost use Rattle.task_runner.specs.Blocks.{TellsTask};
+ghost use Rattle.task_runner.specs.Charging.{IsPartCharged};
 ghost use Rattle.task_runner.specs.Consumers.{HasConsumers, KeepsConsumers};
 ghost use Rattle.task_runner.specs.PartAnswers.{HoldsAll, SaysAll};
 ghost use Rattle.task_runner.specs.Pass.{FeedsParts, KeepsAll, states_at};
@@ -18,6 +19,7 @@ ghost use Rattle.task_runner.specs.Workers.{IfSound};
 ghost use Rattle.task_runner.specs.Works.{IfNoRoom, ShowsNoRoom};
 ghost use Rattle.turn_lock.specs.Passes.{PassState};
 ghost use Rattle.csv_program.specs.Cached.{EachTells, TellsPasses};
+ghost use Rattle.csv_program.specs.Charges.{EachCharges, ChargesPlan};
 ghost use Rattle.csv_program.specs.Doing.{AreBetween, EachBegins, EachSees, OwnsPass};
 ghost use Rattle.csv_program.specs.Feeds.{FeedsPlan};
 ghost use Rattle.csv_program.specs.Passing.{ArePut, HavePass, LeavesPosts};
@@ -39,7 +41,7 @@ use spill_disk::Disk;
 use std::alloc::{AllocError, Global};
 use std::sync::Wait;
 use std::thread::Threads;
-use task_runner::{Executor, Pass, Post, WorkFault, run_workers};
+use task_runner::{Executor, Gate, Pass, Post, WorkFault, run_workers};
 
 /// Does all tasks of a plan over landed partitions, in a pool of these sizes, pass by pass: those of the partitions,
 /// each worker in a thread of its own, and then the pass's final one on this thread, which merges the runs of each of
@@ -51,6 +53,7 @@ pub fn run_tasks<
     C: Consumer + Send,
     B: Basis + Send + Sync,
     R: Threads + Wait + Sync,
+    G: Gate + Sync,
 >(
     rt: &R,
     alloc: Global,
@@ -59,6 +62,7 @@ pub fn run_tasks<
     plan: &Plan,
     parts: &[Run],
     posts: &mut Vec<Post<D, C>>,
+    gate: &G,
 ) -> (Result<Vec<Option<Run>>, WorkFault>, Option<Journal>)
     requires basis { asked.now.pool ≡ B.sizes }
     requires owner { (task : ℕ)
@@ -105,6 +109,10 @@ pub fn run_tasks<
         FollowsPlan asked.now.pool.workers (length parts.now) (length (passes_in plan.now)) journal) }
     ensures all { OnOk result.0 (IfSome result.1 (λ journal.
         BeginsAll (length parts.now) (length (passes_in plan.now)) journal)) }
+    ensures charged { OnOk result.0 ((rows : ℕ → List (List (List ℕ))) →
+        HoldsParts (post_files D.files posts.old) B.rows plan.now parts.now asked.now.part_rows
+        asked.now.pool.workers rows → IfSome result.1 (λ journal.
+        ChargesPlan (states_at C.state posts.old.items) plan.now (length parts.now) rows asked.now.pool.workers journal)) }
     ensures told { OnOk result.0 (IfSome result.1 (λ journal. TellsPasses plan.now asked.now.pool.workers
         (length parts.now) (length (passes_in plan.now)) journal)) }
     ensures no_room { IfNoRoom result.0 (λ wanted held floor.
@@ -123,7 +131,15 @@ pub fn run_tasks<
         alloc,
         manager: &manager,
     };
-    let answers = run_passes(&executor, &mut workers, plan, parts, asked.part_rows, posts);
+    let answers = run_passes(
+        &executor,
+        &mut workers,
+        plan,
+        parts,
+        asked.part_rows,
+        posts,
+        gate,
+    );
     let (journal, _store) = manager.close(workers);
     (answers, Some(journal))
 }
@@ -135,6 +151,7 @@ fn run_passes<
     C: Consumer + Send,
     B: Basis + Send + Sync,
     R: Threads + Wait + Sync,
+    G: Gate + Sync,
 >(
     executor: &Executor<'_, R, K, B>,
     workers: &mut Vec<Worker<B>>,
@@ -142,6 +159,7 @@ fn run_passes<
     parts: &[Run],
     part_rows: u64,
     posts: &mut Vec<Post<D, C>>,
+    gate: &G,
 ) -> Result<Vec<Option<Run>>, WorkFault>
     requires workers { AreBetween executor.now.manager.now B.owner B.sizes.workers 0 workers.old.items }
     requires some { 1 ≤ B.sizes.workers }
@@ -178,6 +196,10 @@ fn run_passes<
         (length (passes_in plan.now) * (length parts.now + 1)) workers.new.items }
     ensures begun { OnOk result (EachBegins B.owner B.sizes.workers
         (length (passes_in plan.now) * (length parts.now + 1)) workers.new.items) }
+    ensures charged { OnOk result ((rows : ℕ → List (List (List ℕ))) →
+        HoldsParts (post_files D.files posts.old) B.rows plan.now parts.now part_rows B.sizes.workers rows →
+        EachCharges (states_at C.state posts.old.items) plan.now (length parts.now) rows B.sizes.workers
+        (length (passes_in plan.now)) workers.new.items) }
     ensures told { OnOk result (EachTells plan.now B.sizes.workers (length parts.now) (length (passes_in plan.now))
         workers.new.items) }
     ensures no_room { IfNoRoom result (λ asked held floor. (worker task : ℕ) × (worker < B.sizes.workers)
@@ -199,7 +221,7 @@ fn run_passes<
             part_rows,
             first: plan.task(parts.len() as u32, number, 0),
         };
-        match work(executor, workers, &pass, posts) {
+        match work(executor, workers, &pass, posts, gate) {
             Ok(found) => put_answers(&mut answers, queries, &found),
             Err(fault) => return Err(fault),
         }
@@ -240,11 +262,13 @@ fn work<
     C: Consumer + Send,
     B: Basis + Send + Sync,
     R: Threads + Wait + Sync,
+    G: Gate + Sync,
 >(
     executor: &Executor<'_, R, K, B>,
     workers: &mut Vec<Worker<B>>,
     pass: &Pass<'_>,
     posts: &mut Vec<Post<D, C>>,
+    gate: &G,
 ) -> Result<Vec<Option<Run>>, WorkFault>
     requires workers { AreBetween executor.now.manager.now B.owner B.sizes.workers pass.now.first workers.old.items }
     requires begun { EachBegins B.owner B.sizes.workers pass.now.first workers.old.items }
@@ -277,13 +301,17 @@ fn work<
     ensures begun { OnOk result (EachBegins B.owner B.sizes.workers
         (pass.now.first + parts_of pass.now + 1) workers.new.items) }
     ensures sees { EachSees B.sizes.workers workers.old.items workers.new.items }
+    ensures charged { OnOk result ((part : ℕ) (any : PassState) → part < parts_of pass.now
+        → IsPartCharged (states_at C.state posts.old.items (part % B.sizes.workers))
+        (post_files D.files posts.old (part % B.sizes.workers)) B.rows pass.now part
+        (own_of (slice_index_or workers.new.items (part % B.sizes.workers) any))) }
     ensures told { OnOk result ((part : ℕ) (any : PassState) → part < parts_of pass.now
         → TellsTask pass.now part (slice_index_or workers.new.items (part % B.sizes.workers) any)) }
     ensures no_room { IfNoRoom result (λ asked held floor. (worker task : ℕ) × (worker < B.sizes.workers)
         × ((any : PassState)
         → ShowsNoRoom B.sizes (own_of (slice_index_or workers.new.items worker any)) task asked held floor)) }
 {
-    let lists = match run_workers(executor, workers, pass, posts) {
+    let lists = match run_workers(executor, workers, pass, posts, gate) {
         Ok(lists) => lists,
         Err(fault) => return Err(fault),
     };

@@ -16,6 +16,7 @@ ghost use Rattle.csv_program.specs.Endings.{MayEndAs, ending_of_totals, printed_
 ghost use Rattle.csv_program.specs.Feeds.{FeedsPlan};
 ghost use Rattle.csv_program.specs.Basis.{StandAs};
 ghost use Rattle.csv_program.specs.Cached.{TellsPasses};
+ghost use Rattle.csv_program.specs.Charges.{ChargesPlan};
 ghost use Rattle.csv_program.specs.Posts.{post_faults, post_files};
 ghost use Rattle.csv_program.specs.QueryResults.{HasPasses, SaysParts};
 ghost use Rattle.csv_program.specs.Statuses.{IsCut, IsDamaged, IsDamagedOn, IsDiskFault, IsNoRoom, IsOfTasks, MakesPool, WritesNothing};
@@ -38,7 +39,7 @@ use spill_disk::Disk;
 use std::alloc::Global;
 use std::sync::Wait;
 use std::thread::Threads;
-use task_runner::{Post, WorkFault};
+use task_runner::{Gate, Post, WorkFault};
 
 /// Does the tasks of a plan over landed partitions, in the pool of what is asked for, checks the sums, writes the journal, if that
 /// is asked for, and prints the tables.
@@ -50,6 +51,7 @@ pub fn run_queries<
     W: Sink,
     B: Basis + Send + Sync,
     R: Threads + Wait + Sync,
+    G: Gate + Sync,
 >(
     rt: &R,
     alloc: Global,
@@ -60,6 +62,7 @@ pub fn run_queries<
     posts: &mut Vec<Post<D, C>>,
     journal: &mut J,
     output: &mut W,
+    gate: &G,
 ) -> Outcome
     requires basis { asked.now.pool ≡ B.sizes }
     requires owner { (task : ℕ) → B.owner task ≡ owner_of asked.now.pool.workers (length parts.now) (length (passes_in plan.now)) task }
@@ -110,6 +113,10 @@ pub fn run_queries<
     ensures tasks { FollowsPlan asked.now.pool.workers (length parts.now) (length (passes_in plan.now)) result.journal }
     ensures told { result.status ≡ Status.Done → TellsPasses plan.now asked.now.pool.workers (length parts.now)
         (length (passes_in plan.now)) result.journal }
+    ensures charged { result.status ≡ Status.Done → (rows : List (List (List ℕ))) →
+        StandAs B.rows (post_files D.files posts.old) asked.now plan.now parts.now rows →
+        ChargesPlan (states_at C.state posts.old.items) plan.now (length parts.now)
+        (λ part. partition_of asked.now.part_rows part rows) asked.now.pool.workers result.journal }
     ensures all { result.status ≡ Status.Done → BeginsAll (length parts.now) (length (passes_in plan.now)) result.journal }
 
     // The posts.
@@ -126,7 +133,9 @@ pub fn run_queries<
 {
     short_shapes_are_told();
     let pool = asked.pool;
-    let (told, entries) = run_tasks::<K, D, C, B, R>(rt, alloc, asked, store, plan, parts, posts);
+    let (told, entries) = run_tasks::<K, D, C, B, R, G>(
+        rt, alloc, asked, store, plan, parts, posts, gate,
+    );
     let Some(entries) = entries else {
         return unpooled(alloc, Status::NoMemory);
     };

@@ -1,6 +1,7 @@
 // Runs through the top call, against answers from outside.
 mod datasets;
 mod faults;
+mod gates;
 mod generated;
 mod journals;
 mod kept;

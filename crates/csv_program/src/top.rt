@@ -13,6 +13,7 @@ ghost use Rattle.pool_laws.specs.SafeJournal.{IsSafeJournal};
 ghost use Rattle.task_runner.specs.Consumers.{HasConsumers, KeepsConsumers};
 ghost use Rattle.task_runner.specs.Pass.{KeepsAll, states_at};
 ghost use Rattle.words.specs.Texts.{texts};
+ghost use Rattle.csv_program.specs.Charges.{ChargesRun};
 ghost use Rattle.csv_program.specs.Calls.{ForNoRun, ForRun, IsRun, TellsCall, call_of};
 ghost use Rattle.csv_program.specs.Complete.{FailsNothing, GrantsAll, HasTasks};
 ghost use Rattle.csv_program.specs.Endings.{MayEndAs, Prints, Refuses, checked_for, ending_of, partitions_of, printed_in, status_of};
@@ -37,7 +38,7 @@ use std::alloc::Global;
 use std::marker::Brand;
 use std::sync::Wait;
 use std::thread::Threads;
-use task_runner::Post;
+use task_runner::{Gate, Post};
 
 // The status that tells why an input couldn't be landed.
 pub(crate) fn land_status(fault: LandFault) -> Status
@@ -64,6 +65,7 @@ fn run_job<
     J: Sink,
     D: Disk + Send,
     C: Consumer + Send,
+    G: Gate + Sync,
 >(
     rt: &X,
     alloc: Global,
@@ -73,6 +75,7 @@ fn run_job<
     journal: &mut J,
     posts: &mut Vec<Post<D, C>>,
     store: D,
+    gate: &G,
 ) -> Outcome
     requires run { IsRun asked.now }
     requires posts { asked.now.pool.workers ≤ length posts.old.items }
@@ -119,6 +122,9 @@ fn run_job<
     ensures tasks { IfSome result.setup (λ setup. (partitions : ℕ)
         × HasTasks asked.now.pool.workers partitions asked.now.job result.status result.journal
         × IfSome (S.left input.old) (λ bytes. partitions ≡ partitions_of asked.now bytes)) }
+    ensures charged { result.status ≡ Status.Done → IfSome (S.left input.old) (λ bytes.
+        AllTell asked.now (post_files D.files posts.old) (D.files store) →
+        ChargesRun asked.now (checked_for asked.now bytes) (states_at C.state posts.old.items) result.journal) }
 
     // The posts.
     ensures fed { result.status ≡ Status.Done → IfSome (S.left input.old) (λ bytes.
@@ -135,7 +141,7 @@ fn run_job<
     plans_derive_rows();
     match land_on(alloc, asked, input, posts) {
         Ok(landed) => {
-            run_queries::<D, D, C, J, W, Brand, X>(
+            run_queries::<D, D, C, J, W, Brand, X, G>(
                 rt,
                 alloc,
                 asked,
@@ -145,6 +151,7 @@ fn run_job<
                 posts,
                 journal,
                 output,
+                gate,
             )
         }
         Err(fault) => unpooled(alloc, land_status(fault)),
@@ -177,6 +184,7 @@ pub fn run<
     J: Sink,
     D: Disk + Send,
     C: Consumer + Send,
+    G: Gate + Sync,
 >(
     rt: &X,
     alloc: Global,
@@ -186,6 +194,7 @@ pub fn run<
     journal: &mut J,
     posts: &mut Vec<Post<D, C>>,
     store_disk: D,
+    gate: &G,
 ) -> Outcome
     requires consumers { All (λ post. HasConsumers (map C.state post.consumers.items)) posts.old.items }
 
@@ -255,6 +264,10 @@ pub fn run<
         IfSome result.setup (λ setup. (partitions : ℕ)
         × HasTasks asked.pool.workers partitions asked.job result.status result.journal
         × IfSome (S.left input.old) (λ bytes. partitions ≡ partitions_of asked bytes))) }
+    ensures charged { result.status ≡ Status.Done →
+        ForRun (call_of (length posts.old.items) (texts words.now)) (λ asked.
+        IfSome (S.left input.old) (λ bytes. AllTell asked (post_files D.files posts.old) (D.files store_disk) →
+        ChargesRun asked (checked_for asked bytes) (states_at C.state posts.old.items) result.journal)) }
 
     // The posts' consumers.
     ensures fed { result.status ≡ Status.Done →
@@ -271,7 +284,9 @@ pub fn run<
 {
     legal_journals_are_safe();
     match read_call(alloc, posts.len(), words) {
-        Ok(asked) => run_job(rt, alloc, &asked, input, output, journal, posts, store_disk),
+        Ok(asked) => run_job(
+            rt, alloc, &asked, input, output, journal, posts, store_disk, gate,
+        ),
         Err(status) => unpooled(alloc, status),
     }
 }

@@ -9,7 +9,7 @@ ghost use Rattle.job_plan.specs.Columns.{Fields};
 ghost use Rattle.job_plan.specs.Plans.{IsPlanOf};
 ghost use Rattle.landing.specs.Checks.{Refused};
 ghost use Rattle.landing.specs.Explaining.{Explains, Never};
-ghost use Rattle.landing.specs.Headers.{IsPlanOver, checked_header};
+ghost use Rattle.landing.specs.Headers.{IsOfHeader, IsPlanOver, checked_header};
 ghost use Rattle.landing.specs.Landed.{IsOfInput};
 ghost use Rattle.landing.specs.declared.fault.LandFault.{LandFault};
 
@@ -34,6 +34,7 @@ fn plan_over<T: Tap, O: Origin>(
     ensures err { IfErr result (Explains
         (λ why. IfSome (rows_left records.old) (λ rows. checked_header job.now rows ≡ Refused why))
         (Rose O.faults (T.faults (source_under records.new))) Never) }
+    ensures of_header { IfErr result IsOfHeader }
 {
     let header = match records.next() {
         Ok(Some(header)) => header,
@@ -64,6 +65,7 @@ fn plan_from<T: Tap, O: Origin>(alloc: Global, source: T, job: &Job) -> (Result<
     ensures err { IfErr result.0 (Explains
         (λ why. IfSome (option_map rows_of (T.left source)) (λ rows. checked_header job.now rows ≡ Refused why))
         (Rose O.faults (T.faults result.1)) Never) }
+    ensures of_header { IfErr result.0 IsOfHeader }
 {
     let mut records = Records::<T, O>::new(alloc, source);
     let answer = plan_over(alloc, &mut records, job);
@@ -79,7 +81,7 @@ pub fn plan_input<S: Source>(alloc: Global, source: &mut S, job: &Job) -> Result
     ensures refused { (why : LandFault) → IsOfInput why → IsErrOf result why →
         IfSome (S.left source.old) (λ bytes. checked_header job.now (rows_of bytes) ≡ Refused why) }
     ensures read { IsErrOf result LandFault.ReadFault → Rose (S.faults source.old) (S.faults source.new) }
-    ensures disk { (disk : ℕ) → IsErrOf result (LandFault.DiskFault disk) → ⊥ }
+    ensures of_header { IfErr result IsOfHeader }
     ensures later { S.faults source.old ≤ S.faults source.new }
 {
     let (plan, _last) = plan_from::<&mut S, Brand>(alloc, source, job);

@@ -8,6 +8,7 @@ ghost use Rattle.job_plan.specs.Columns.{Fields};
 ghost use Rattle.job_plan.specs.Rows.{AreBytes};
 ghost use Rattle.landing.specs.Checks.{Refused, bad_place, checked, is_too_long};
 ghost use Rattle.landing.specs.Explaining.{Explains, Never};
+ghost use Rattle.landing.specs.Headers.{IsOfHeader};
 ghost use Rattle.landing.specs.Ruling.{AreRules, IsRuled, refusal_in, row_in};
 
 use crate::fault::LandFault;
@@ -43,6 +44,7 @@ pub(crate) fn rules_of(
     ensures err { IfErr result (Explains
         (λ why. (rows : List Fields) → checked job.now max_rows (fields_of header.now ∷ rows) ≡ Refused why)
         ⊥ Never) }
+    ensures of_header { IfErr result IsOfHeader }
 {
     if is_long(header) {
         return Err(LandFault::RowTooLong { row: 0 });

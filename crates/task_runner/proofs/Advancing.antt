@@ -17,6 +17,7 @@ use Rattle.task_runner.specs.Works.{MayWork}
 use Rattle.task_runner.specs.declared.work_fault.WorkFault.{WorkFault}
 use Rattle.task_runner.specs.declared.work_fault.WorkFault.TheVariants.{NoRoom, DiskFault, Damaged, NoMemory}
 use Rattle.task_runner.proofs.BegunTasks.{does_more, does_none, does_same, parts_rise}
+use Rattle.task_runner.proofs.ChargedTasks.{parts_more}
 use Rattle.task_runner.proofs.FedOn.{feeds_more, feeds_none, keeps_self, keeps_trans}
 use Rattle.task_runner.proofs.KeptRuns.{made_more, made_none, only_more, only_none, part_kept, tell_more, tell_none}
 use Rattle.task_runner.proofs.ToldBlocks.{task_later}
@@ -53,18 +54,19 @@ stays_trans a b c first then = record {
 
 -- ---- none yet, and one more
 
-pub first_none : (given : RowsByName) (pass : PassView) (workers : ℕ) (start : Scene) → IsFree start.worker → DoesFirst given pass workers start start 0 []
+pub first_none : (given : RowsByName) (pass : PassView) (workers place : ℕ) (start : Scene) → IsFree start.worker → DoesFirst given pass workers place start start 0 []
 unfolding rows_to
-first_none given pass workers start free = record {
+first_none given pass workers place start free = record {
   stays = stays_self start free;
   many = omega arith;
   within = λ k below. absurd (omega (arith, below));
-  tells = λ rows hold. tell_none start.files pass workers start.worker.number rows;
+  tells = λ rows hold. tell_none start.files pass workers place rows;
   made = made_none start.files;
   only = only_none start.files;
   fed = record { count = 0; feeds = feeds_none start.states pass.plan pass.queries; known = λ rows hold. refl };
-  works = does_none pass.first workers start.worker;
+  works = does_none pass.first workers place start.worker;
   told = λ k below. absurd (omega (arith, below));
+  charged = λ k below. absurd (omega (arith, below));
 }
 
 rows_more : (pass : PassView) (workers worker : ℕ) (rows : ℕ → List (List (List ℕ))) (k : ℕ)
@@ -78,16 +80,16 @@ within_more workers worker partitions n within last k below =
     let rise = parts_rise workers worker k n (omega (arith, below)) in
     omega (arith, rise, last)
 
-pub first_more : (given : RowsByName) (pass : PassView) (workers : ℕ) (start now after : Scene) (tasks : ℕ) (answers answers' found : List (Option Run)) → DoesFirst given pass workers start now tasks answers
-    → 1 ≤ queries_of pass → part_at workers start.worker.number tasks < parts_of pass
-    → DoesOne given pass (part_at workers start.worker.number tasks) now after found
-    → answers' ≡ answers ++ found → DoesFirst given pass workers start after (suc tasks) answers'
-first_more given pass workers start now after tasks answers answers' found first some below one is =
-    subst (DoesFirst given pass workers start after (suc tasks)) (sym is) (record {
+pub first_more : (given : RowsByName) (pass : PassView) (workers place : ℕ) (start now after : Scene) (tasks : ℕ) (answers answers' found : List (Option Run)) → DoesFirst given pass workers place start now tasks answers
+    → 1 ≤ queries_of pass → part_at workers place tasks < parts_of pass
+    → DoesOne given pass (part_at workers place tasks) now after found
+    → answers' ≡ answers ++ found → DoesFirst given pass workers place start after (suc tasks) answers'
+first_more given pass workers place start now after tasks answers answers' found first some below one is =
+    subst (DoesFirst given pass workers place start after (suc tasks)) (sym is) (record {
       stays = stays_trans start now after first.stays one.stays;
       many = let whole = length-append answers found in let was = first.many in let more = one.count in omega (arith, whole, was, more);
-      within = λ k within. within_more workers number (parts_of pass) tasks first.within below k within;
-      tells = λ rows hold. tell_more now.files after.files pass workers number tasks rows answers found some first.many one.count one.stays.disk.kept (first.tells rows hold) one.made
+      within = λ k within. within_more workers place (parts_of pass) tasks first.within below k within;
+      tells = λ rows hold. tell_more now.files after.files pass workers place tasks rows answers found some first.many one.count one.stays.disk.kept (first.tells rows hold) one.made
           (one.tells (rows part) (part_kept start.files now.files given pass part (rows part) first.stays.disk.kept (hold tasks below)));
       made = made_more start.files now.files answers found first.stays.disk.kept first.made one.made;
       only = only_more start.files now.files after.files answers found first.stays.disk.kept first.only one.only;
@@ -97,22 +99,20 @@ first_more given pass workers start now after tasks answers answers' found first
         known = λ rows hold.
             let before = first.fed.known rows hold in
             let last = one.fed.known (rows part) (part_kept start.files now.files given pass part (rows part) first.stays.disk.kept (hold tasks below)) in
-            omega (arith, before, last, rows_more pass workers number rows tasks);
+            omega (arith, before, last, rows_more pass workers place rows tasks);
       };
-      works = does_more pass.first workers tasks start.worker now.worker after.worker first.stays.sees.number_is first.works one.works;
+      works = does_more pass.first workers place tasks start.worker now.worker after.worker first.stays.sees.number_is first.works one.works;
       told = told_more first.told;
+      charged = parts_more start.states now.states start.files now.files given pass workers place tasks now.worker after.worker first.stays.consumers first.stays.disk.kept one.stays.sees first.charged one.charged;
     })
   where
-    number : ℕ
-    number = start.worker.number
-
     part : ℕ
-    part = part_at workers start.worker.number tasks
+    part = part_at workers place tasks
 
-    told_more : ((k : ℕ) → k < tasks → TellsTask pass (part_at workers number k) now.worker) → (k : ℕ) → k < suc tasks → TellsTask pass (part_at workers number k) after.worker
+    told_more : ((k : ℕ) → k < tasks → TellsTask pass (part_at workers place k) now.worker) → (k : ℕ) → k < suc tasks → TellsTask pass (part_at workers place k) after.worker
     told_more told k below = elim (less_or_not k tasks) [
-      | inl earlier ↦ task_later pass (part_at workers number k) now.worker after.worker one.stays.sees (told k earlier)
-      | inr last ↦ subst (λ (n : ℕ). TellsTask pass (part_at workers number n) after.worker) (omega (arith, below, last)) one.told
+      | inl earlier ↦ task_later pass (part_at workers place k) now.worker after.worker one.stays.sees (told k earlier)
+      | inr last ↦ subst (λ (n : ℕ). TellsTask pass (part_at workers place n) after.worker) (omega (arith, below, last)) one.told
     ]
 
 -- ---- the count of parts
@@ -132,28 +132,28 @@ part_next workers worker part next tasks tasks' more is after =
     after ∙ ap (λ (n : ℕ). min n (2 ^ 64 - 1)) (step ∙ ap (part_at workers worker) (sym more))
 
 -- all parts were counted
-pub counts_all : (given : RowsByName) (pass : PassView) (workers : ℕ) (start now : Scene) (tasks : ℕ) (answers : List (Option Run)) (part : ℕ) → DoesFirst given pass workers start now tasks answers → parts_of pass ≤ 10000000
-    → part ≡ min (part_at workers start.worker.number tasks) (2 ^ 64 - 1) → parts_of pass ≤ part → IsCount workers start.worker.number (parts_of pass) tasks
-counts_all given pass workers start now tasks answers part first few is over = record {
+pub counts_all : (given : RowsByName) (pass : PassView) (workers place : ℕ) (start now : Scene) (tasks : ℕ) (answers : List (Option Run)) (part : ℕ) → DoesFirst given pass workers place start now tasks answers → parts_of pass ≤ 10000000
+    → part ≡ min (part_at workers place tasks) (2 ^ 64 - 1) → parts_of pass ≤ part → IsCount workers place (parts_of pass) tasks
+counts_all given pass workers place start now tasks answers part first few is over = record {
   within = first.within;
   covers = λ k inside. elim (less_or_not k tasks) [
     | inl below ↦ below
-    | inr past ↦ let rise = parts_rise workers start.worker.number tasks k past in absurd (omega (arith, rise, inside, is, over, few))
+    | inr past ↦ let rise = parts_rise workers place tasks k past in absurd (omega (arith, rise, inside, is, over, few))
   ];
 }
 
 -- ---- a task that gave up
 
 -- tasks that were done, and perhaps one that gave up
-pub some_more : (given : RowsByName) (pass : PassView) (workers : ℕ) (start now : Scene) (after : PassState) (tasks : ℕ) (answers : List (Option Run)) → DoesFirst given pass workers start now tasks answers
-    → part_at workers start.worker.number tasks < parts_of pass → MayWork (task_for pass (part_at workers start.worker.number tasks)) now.worker after
-    → DoesSome pass.first workers (parts_of pass) start.worker after
-some_more given pass workers start now after tasks answers first below may = elim may [
-  | inl same ↦ record { count = tasks; within = first.within; does = does_same pass.first workers tasks start.worker now.worker after first.works same }
+pub some_more : (given : RowsByName) (pass : PassView) (workers place : ℕ) (start now : Scene) (after : PassState) (tasks : ℕ) (answers : List (Option Run)) → DoesFirst given pass workers place start now tasks answers
+    → part_at workers place tasks < parts_of pass → MayWork (task_for pass (part_at workers place tasks)) now.worker after
+    → DoesSome pass.first workers place (parts_of pass) start.worker after
+some_more given pass workers place start now after tasks answers first below may = elim may [
+  | inl same ↦ record { count = tasks; within = first.within; does = does_same pass.first workers place tasks start.worker now.worker after first.works same }
   | inr works ↦ record {
     count = suc tasks;
-    within = within_more workers start.worker.number (parts_of pass) tasks first.within below;
-    does = does_more pass.first workers tasks start.worker now.worker after first.stays.sees.number_is first.works works;
+    within = within_more workers place (parts_of pass) tasks first.within below;
+    does = does_more pass.first workers place tasks start.worker now.worker after first.stays.sees.number_is first.works works;
   }
 ]
 

@@ -7,8 +7,7 @@ use Rattle.pool_ledger.specs.Sizes.{Sizes}
 use Rattle.spill_disk.specs.Files.{Files}
 use Rattle.run_file.specs.declared.run.Run.{Run}
 use Rattle.memory_core.specs.Caches.{RowsByName}
-use Rattle.turn_lock.specs.Passes.{LockId, PassState}
-use Rattle.memory_lock.specs.Crew.{AreWorkers}
+use Rattle.turn_lock.specs.Passes.{PassState}
 use Rattle.memory_lock.specs.Workers.{IsFree, own_of}
 use Rattle.consumer_trait.specs.States.{State}
 use Rattle.worker_threads.specs.Places.{AtEachPlace, AtPlace}
@@ -29,7 +28,7 @@ use Rattle.task_runner.proofs.Idle.{leaves_same}
 pub reached_idle : {D C : Type 0} (state : C → State) (files : D → Option Files) (faults : D → ℕ) (workers : ℕ) (pass : PassView) (olds : List PassState) (posts : List (Post D C))
     → ((w : ℕ) (any : PassState) → w < workers → IsFree (get_or olds w any)) → Reached state files faults workers workers pass olds olds posts posts
 reached_idle state files faults workers pass olds posts free = record {
-  each = λ w any below. leaves_same state files faults workers pass (get_or olds w any) (slice_get posts w) (free w any below);
+  each = λ w any below. leaves_same state files faults workers w pass (get_or olds w any) (slice_get posts w) (free w any below);
   still = λ w any above. refl;
   others = λ place above. refl;
   count = refl;
@@ -78,7 +77,7 @@ module _ {D C : Type 0} (state : C → State) (files : D → Option Files) (faul
   reached_at_once = record {
     each = λ w any below.
         let at = here (Ran state files faults sizes count given pass) olds news posts posts' told ran w (omega (arith, below, size)) in
-        at_lists (λ before after post post'. Leaves state files faults count pass before after post post') olds news posts posts' w any
+        at_lists (λ before after post post'. Leaves state files faults count w pass before after post post') olds news posts posts' w any
         at.one at.one_after at.other at.other_after at.one_is at.one_left at.other_is at.other_left at.did.leaves;
     still = λ w any above.
         let same = ran.same_workers in
@@ -87,33 +86,20 @@ module _ {D C : Type 0} (state : C → State) (files : D → Option Files) (faul
     count = ran.same_posts;
   }
 
-  pub workers_at_once : (lock : LockId) → AreWorkers lock count olds → AreWorkers lock count news
-  workers_at_once lock were = (
-    ran.same_workers ∙ size,
-    λ number any below.
-        let at = here (Ran state files faults sizes count given pass) olds news posts posts' told ran number (omega (arith, below, size)) in
-        let was = were.1 number any below in
-        let old : get_or olds number any ≡ at.one = value_at olds number at.one any at.one_is in
-        let new : get_or news number any ≡ at.one_after = value_at news number at.one_after any at.one_left in
-        let sees = at.did.leaves.sees in
-        record {
-          lock_is = ap (λ (w : PassState). w.lock) new ∙ sees.lock_is ∙ ap (λ (w : PassState). w.lock) (sym old) ∙ was.lock_is;
-          number_is = ap (λ (w : PassState). w.number) new ∙ sees.number_is ∙ ap (λ (w : PassState). w.number) (sym old) ∙ was.number_is;
-          speaks_is = ap (λ (w : PassState). w.speaks) new ∙ sees.speaks_is ∙ ap (λ (w : PassState). w.speaks) (sym old) ∙ was.speaks_is;
-          last = λ end. ap (λ (w : PassState). w.spare) new ∙ sees.spare_is ∙ ap (λ (w : PassState). w.spare) (sym old) ∙ was.last end;
-          others = λ more. ap (λ (w : PassState). w.spare) new ∙ sees.spare_is ∙ ap (λ (w : PassState). w.spare) (sym old) ∙ was.others more;
-          free = ap (λ (w : PassState). w.base) new ∙ at.did.rests;
-        },
-  )
+  -- each rests
+  pub rests_at_once : (w : ℕ) (any : PassState) → w < count → (get_or news w any).base ≡ None
+  rests_at_once w any below =
+      let at = here (Ran state files faults sizes count given pass) olds news posts posts' told ran w (omega (arith, below, size)) in
+      ap (λ (s : PassState). s.base) (value_at news w at.one_after any at.one_left) ∙ at.did.rests
 
   -- ---- what they answered
 
   is_told : (k : ℕ) (one other : Result (Vec (Option Run)) WorkFault) → slice_get told k ≡ Some one → slice_get told k ≡ Some other → one ≡ other
   is_told k one other first second = let both : Some one ≡ Some other = sym first ∙ second in let same : one ≡ other = cc in same
 
-  finishes_of : (before after : PassState) (post post' : Option (Post D C)) (answer : Result (Vec (Option Run)) WorkFault) (answers : Vec (Option Run)) → answer ≡ Ok answers
-      → IfOk answer (λ answers. Finishes state files count given pass before after post post' answers.items) → Finishes state files count given pass before after post post' answers.items
-  finishes_of before after post post' answer answers is done = rw is at done
+  finishes_of : (place : ℕ) (before after : PassState) (post post' : Option (Post D C)) (answer : Result (Vec (Option Run)) WorkFault) (answers : Vec (Option Run)) → answer ≡ Ok answers
+      → IfOk answer (λ answers. Finishes state files count place given pass before after post post' answers.items) → Finishes state files count place given pass before after post post' answers.items
+  finishes_of place before after post post' answer answers is done = rw is at done
 
   pub finished_at_once : (all : List (List (Option Run))) → AreAnswers told all → Finished state files count count given pass olds news posts posts' all
   finished_at_once all are =
@@ -124,21 +110,21 @@ module _ {D C : Type 0} (state : C → State) (files : D → Option Files) (faul
         each = λ w any below.
             let at = here (Ran state files faults sizes count given pass) olds news posts posts' told ran w (omega (arith, below, size)) in
             let list = are.each w (omega (arith, below, size, answered)) in
-            let done = finishes_of at.one at.one_after (Some at.other) (Some at.other_after) at.told list.0 (is_told w at.told (Ok list.0) at.told_is list.1) at.did.finishes in
-            subst (λ (answers : List (Option Run)). Finishes state files count given pass (get_or olds w any) (get_or news w any) (slice_get posts w) (slice_get posts' w) answers) (sym list.2)
-            (at_lists (λ before after post post'. Finishes state files count given pass before after post post' (list.0).items) olds news posts posts' w any
+            let done = finishes_of w at.one at.one_after (Some at.other) (Some at.other_after) at.told list.0 (is_told w at.told (Ok list.0) at.told_is list.1) at.did.finishes in
+            subst (λ (answers : List (Option Run)). Finishes state files count w given pass (get_or olds w any) (get_or news w any) (slice_get posts w) (slice_get posts' w) answers) (sym list.2)
+            (at_lists (λ before after post post'. Finishes state files count w given pass before after post post' (list.0).items) olds news posts posts' w any
             at.one at.one_after at.other at.other_after at.one_is at.one_left at.other_is at.other_left done);
       }
 
   -- ---- a fault of one of them
 
-  pub sound_at_once : {T : Type 0} (lock : LockId) (result : Result T WorkFault) → AreWorkers lock count olds → GivesFirst told result → (rows : ℕ → List (List (List ℕ)))
+  pub sound_at_once : {T : Type 0} (result : Result T WorkFault) → GivesFirst told result → (rows : ℕ → List (List (List ℕ)))
       → ((w : ℕ) → w < count → HoldsOwn (files_of files (slice_get posts w)) given pass count w rows) → IfSound (λ _. ⊤) result
-  sound_at_once lock (Ok all) were tells rows holds = tt
-  sound_at_once lock (Err (NoRoom asked held floor)) were tells rows holds = tt
-  sound_at_once lock (Err (DiskFault post)) were tells rows holds = tt
-  sound_at_once lock (Err NoMemory) were tells rows holds = tt
-  sound_at_once lock (Err (Damaged damage)) were tells rows holds =
+  sound_at_once (Ok all) tells rows holds = tt
+  sound_at_once (Err (NoRoom asked held floor)) tells rows holds = tt
+  sound_at_once (Err (DiskFault post)) tells rows holds = tt
+  sound_at_once (Err NoMemory) tells rows holds = tt
+  sound_at_once (Err (Damaged damage)) tells rows holds =
       elim tells [
         | inl none ↦ let wrong : Damaged damage ≡ NoMemory = none in absurd cc
         | inr first ↦
@@ -146,12 +132,9 @@ module _ {D C : Type 0} (state : C → State) (files : D → Option Files) (faul
             let within = first.within in
             let at = here (Ran state files faults sizes count given pass) olds news posts posts' told ran first.place (omega (arith, within, answered)) in
             let is : at.told ≡ Err (Damaged damage) = is_told first.place at.told (Err (Damaged damage)) at.told_is first.is in
-            let number : at.one.number ≡ first.place =
-            ap (λ (w : PassState). w.number) (sym (value_at olds first.place at.one at.one at.one_is)) ∙ (were.1 first.place at.one (omega (arith, within, answered, size))).number_is in
             let own = holds first.place (omega (arith, within, answered, size)) in
             let there : HoldsOwn (files at.other.disk) given pass count first.place rows = subst (λ (o : Option (Post D C)). HoldsOwn (files_of files o) given pass count first.place rows) at.other_is own in
-            let mine : HoldsOwn (files at.other.disk) given pass count at.one.number rows = subst (λ (n : ℕ). HoldsOwn (files at.other.disk) given pass count n rows) (sym number) there in
-            let never : IfSound (λ _. ⊤) at.told = at.did.sound rows mine in
+            let never : IfSound (λ _. ⊤) at.told = at.did.sound rows there in
             rw is at never
       ]
 

@@ -11,10 +11,10 @@ use Rattle.task_runner.specs.PassViews.{PassView, parts_of}
 use Rattle.task_runner.specs.Workers.{DoesSome, IsCount}
 use Rattle.task_runner.specs.declared.post.Post.{Post}
 
-pub finishes_of : {D C : Type 0} (state : C → State) (files : D → Option Files) (faults : D → ℕ) (workers : ℕ) (given : RowsByName) (pass : PassView) (before after : PassState) (post post' : Post D C) (tasks : ℕ) (answers : List (Option Run))
-    → DoesFirst given pass workers (scene_of before (map state post.consumers.items) (files post.disk) (faults post.disk)) (scene_of after (map state post'.consumers.items) (files post'.disk) (faults post'.disk)) tasks answers
-    → IsCount workers before.number (parts_of pass) tasks → Finishes state files workers given pass before after (Some post) (Some post') answers
-finishes_of state files faults workers given pass before after post post' tasks answers first count = record {
+pub finishes_of : {D C : Type 0} (state : C → State) (files : D → Option Files) (faults : D → ℕ) (workers place : ℕ) (given : RowsByName) (pass : PassView) (before after : PassState) (post post' : Post D C) (tasks : ℕ) (answers : List (Option Run))
+    → DoesFirst given pass workers place (scene_of before (map state post.consumers.items) (files post.disk) (faults post.disk)) (scene_of after (map state post'.consumers.items) (files post'.disk) (faults post'.disk)) tasks answers
+    → IsCount workers place (parts_of pass) tasks → Finishes state files workers place given pass before after (Some post) (Some post') answers
+finishes_of state files faults workers place given pass before after post post' tasks answers first count = record {
   tasks = tasks;
   count = count;
   many = first.many;
@@ -24,12 +24,13 @@ finishes_of state files faults workers given pass before after post post' tasks 
   only = first.only;
   tells = first.tells;
   told = first.told;
+  charged = first.charged;
 }
 
-pub leaves_of : {D C : Type 0} (state : C → State) (files : D → Option Files) (faults : D → ℕ) (workers : ℕ) (pass : PassView) (before after : PassState) (post post' : Post D C)
+pub leaves_of : {D C : Type 0} (state : C → State) (files : D → Option Files) (faults : D → ℕ) (workers place : ℕ) (pass : PassView) (before after : PassState) (post post' : Post D C)
     → Stays (scene_of before (map state post.consumers.items) (files post.disk) (faults post.disk)) (scene_of after (map state post'.consumers.items) (files post'.disk) (faults post'.disk))
-    → DoesSome pass.first workers (parts_of pass) before after → Leaves state files faults workers pass before after (Some post) (Some post')
-leaves_of state files faults workers pass before after post post' stays does = record {
+    → DoesSome pass.first workers place (parts_of pass) before after → Leaves state files faults workers place pass before after (Some post) (Some post')
+leaves_of state files faults workers place pass before after post post' stays does = record {
   may_work = does;
   free = stays.free;
   pin = stays.pin;

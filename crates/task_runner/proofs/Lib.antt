@@ -35,4 +35,5 @@ mod TotalsOfLists
 mod AllLists
 mod FromRuns
 mod Leaving
-mod Charged
+pub mod Charged
+pub mod ChargedTasks

@@ -14,8 +14,7 @@ use Rattle.task_memory.specs.RunLists.{runs_at}
 use Rattle.task_memory.specs.Writing.{WasNotThere}
 use Rattle.task_memory.proofs.Places.{less_or_not}
 use Rattle.task_memory.proofs.Sameness.{same_at_self}
-use Rattle.turn_lock.specs.Passes.{LockId, PassState}
-use Rattle.memory_lock.specs.Crew.{AreWorkers}
+use Rattle.turn_lock.specs.Passes.{PassState}
 use Rattle.consumer_trait.specs.States.{State}
 use Rattle.task_runner.specs.AllWorkers.{Finished, Reached, answers_of, files_of, states_of}
 use Rattle.task_runner.specs.Consumers.{KeepsConsumers}
@@ -51,8 +50,8 @@ made_new before (Some run) made = made.fresh
 
 -- ---- the runs that all workers answered, a list for each query
 
-module _ {D C : Type 0} (state : C → State) (files : D → Option Files) (workers : ℕ) (given : RowsByName) (pass : PassView) (lock : LockId) (olds news : List PassState) (posts posts' : List (Post D C)) (all : List (List (Option Run))) (any : PassState)
-    (some : 1 ≤ workers) (are : AreWorkers lock workers olds) (done : Finished state files workers workers given pass olds news posts posts' all) where
+module _ {D C : Type 0} (state : C → State) (files : D → Option Files) (workers : ℕ) (given : RowsByName) (pass : PassView) (olds news : List PassState) (posts posts' : List (Post D C)) (all : List (List (Option Run))) (any : PassState)
+    (some : 1 ≤ workers) (done : Finished state files workers workers given pass olds news posts posts' all) where
   abbrev n : ℕ
   n = queries_of pass
 
@@ -67,9 +66,7 @@ module _ {D C : Type 0} (state : C → State) (files : D → Option Files) (work
   tasks_of w below = (done.each w any below).tasks
 
   counts_of : (w : ℕ) (below : w < workers) → IsCount workers w (parts_of pass) (tasks_of w below)
-  counts_of w below =
-      let number = (are.1 w any below).number_is in
-      subst (λ (m : ℕ). IsCount workers m (parts_of pass) (tasks_of w below)) number (done.each w any below).count
+  counts_of w below = (done.each w any below).count
 
   -- each partition has an answer to each query
   place_within : (part i : ℕ) → part < parts_of pass → i < n → answer_place n (part / workers) i < length (answers_of all (part % workers))
@@ -85,18 +82,12 @@ module _ {D C : Type 0} (state : C → State) (files : D → Option Files) (work
 
   -- each worker's answers tell what its rows come to
   tells_of : (rows : ℕ → List (List (List ℕ))) → HoldsAll before given pass workers rows → (w : ℕ) → w < workers → AnswerParts (after w) pass workers w rows (answers_of all w)
-  tells_of rows holds w below =
-      let number = (are.1 w any below).number_is in
-      let own = holds_of files given pass workers w rows posts below holds in
-      subst (λ (m : ℕ). AnswerParts (after w) pass workers m rows (answers_of all w)) number
-      ((done.each w any below).tells rows (subst (λ (m : ℕ). HoldsOwn (before w) given pass workers m rows) (sym number) own))
+  tells_of rows holds w below = (done.each w any below).tells rows (holds_of files given pass workers w rows posts below holds)
 
   -- each worker's consumers were fed the dataset's rows of all of its partitions
   pub feeds_parts : (w : ℕ) → w < workers → FeedsParts (states_of state (slice_get posts w)) (states_of state (slice_get posts' w)) (before w) given pass workers w
   feeds_parts w below =
-      let number = (are.1 w any below).number_is in
-      let one = done.each w any below in
-      let fed = subst (λ (m : ℕ). FeedsFirst (states_of state (slice_get posts w)) (states_of state (slice_get posts' w)) (before w) given pass workers m (tasks_of w below)) number one.feeds in
+      let fed = (done.each w any below).feeds in
       record {
         tasks = tasks_of w below;
         all = counts_of w below;

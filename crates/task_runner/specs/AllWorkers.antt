@@ -7,9 +7,10 @@ use Rattle.run_file.specs.declared.run.Run.{Run}
 use Rattle.memory_core.specs.Caches.{RowsByName}
 use Rattle.task_memory.specs.Disks.{LeavesDisk}
 use Rattle.turn_lock.specs.Passes.{PassState}
-use Rattle.memory_lock.specs.Workers.{IsFree, KeepsPin, SeesMore}
+use Rattle.memory_lock.specs.Workers.{IsFree, KeepsPin, SeesMore, own_of}
 use Rattle.consumer_trait.specs.States.{State}
 use Rattle.task_runner.specs.Blocks.{TellsTask}
+use Rattle.task_runner.specs.Charging.{IsPartCharged}
 use Rattle.task_runner.specs.Consumers.{KeepsConsumers}
 use Rattle.task_runner.specs.FedParts.{FeedsFirst}
 use Rattle.task_runner.specs.PartAnswers.{AnswerParts, HoldsOwn}
@@ -42,34 +43,35 @@ faults_of faults post = option_map_or faults (option_map (λ post. post.disk) po
 
 -- ---- one worker
 
--- what a worker leaves, whether it did all of its tasks or not
-pub record Leaves {D C : Type 0} (state : C → State) (files : D → Option Files) (faults : D → ℕ) (workers : ℕ) (pass : PassView) (before after : PassState) (post post' : Option (Post D C)) : Type 0 where
-  pub may_work : DoesSome pass.first workers (parts_of pass) before after
+-- what the worker at a place leaves, whether it did all of its tasks or not
+pub record Leaves {D C : Type 0} (state : C → State) (files : D → Option Files) (faults : D → ℕ) (workers place : ℕ) (pass : PassView) (before after : PassState) (post post' : Option (Post D C)) : Type 0 where
+  pub may_work : DoesSome pass.first workers place (parts_of pass) before after
   pub free : IsFree after
   pub pin : KeepsPin before after
   pub sees : SeesMore before after
   pub consumers : KeepsConsumers (states_of state post) (states_of state post')
   pub disk : LeavesDisk (files_of files post) (files_of files post') (faults_of faults post) (faults_of faults post')
 
--- a worker did all of its tasks, with these answers
-pub record Finishes {D C : Type 0} (state : C → State) (files : D → Option Files) (workers : ℕ) (given : RowsByName) (pass : PassView) (before after : PassState) (post post' : Option (Post D C)) (answers : List (Option Run)) : Type 0 where
+-- the worker at a place did all of its tasks, with these answers
+pub record Finishes {D C : Type 0} (state : C → State) (files : D → Option Files) (workers place : ℕ) (given : RowsByName) (pass : PassView) (before after : PassState) (post post' : Option (Post D C)) (answers : List (Option Run)) : Type 0 where
   pub tasks : ℕ
-  pub count : IsCount workers before.number (parts_of pass) tasks
+  pub count : IsCount workers place (parts_of pass) tasks
   pub many : length answers ≡ tasks * queries_of pass
-  pub feeds : FeedsFirst (states_of state post) (states_of state post') (files_of files post) given pass workers before.number tasks
-  pub does : DoesTasks pass.first workers tasks before after
-  pub told : (k : ℕ) → k < tasks → TellsTask pass (part_at workers before.number k) after
+  pub feeds : FeedsFirst (states_of state post) (states_of state post') (files_of files post) given pass workers place tasks
+  pub does : DoesTasks pass.first workers place tasks before after
+  pub told : (k : ℕ) → k < tasks → TellsTask pass (part_at workers place k) after
+  pub charged : (k : ℕ) → k < tasks → IsPartCharged (states_of state post) (files_of files post) given pass (part_at workers place k) (own_of after)
   pub made : AreMade (files_of files post) answers
   pub only : LeavesOnlyAnswers (files_of files post) (files_of files post') answers
-  pub tells : (rows : ℕ → List (List (List ℕ))) → HoldsOwn (files_of files post) given pass workers before.number rows
-      → AnswerParts (files_of files post') pass workers before.number rows answers
+  pub tells : (rows : ℕ → List (List (List ℕ))) → HoldsOwn (files_of files post) given pass workers place rows
+      → AnswerParts (files_of files post') pass workers place rows answers
 
 -- ---- all workers
 
--- the workers below `n` left their posts and entries; the others are as they were
+-- the workers at the places below `n` left their posts and entries; the others are as they were
 pub record Reached {D C : Type 0} (state : C → State) (files : D → Option Files) (faults : D → ℕ) (workers n : ℕ) (pass : PassView) (olds news : List PassState) (posts posts' : List (Post D C)) : Type 0 where
   pub each : (w : ℕ) (any : PassState) → w < n
-      → Leaves state files faults workers pass (slice_index_or olds w any) (slice_index_or news w any) (slice_get posts w) (slice_get posts' w)
+      → Leaves state files faults workers w pass (slice_index_or olds w any) (slice_index_or news w any) (slice_get posts w) (slice_get posts' w)
   pub still : (w : ℕ) (any : PassState) → n ≤ w → slice_index_or news w any ≡ slice_index_or olds w any
   pub others : (place : ℕ) → n ≤ place → slice_get posts' place ≡ slice_get posts place
   pub count : length posts' ≡ length posts
@@ -78,8 +80,8 @@ pub record Reached {D C : Type 0} (state : C → State) (files : D → Option Fi
 abbrev pub answers_of : List (List (Option Run)) → ℕ → List (Option Run)
 answers_of all worker = slice_index_or all worker []
 
--- the workers below `n` did all of their tasks, with these answers, a list for each worker
+-- the workers at the places below `n` did all of their tasks, with these answers, a list for each worker
 pub record Finished {D C : Type 0} (state : C → State) (files : D → Option Files) (workers n : ℕ) (given : RowsByName) (pass : PassView) (olds news : List PassState) (posts posts' : List (Post D C)) (all : List (List (Option Run))) : Type 0 where
   pub count : length all ≡ n
   pub each : (w : ℕ) (any : PassState) → w < n
-      → Finishes state files workers given pass (slice_index_or olds w any) (slice_index_or news w any) (slice_get posts w) (slice_get posts' w) (answers_of all w)
+      → Finishes state files workers w given pass (slice_index_or olds w any) (slice_index_or news w any) (slice_get posts w) (slice_get posts' w) (answers_of all w)

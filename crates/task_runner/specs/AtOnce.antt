@@ -28,24 +28,23 @@ use Rattle.task_runner.specs.declared.work_fault.WorkFault.TheVariants.{NoMemory
 -- them
 pub record MayRun {D C : Type 0} (state : C → State) (files : D → Option Files) (lock : LockId) (owner : ℕ → Option ℕ) (workers : ℕ) (given : RowsByName) (pass : PassView) (place : ℕ) (worker : PassState) (post : Post D C) : Type 0 where
   pub lock_is : worker.lock ≡ lock
-  pub number_is : worker.number ≡ place
   pub known : place < workers
   pub narrow : place < 2 ^ 32
   pub free : IsFree worker
   pub unpinned : HasNoPin worker
-  pub owns : (k : ℕ) → part_at workers worker.number k < parts_of pass
-      → owner (task_for pass (part_at workers worker.number k)) ≡ Some worker.number
-  pub fresh : (k : ℕ) → part_at workers worker.number k < parts_of pass
-      → was_begun (own_of worker) (task_for pass (part_at workers worker.number k)) ≡ false
+  pub owns : (k : ℕ) → part_at workers place k < parts_of pass
+      → owner (task_for pass (part_at workers place k)) ≡ Some worker.number
+  pub fresh : (k : ℕ) → part_at workers place k < parts_of pass
+      → was_begun (own_of worker) (task_for pass (part_at workers place k)) ≡ false
   pub consumers : HasConsumers (map state post.consumers.items)
-  pub says : SaysOwn (files post.disk) given pass workers worker.number
+  pub says : SaysOwn (files post.disk) given pass workers place
   pub pass_is : IsPass pass
 
 -- what the worker of this place leaves there, and what it answers
 pub record Ran {D C : Type 0} (state : C → State) (files : D → Option Files) (faults : D → ℕ) (sizes : Sizes) (workers : ℕ) (given : RowsByName) (pass : PassView) (place : ℕ) (before after : PassState) (post post' : Post D C) (answer : Result (Vec (Option Run)) WorkFault) : Type 0 where
-  pub finishes : IfOk answer (λ answers. Finishes state files workers given pass before after (Some post) (Some post') answers.items)
-  pub leaves : Leaves state files faults workers pass before after (Some post) (Some post')
-  pub sound : (rows : ℕ → List (List (List ℕ))) → HoldsOwn (files post.disk) given pass workers before.number rows → IfSound (λ _. ⊤) answer
+  pub finishes : IfOk answer (λ answers. Finishes state files workers place given pass before after (Some post) (Some post') answers.items)
+  pub leaves : Leaves state files faults workers place pass before after (Some post) (Some post')
+  pub sound : (rows : ℕ → List (List (List ℕ))) → HoldsOwn (files post.disk) given pass workers place rows → IfSound (λ _. ⊤) answer
   pub no_room : IfNoRoom answer (λ asked held floor. (task : ℕ) × ShowsNoRoom sizes (own_of after) task asked held floor)
   pub names : NamesPost place answer
   pub rests : after.base ≡ None
@@ -53,13 +52,20 @@ pub record Ran {D C : Type 0} (state : C → State) (files : D → Option Files)
 
 -- ---- all of them
 
--- the workers have no task and no pin, own those of their partitions, and began none of them
-pub record MayDoAll (owner : ℕ → Option ℕ) (count : ℕ) (pass : PassView) (workers : List PassState) : Type 0 where
-  pub free : (worker : ℕ) (any : PassState) → worker < count → IsFree (slice_index_or workers worker any)
-  pub unpinned : (worker : ℕ) (any : PassState) → worker < count → HasNoPin (slice_index_or workers worker any)
-  pub owns : (part : ℕ) → part < parts_of pass → owner (task_for pass part) ≡ Some (part % count)
-  pub fresh : (worker part : ℕ) (any : PassState) → worker < count → part < parts_of pass
-      → was_begun (own_of (slice_index_or workers worker any)) (task_for pass part) ≡ false
+-- the worker of a partition: of `n` workers the one at the place `part % n`
+abbrev pub worker_for : List PassState → ℕ → PassState → PassState
+worker_for workers part any = slice_index_or workers (part % length workers) any
+
+-- the workers are of this lock and rest, have no task and no pin, own those of their partitions, and began none of them
+pub record MayDoAll (lock : LockId) (owner : ℕ → Option ℕ) (pass : PassView) (workers : List PassState) : Type 0 where
+  pub locks : (place : ℕ) (any : PassState) → place < length workers → (slice_index_or workers place any).lock ≡ lock
+  pub rests : (place : ℕ) (any : PassState) → place < length workers → (slice_index_or workers place any).base ≡ None
+  pub free : (place : ℕ) (any : PassState) → place < length workers → IsFree (slice_index_or workers place any)
+  pub unpinned : (place : ℕ) (any : PassState) → place < length workers → HasNoPin (slice_index_or workers place any)
+  pub owns : (part : ℕ) (any : PassState) → part < parts_of pass
+      → owner (task_for pass part) ≡ Some (worker_for workers part any).number
+  pub fresh : (part : ℕ) (any : PassState) → part < parts_of pass
+      → was_begun (own_of (worker_for workers part any)) (task_for pass part) ≡ false
 
 -- the worker of each place may do its tasks there
 abbrev pub AllMayRun : {D C : Type 0} → (C → State) → (D → Option Files) → LockId → (ℕ → Option ℕ) → ℕ → RowsByName → PassView → List PassState → List (Post D C) → Type 0

@@ -7,6 +7,7 @@ pub mod Merging
 pub mod Consumers
 pub mod Parts
 pub mod Spilling
+pub mod Charging
 pub mod Workers
 pub mod Queries
 pub mod PartAnswers

@@ -5,12 +5,13 @@ use Rattle.spill_disk.specs.Files.{Files}
 use Rattle.run_file.specs.declared.run.Run.{Run}
 use Rattle.memory_core.specs.Caches.{RowsByName}
 use Rattle.turn_lock.specs.Passes.{PassState}
-use Rattle.memory_lock.specs.Workers.{IsFree, KeepsPin, SeesMore}
+use Rattle.memory_lock.specs.Workers.{IsFree, KeepsPin, SeesMore, own_of}
 use Rattle.consumer_trait.specs.States.{State}
 use Rattle.task_memory.specs.Disks.{LeavesDisk}
 use Rattle.task_runner.specs.Consumers.{KeepsConsumers}
 use Rattle.task_runner.specs.FedParts.{FeedsFirst, FeedsPart}
 use Rattle.task_runner.specs.Blocks.{TellsTask}
+use Rattle.task_runner.specs.Charging.{IsPartCharged}
 use Rattle.task_runner.specs.PartAnswers.{AnswerParts, HoldsOwn, HoldsPart}
 use Rattle.task_runner.specs.PassViews.{PassView, parts_of, queries_of, rows_over, task_for}
 use Rattle.task_runner.specs.Queries.{HaveAnswers, made_in}
@@ -47,21 +48,23 @@ pub record DoesOne (given : RowsByName) (pass : PassView) (part : ℕ) (before a
   pub fed : FeedsPart before.states after.states before.files given pass part
   pub works : Works (task_for pass part) before.worker after.worker
   pub told : TellsTask pass part after.worker
+  pub charged : IsPartCharged before.states before.files given pass part (own_of after.worker)
 
 -- one task was done, and its answers stand behind the others
 abbrev pub AddsOne : RowsByName → PassView → ℕ → Scene → Scene → List (Option Run) → List (Option Run) → Type 0
 AddsOne given pass part before after answers answers' =
     (found : List (Option Run)) × DoesOne given pass part before after found × (answers' ≡ answers ++ found)
 
--- so many tasks were done, with these answers
-pub record DoesFirst (given : RowsByName) (pass : PassView) (workers : ℕ) (start now : Scene) (tasks : ℕ) (answers : List (Option Run)) : Type 0 where
+-- the worker at a place did so many tasks, with these answers
+pub record DoesFirst (given : RowsByName) (pass : PassView) (workers place : ℕ) (start now : Scene) (tasks : ℕ) (answers : List (Option Run)) : Type 0 where
   pub stays : Stays start now
   pub many : length answers ≡ tasks * queries_of pass
-  pub within : (k : ℕ) → k < tasks → part_at workers start.worker.number k < parts_of pass
-  pub tells : (rows : ℕ → List (List (List ℕ))) → HoldsOwn start.files given pass workers start.worker.number rows
-      → AnswerParts now.files pass workers start.worker.number rows answers
+  pub within : (k : ℕ) → k < tasks → part_at workers place k < parts_of pass
+  pub tells : (rows : ℕ → List (List (List ℕ))) → HoldsOwn start.files given pass workers place rows
+      → AnswerParts now.files pass workers place rows answers
   pub made : AreMade start.files answers
   pub only : LeavesOnlyAnswers start.files now.files answers
-  pub fed : FeedsFirst start.states now.states start.files given pass workers start.worker.number tasks
-  pub works : DoesTasks pass.first workers tasks start.worker now.worker
-  pub told : (k : ℕ) → k < tasks → TellsTask pass (part_at workers start.worker.number k) now.worker
+  pub fed : FeedsFirst start.states now.states start.files given pass workers place tasks
+  pub works : DoesTasks pass.first workers place tasks start.worker now.worker
+  pub told : (k : ℕ) → k < tasks → TellsTask pass (part_at workers place k) now.worker
+  pub charged : (k : ℕ) → k < tasks → IsPartCharged start.states start.files given pass (part_at workers place k) (own_of now.worker)

@@ -5,6 +5,7 @@ ghost use Rattle.worker_threads.specs.Places.{AtEachPlace};
 ghost use Rattle.task_runner.specs.AtOnce.{AllMayRun, MayRun, Ran};
 ghost use Rattle.task_runner.specs.PassViews.{pass_with};
 
+use crate::gate::Gate;
 use crate::one_worker::run_as;
 use crate::pass::Pass;
 use crate::post::Post;
@@ -26,6 +27,7 @@ pub(crate) fn run_at_once<
     C: Consumer + Send,
     B: Basis + Send + Sync,
     R: Threads + Wait + Sync,
+    G: Gate + Sync,
 >(
     executor: &Executor<'_, R, K, B>,
     count: usize,
@@ -33,6 +35,7 @@ pub(crate) fn run_at_once<
     pass: &Pass<'_>,
     posts: &mut Vec<Post<D, C>>,
     answers: &mut Vec<Result<Vec<Option<Run>>, WorkFault>>,
+    gate: &G,
 )
     requires may { AllMayRun C.state D.files executor.now.manager.now B.owner count B.rows pass.now workers.old.items
         posts.old.items }
@@ -61,7 +64,7 @@ pub(crate) fn run_at_once<
             part_rows,
             first,
         };
-        run_as(executor, worker, &pass, count, post, place as u32)
+        run_as(executor, worker, &pass, count, post, place as u32, gate)
     };
     each_place(
         executor.rt,

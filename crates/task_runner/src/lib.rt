@@ -8,6 +8,7 @@ mod at_once;
 mod each_worker;
 mod feeding;
 mod final_task;
+mod gate;
 mod gathering;
 mod making;
 mod merged;
@@ -24,6 +25,7 @@ mod workers;
 
 pub use aside::{swap_consumers, take_consumers};
 pub use final_task::run_final;
+pub use gate::{Gate, NoGate, Place};
 pub use lineage::Executor;
 pub use pass::Pass;
 pub use post::Post;

@@ -10,13 +10,15 @@ ghost use Rattle.task_pool.specs.Pools.{Goes, IsAtWork};
 ghost use Rattle.task_memory.specs.RunLists.{AreBounded, IsBounded, lists_of, runs_at};
 ghost use Rattle.job_plan.specs.Plans.{form_in};
 ghost use Rattle.task_runner.specs.Answers.{HasCauseAmong};
+ghost use Rattle.task_runner.specs.Charging.{leasts_in};
 ghost use Rattle.task_runner.specs.Consumers.{HasConsumers, KeepsConsumers};
 ghost use Rattle.task_runner.specs.Parts.{AnswersTotal};
 ghost use Rattle.task_runner.specs.Queries.{AreQueries, FeedsAll, AnswerTotals, made_in};
-ghost use Rattle.task_runner.specs.Spilling.{AreShort, HaveTotal, LeavesRuns};
+ghost use Rattle.task_runner.specs.Spilling.{AreAllCharged, AreShort, HaveTotal, LeavesRuns};
 ghost use Rattle.task_runner.specs.Workers.{AreMade, LeavesOnlyAnswers};
 ghost use Rattle.task_runner.specs.Works.{IfNoRoom, IsRefused};
 
+use crate::gate::{Arrival, Gate};
 use crate::merging::merge_runs;
 use crate::post::Post;
 use crate::spilling::spill_rows;
@@ -32,13 +34,13 @@ use std::mem;
 use task_pool::{Pool, pools_go_on};
 
 // Makes one run for each query of what its entries of a page's rows come to, on the post's disk.
-pub(crate) fn make_runs<C: Consumer, P: Pool, D: Disk>(
-    alloc: Global,
+pub(crate) fn make_runs<C: Consumer, P: Pool, D: Disk, G: Gate>(
     pool: &mut P,
     plan: &Plan,
     queries: &[u32],
     page: &Page,
     post: &mut Post<D, C>,
+    arrival: &Arrival<'_, G>,
 ) -> Result<Vec<Option<Run>>, WorkFault>
     requires at_work { IsAtWork (P.state pool.old) }
     requires nothing { (P.state pool.old).account.held ≡ 0 }
@@ -53,6 +55,9 @@ pub(crate) fn make_runs<C: Consumer, P: Pool, D: Disk>(
         answers.items) }
     ensures fed { OnOk result (FeedsAll (map C.state post.old.consumers.items) (map C.state post.new.consumers.items)
         plan.now queries.now (λ _. length page.now.rows)) }
+    ensures charged { OnOk result (AreAllCharged
+        (leasts_in (map C.state post.old.consumers.items) plan.now queries.now)
+        (P.state pool.new).account.peak queries.now (made_in plan.now queries.now page.now.rows)) }
     ensures keeps { KeepsConsumers (map C.state post.old.consumers.items) (map C.state post.new.consumers.items) }
     ensures refused { IfNoRoom result (λ asked held floor. IsRefused (P.state pool.new).account asked floor) }
     ensures goes { Goes (P.state pool.old) (P.state pool.new) }
@@ -63,15 +68,15 @@ pub(crate) fn make_runs<C: Consumer, P: Pool, D: Disk>(
     // For the proof: no call is a way to go on, and so are two calls.
     pools_go_on();
     match spill_rows(
-        alloc,
         pool,
         plan,
         queries,
         page,
         &mut post.consumers,
         &mut post.disk,
+        arrival,
     ) {
-        Ok(lists) => merge_lists(alloc, pool, plan, queries, post, lists),
+        Ok(lists) => merge_lists(arrival.alloc, pool, plan, queries, post, lists),
         Err(fault) => Err(fault),
     }
 }

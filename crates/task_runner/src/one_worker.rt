@@ -4,6 +4,7 @@ ghost use Rattle.std.specs.Prelude.{◌≡◌};
 ghost use Rattle.task_runner.specs.AllWorkers.{named_as};
 ghost use Rattle.task_runner.specs.AtOnce.{MayRun, Ran};
 
+use crate::gate::Gate;
 use crate::pass::Pass;
 use crate::post::Post;
 use crate::work_fault::WorkFault;
@@ -17,20 +18,21 @@ use std::sync::Wait;
 
 /// Does all tasks of the worker of this place, of so many, at its post. A fault of the disk names the place.
 #[tactic(auto, using(crate::proofs::OtherFaults::names_post))]
-pub(crate) fn run_as<K: Disk, D: Disk, C: Consumer, B: Basis, R: Wait>(
+pub(crate) fn run_as<K: Disk, D: Disk, C: Consumer, B: Basis, R: Wait, G: Gate>(
     executor: &Executor<'_, R, K, B>,
     worker: &mut Worker<B>,
     pass: &Pass<'_>,
     workers: usize,
     post: &mut Post<D, C>,
     place: u32,
+    gate: &G,
 ) -> Result<Vec<Option<Run>>, WorkFault>
     requires may { MayRun C.state D.files executor.now.manager.now B.owner workers B.rows pass.now place
         worker.old post.old }
     ensures ran { Ran C.state D.files D.faults B.sizes workers B.rows pass.now place worker.old worker.new
         post.old post.new result }
 {
-    let answer = run_worker(executor, worker, pass, workers, post);
+    let answer = run_worker(executor, worker, pass, workers, place as usize, post, gate);
     // For the proof: that the worker rests is known with its number.
     let _number = worker.number();
     match answer {

@@ -11,6 +11,7 @@ ghost use Rattle.memory_lock.specs.Workers.{HasNoPin};
 ghost use Rattle.task_memory.specs.Disks.{LeavesDisk};
 ghost use Rattle.task_runner.specs.Answers.{HasCauseAmong};
 ghost use Rattle.task_runner.specs.Blocks.{TellsTask};
+ghost use Rattle.task_runner.specs.Charging.{IsChargedFor, IsPartCharged};
 ghost use Rattle.task_runner.specs.Consumers.{HasConsumers, KeepsConsumers};
 ghost use Rattle.task_runner.specs.FedParts.{FeedsPart};
 ghost use Rattle.task_runner.specs.PartAnswers.{HoldsPart, SaysPart};
@@ -20,6 +21,7 @@ ghost use Rattle.task_runner.specs.Workers.{AreMade, LeavesOnlyAnswers};
 ghost use Rattle.task_runner.specs.Works.{GoesOn, IfNoRoom, IsRefused, MayWork, ShowsNoRoom, Works};
 
 use crate::final_task::told;
+use crate::gate::{Arrival, Gate};
 use crate::making::make_runs;
 use crate::pass::Pass;
 use crate::post::Post;
@@ -37,13 +39,15 @@ use task_account::Account;
 /// query's consumer, in theirs, and makes one run for each query of what its entries come to. `None` comes where there is no such row.
 /// The rows are given back, and the task is ended, after an `Err` too. The runs and the faults name the disk 0, which is the post's.
 ///
-/// The query at place `i` of the pass uses the consumer `i` where it groups, and `8 + i` where it orders.
-pub fn run_task<K: Disk, D: Disk, C: Consumer, B: Basis, R: Wait>(
+/// The query at place `i` of the pass uses the consumer `i` where it groups, and `8 + i` where it orders. The gate is told before and
+/// behind the start of the task's memory, which gets the leasts of these consumers.
+pub fn run_task<K: Disk, D: Disk, C: Consumer, B: Basis, R: Wait, G: Gate>(
     executor: &Executor<'_, R, K, B>,
     worker: &mut Worker<B>,
     pass: &Pass<'_>,
     part: u32,
     post: &mut Post<D, C>,
+    gate: &G,
 ) -> Result<Vec<Option<Run>>, WorkFault>
     requires manager { worker.old.lock ≡ executor.now.manager.now }
     requires pass { IsPass pass.now }
@@ -70,6 +74,8 @@ pub fn run_task<K: Disk, D: Disk, C: Consumer, B: Basis, R: Wait>(
     // The task in the worker's own entries.
     ensures works { OnOk result (Works (task_for pass.now part) worker.old worker.new) }
     ensures told { OnOk result (TellsTask pass.now part worker.new) }
+    ensures charged { OnOk result (IsPartCharged (map C.state post.old.consumers.items) (D.files post.old.disk)
+        B.rows pass.now part (own_of worker.new)) }
     ensures may_work { MayWork (task_for pass.now part) worker.old worker.new }
     ensures no_room { IfNoRoom result (λ asked held floor. ShowsNoRoom B.sizes
         (own_of worker.new) (task_for pass.now part) asked held floor) }
@@ -86,7 +92,13 @@ pub fn run_task<K: Disk, D: Disk, C: Consumer, B: Basis, R: Wait>(
     let Ok(task) = executor.manager.begin(executor.rt, worker, number) else {
         return Err(WorkFault::NoMemory);
     };
-    let (task, answer) = serve_rows(executor, worker, task, pass, part, post);
+    let arrival = Arrival {
+        alloc: executor.alloc,
+        gate,
+        worker: worker.number(),
+        task: number,
+    };
+    let (task, answer) = serve_rows(executor, worker, task, pass, part, post, &arrival);
     let freed = executor.manager.end(executor.rt, worker, task);
     // What the task held when it was refused is known from its end.
     told(answer, freed)
@@ -94,13 +106,14 @@ pub fn run_task<K: Disk, D: Disk, C: Consumer, B: Basis, R: Wait>(
 
 // What a task does between its begin and its end: has the dataset's rows in the partition, makes one run for each query of what its
 // entries of them come to, and gives the rows back.
-fn serve_rows<K: Disk, D: Disk, C: Consumer, B: Basis, R: Wait>(
+fn serve_rows<K: Disk, D: Disk, C: Consumer, B: Basis, R: Wait, G: Gate>(
     executor: &Executor<'_, R, K, B>,
     worker: &mut Worker<B>,
     task: Task,
     pass: &Pass<'_>,
     part: u32,
     post: &mut Post<D, C>,
+    arrival: &Arrival<'_, G>,
 ) -> (Task, Result<Vec<Option<Run>>, WorkFault>)
     requires manager { worker.old.lock ≡ executor.now.manager.now }
     requires its_task { IsOpen worker.old task }
@@ -119,6 +132,8 @@ fn serve_rows<K: Disk, D: Disk, C: Consumer, B: Basis, R: Wait>(
         answers.items) }
     ensures fed { OnOk result.1 (FeedsPart (map C.state post.old.consumers.items) (map C.state post.new.consumers.items)
         (D.files post.old.disk) B.rows pass.now part) }
+    ensures charged { OnOk result.1 ((rows : List (List (List ℕ))) → HoldsPart (D.files post.old.disk) B.rows pass.now part rows
+        → IsChargedFor (map C.state post.old.consumers.items) pass.now (rows_over pass.now rows) task (own_of worker.new)) }
     ensures keeps { KeepsConsumers (map C.state post.old.consumers.items) (map C.state post.new.consumers.items) }
     ensures disk { LeavesDisk (D.files post.old.disk) (D.files post.new.disk) (D.faults post.old.disk)
         (D.faults post.new.disk) }
@@ -140,12 +155,12 @@ fn serve_rows<K: Disk, D: Disk, C: Consumer, B: Basis, R: Wait>(
     };
     let mut account = Account::of(executor.rt, executor.manager, worker, task);
     let answer = make_runs(
-        executor.alloc,
         &mut account,
         pass.plan,
         pass.queries,
         rows.page(),
         post,
+        arrival,
     );
     let task = account.into_task();
     rows_done(executor, worker, rows);

@@ -14,7 +14,7 @@ use std::alloc::{AllocError, Global};
 use std::sync::Wait;
 use std::test::Fail;
 use std::thread::Threads;
-use task_runner::Post;
+use task_runner::{NoGate, Post};
 
 const ORDERS: &[u8] =
     b"order_id,region,amount\r\n1001,North,250\r\n1002,South,-40\r\n1003,North,75\r\n1004,\"East, upper\",75\r\n";
@@ -207,7 +207,8 @@ fn a_pool_that_is_too_small_is_told(rt: HostRuntime) -> Result<(), Fail> {
     Ok(())
 }
 
-// Each of the first calls of the store disk fails in turn, and then each of many: the tables are the same.
+// Each call of the store disk fails in turn, and then all: the tables are the same. A block that is written takes a call that makes
+// its file and one that adds its bytes, and its removal one more.
 #[test]
 fn a_failing_store_disk_changes_no_table(rt: HostRuntime) -> Result<(), Fail> {
     let alloc = rt.alloc();
@@ -217,8 +218,12 @@ fn a_failing_store_disk_changes_no_table(rt: HostRuntime) -> Result<(), Fail> {
     assert_eq!(rt; wanted.outcome.status.number(), 0);
     let seen = blocks_in(wanted.outcome.journal.entries());
     assert!(rt; seen.written > 0 && seen.read_back > 0, "{seen:?}");
+    let calls = seen
+        .written
+        .saturating_mul(3)
+        .saturating_add(seen.read_back);
     let mut fails = Vec::new(alloc);
-    for call in 0..24u64 {
+    for call in 0..calls {
         let ran = run_in(&rt, alloc, &words, &input, &[call])?;
         assert!(rt; agrees(alloc, &ran, &wanted)?, "{call}");
         fails.push(call)?;
@@ -265,6 +270,7 @@ fn run_cut<X: Threads + Wait + Sync>(
         &mut journal,
         &mut posts,
         store,
+        &NoGate,
     );
     sink.bytes().to_vec(alloc)
 }

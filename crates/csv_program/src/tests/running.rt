@@ -11,7 +11,7 @@ use spill_disk::MemoryDisk;
 use std::alloc::{AllocError, Global};
 use std::sync::Wait;
 use std::thread::Threads;
-use task_runner::Post;
+use task_runner::{Gate, NoGate, Post};
 
 pub const CITIES: &[u8] = b"city,price\nOslo,3\nBergen,4\nOslo,5\n";
 
@@ -84,12 +84,13 @@ fn posts_of(
     Ok(posts)
 }
 
-/// Makes a call with so many posts.
-pub fn run_with<X: Threads + Wait + Sync>(
+/// Makes a call with so many posts, whose tasks go through a gate.
+pub fn run_through<X: Threads + Wait + Sync, G: Gate + Sync>(
     rt: &X,
     alloc: Global,
     posts: usize,
     call: Call<'_>,
+    gate: &G,
 ) -> Result<Ran, AllocError> {
     let mut source = MemorySource::new(call.input.to_vec(alloc)?, call.reads.to_vec(alloc)?);
     let mut sink = MemorySink::new(alloc, call.writes.to_vec(alloc)?);
@@ -105,6 +106,7 @@ pub fn run_with<X: Threads + Wait + Sync>(
         &mut journal,
         &mut posts,
         store,
+        gate,
     );
     let files = match posts.first() {
         Some(post) => post.disk.created(),
@@ -116,6 +118,16 @@ pub fn run_with<X: Threads + Wait + Sync>(
         recorded: journal.bytes().to_vec(alloc)?,
         files,
     })
+}
+
+/// Makes a call with so many posts.
+pub fn run_with<X: Threads + Wait + Sync>(
+    rt: &X,
+    alloc: Global,
+    posts: usize,
+    call: Call<'_>,
+) -> Result<Ran, AllocError> {
+    run_through(rt, alloc, posts, call, &NoGate)
 }
 
 /// Makes a call with a post for each of the four workers that there are by default.

@@ -6,6 +6,7 @@ use Rattle.job_plan.specs.Plans.{passes_in}
 use Rattle.task_runner.specs.Pass.{states_at}
 use Rattle.task_runner.specs.PassViews.{pass_with}
 use Rattle.csv_program.specs.Cached.{EachTells}
+use Rattle.csv_program.specs.Charges.{EachCharges}
 use Rattle.csv_program.specs.Doing.{AreBetween, EachBegins, OwnsPass}
 use Rattle.csv_program.specs.Passing.{ArePut, HavePass}
 use Rattle.csv_program.specs.Posts.{post_files}
@@ -14,6 +15,7 @@ use Rattle.csv_program.proofs.CachedTasks.{each_later, each_more}
 use Rattle.csv_program.proofs.Crews.{begun_cleared, between_cleared, between_more, owns_pass, sees_cleared}
 use Rattle.csv_program.proofs.FedByPasses.{FeedsUpTo, feeds_all, feeds_none}
 use Rattle.csv_program.proofs.Gathered.{HaveUpTo, all_put, have_all, have_none, parts_kept, says_kept}
+use Rattle.csv_program.proofs.ChargedPasses.{each_charges_later, each_charges_more}
 use Rattle.csv_program.proofs.Leaving.{leaves_same, leaves_then, serve_still}
 use Rattle.csv_program.proofs.Passed.{feeds_step, first_is, have_step, is_pass, next_is, next_least, sound_fault}
 use Rattle.csv_program.proofs.pool.run_passes.Goals as goal
@@ -32,6 +34,7 @@ loop-number-init g c = record {
   fed = λ rows holds w below. feeds_none (states_at g.C.Consumer.state c.args.posts.now.items w) c.args.plan.now (length c.args.parts.now) rows g.B.Basis.sizes.workers w;
   posts = leaves_same g.C.Consumer.state g.D.Disk.files g.D.Disk.faults g.B.Basis.sizes.workers c.args.posts.now;
   workers = between_more g.B.Basis.owner c.args.executor.now.manager.now g.B.Basis.sizes.workers 0 (0 * (length c.args.parts.now + 1)) c.args.workers.now.items (omega arith) c.requires.workers;
+  charged = λ rows holds pass part any below within. absurd (omega (arith, below));
   told = λ pass part any below within. absurd (omega (arith, below));
   begun = λ w any below task low own. absurd (omega (arith, low));
 }
@@ -138,6 +141,10 @@ loop-number-preserved g c =
       posts = leaves_then g.C.Consumer.state g.D.Disk.files g.D.Disk.faults workers c.args.posts.now c.loop-number.posts c.work.new.posts held.posts c.work.ensures.posts;
       workers = between_cleared g.B.Basis.owner c.args.executor.now.manager.now workers ((number + 1) * (length parts + 1)) c.removed.result.now mids news c.remove_blocks.ensures.workers clears others
           (subst (λ (limit : ℕ). AreBetween c.args.executor.now.manager.now g.B.Basis.owner workers limit mids) next c.work.ensures.workers);
+      charged = λ rows holds.
+          each_charges_later (states_at g.C.Consumer.state c.args.posts.now.items) plan (length parts) rows workers (number + 1) mids news c.requires.some (sees_cleared c.removed.result.now workers mids news clears others)
+          (each_charges_more (states_at g.C.Consumer.state c.args.posts.now.items) (states_at g.C.Consumer.state c.loop-number.posts.items) before given plan number c.dataset.result c.queries-queries.result.now parts c.args.part_rows c.task.result rows workers
+          c.loop-number.workers.items mids c.requires.some c.dataset.ensures.is c.queries-queries.ensures.are first held.posts.consumers (parts_kept files before given plan parts c.args.part_rows workers rows held.posts.keeps holds) c.work.ensures.sees c.in-Ok-work.ensures.charged (held.charged rows holds));
       told = each_later plan workers (length parts) (number + 1) mids news c.requires.some (sees_cleared c.removed.result.now workers mids news clears others)
           (each_more plan (pass_with plan c.dataset.result c.queries-queries.result.now parts c.args.part_rows c.task.result) c.args.executor.now.manager.now workers number c.loop-number.workers.items mids c.requires.some
           refl c.dataset.ensures.is first c.work.ensures.workers.workers_are c.work.ensures.sees c.in-Ok-work.ensures.told held.told);
@@ -168,6 +175,11 @@ pub returns-clause-workers : goal.returns-clause-workers
 returns-clause-workers g c =
     let all : c.loop-number.number ≡ length (passes_in c.args.plan.now) = omega (arith, c.loop-number-test.false, c.loop-number.auto.number-end, c.passes-number-end.ensures.count) in
     subst (λ (passes : ℕ). AreBetween c.args.executor.now.manager.now g.B.Basis.owner g.B.Basis.sizes.workers (passes * (length c.args.parts.now + 1)) c.loop-number.workers.items) all c.loop-number.invariant.workers
+
+pub returns-clause-charged : goal.returns-clause-charged
+returns-clause-charged g c rows holds =
+    let all : c.loop-number.number ≡ length (passes_in c.args.plan.now) = omega (arith, c.loop-number-test.false, c.loop-number.auto.number-end, c.passes-number-end.ensures.count) in
+    subst (λ (passes : ℕ). EachCharges (states_at g.C.Consumer.state c.args.posts.now.items) c.args.plan.now (length c.args.parts.now) rows g.B.Basis.sizes.workers passes c.loop-number.workers.items) all (c.loop-number.invariant.charged rows holds)
 
 pub returns-clause-told : goal.returns-clause-told
 returns-clause-told g c =

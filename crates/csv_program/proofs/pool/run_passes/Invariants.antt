@@ -3,6 +3,7 @@ use Rattle.std.specs.Prelude.{All, IfSome}
 use Rattle.job_plan.specs.Plans.{kept_in}
 use Rattle.task_runner.specs.Pass.{states_at}
 use Rattle.csv_program.specs.Cached.{EachTells}
+use Rattle.csv_program.specs.Charges.{EachCharges}
 use Rattle.csv_program.specs.Doing.{AreBetween, EachBegins}
 use Rattle.csv_program.specs.Passing.{LeavesPosts}
 use Rattle.csv_program.specs.Posts.{post_files}
@@ -22,6 +23,8 @@ invariant-loop-number g l = record {
       → FeedsUpTo (states_at g.C.Consumer.state l.initial.posts.items worker) (states_at g.C.Consumer.state l.posts.items worker) l.plan (length l.parts) rows g.B.Basis.sizes.workers worker l.number;
   posts : LeavesPosts g.C.Consumer.state g.D.Disk.files g.D.Disk.faults g.B.Basis.sizes.workers l.initial.posts l.posts;
   workers : AreBetween l.executor.manager.now g.B.Basis.owner g.B.Basis.sizes.workers (l.number * (length l.parts + 1)) l.workers.items;
+  charged : (rows : ℕ → List (List (List ℕ))) → HoldsParts (post_files g.D.Disk.files l.initial.posts) g.B.Basis.rows l.plan l.parts l.part_rows g.B.Basis.sizes.workers rows
+      → EachCharges (states_at g.C.Consumer.state l.initial.posts.items) l.plan (length l.parts) rows g.B.Basis.sizes.workers l.number l.workers.items;
   told : EachTells l.plan g.B.Basis.sizes.workers (length l.parts) l.number l.workers.items;
   begun : EachBegins g.B.Basis.owner g.B.Basis.sizes.workers (l.number * (length l.parts + 1)) l.workers.items;
 }

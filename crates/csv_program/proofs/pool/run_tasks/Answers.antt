@@ -8,6 +8,7 @@ use Rattle.job_plan.specs.Plans.{passes_in}
 use Rattle.task_runner.specs.Pass.{states_at}
 use Rattle.task_runner.specs.Works.{ShowsNoRoom}
 use Rattle.csv_program.specs.Cached.{EachTells, TellsPasses}
+use Rattle.csv_program.specs.Charges.{EachCharges, ChargesPlan}
 use Rattle.csv_program.specs.Doing.{EachBegins}
 use Rattle.csv_program.specs.Feeds.{FeedsPlan}
 use Rattle.csv_program.specs.Posts.{post_files}
@@ -16,6 +17,7 @@ use Rattle.csv_program.specs.Tasks.{BeginsAll, FollowsPlan, ShowsShort, owner_of
 use Rattle.csv_program.proofs.CachedTasks.{journal_tells}
 use Rattle.csv_program.proofs.Crews.{new_between}
 use Rattle.csv_program.proofs.Followed.{begins_all, follows, on_ok_more, room_more, shows_short}
+use Rattle.csv_program.proofs.ChargedPasses.{journal_charges}
 use Rattle.csv_program.proofs.pool.run_tasks.Goals as goal
 
 pub run_passes-answers-requires-clause-workers : goal.run_passes-answers-requires-clause-workers
@@ -39,6 +41,26 @@ returns-clause-told g c =
     (journal_tells c.args.plan.now g.B.Basis.sizes.workers partitions passes c.in-Ok.manager c.run_passes-answers.new.workers.items (new_worker c.in-Ok.manager 0 0) c.close-journal.result.0
     some c.run_passes-answers.ensures.workers.workers_are c.close-journal.ensures.whole told))
     c.run_passes-answers.ensures.told
+
+pub returns-clause-charged : goal.returns-clause-charged
+returns-clause-charged g c =
+    let plan = c.args.plan.now in
+    let parts = c.args.parts.now in
+    let size : c.args.asked.now.pool.workers ≡ g.B.Basis.sizes.workers = ap (λ (s : Sizes). s.workers) c.requires.basis in
+    let some : 1 ≤ g.B.Basis.sizes.workers = let range = c.max-range.ensures.range in omega (arith, size, range.some_worker) in
+    let states = states_at g.C.Consumer.state c.args.posts.now.items in
+    let workers = c.run_passes-answers.new.workers.items in
+    let journal = c.close-journal.result.0 in
+    subst (λ (n : ℕ). OnOk c.run_passes-answers.result ((rows : ℕ → List (List (List ℕ))) → HoldsParts (post_files g.D.Disk.files c.args.posts.now) g.B.Basis.rows plan parts c.args.asked.now.part_rows n rows
+    → ChargesPlan states plan (length parts) rows n journal)) (sym size)
+    (on_ok_more c.run_passes-answers.result
+    ((rows : ℕ → List (List (List ℕ))) → HoldsParts (post_files g.D.Disk.files c.args.posts.now) g.B.Basis.rows plan parts c.args.asked.now.part_rows g.B.Basis.sizes.workers rows
+    → EachCharges states plan (length parts) rows g.B.Basis.sizes.workers (length (passes_in plan)) workers)
+    ((rows : ℕ → List (List (List ℕ))) → HoldsParts (post_files g.D.Disk.files c.args.posts.now) g.B.Basis.rows plan parts c.args.asked.now.part_rows g.B.Basis.sizes.workers rows
+    → ChargesPlan states plan (length parts) rows g.B.Basis.sizes.workers journal)
+    (λ held rows holds. journal_charges states plan (length parts) rows g.B.Basis.sizes.workers c.in-Ok.manager workers (new_worker c.in-Ok.manager 0 0) journal some
+    c.run_passes-answers.ensures.workers.workers_are c.close-journal.ensures.whole (held rows holds))
+    c.run_passes-answers.ensures.charged)
 
 pub returns-clause-answer : goal.returns-clause-answer
 returns-clause-answer g c rows holds =

@@ -19,8 +19,9 @@ use Rattle.csv_program.specs.Endings.{MayEndAs, ending_of_totals, printed_in, to
 use Rattle.csv_program.specs.Feeds.{FeedsPlan}
 use Rattle.csv_program.specs.Basis.{StandAs}
 use Rattle.csv_program.specs.Cached.{TellsPasses}
+use Rattle.csv_program.specs.Charges.{ChargesPlan}
 use Rattle.csv_program.specs.Posts.{post_files}
-use Rattle.csv_program.specs.QueryResults.{HaveResults, totals_of_parts}
+use Rattle.csv_program.specs.QueryResults.{HaveResults, HoldsParts, totals_of_parts}
 use Rattle.csv_program.specs.Statuses.{IsCut}
 use Rattle.csv_program.specs.Tasks.{BeginsAll}
 use Rattle.csv_program.specs.Telling.{status_of_work}
@@ -109,6 +110,21 @@ returns-clause-told g c done = elim c.match-told-2.branch [
       let passes = length (passes_in c.args.plan.now) in
       ok_holds c.run_tasks-told.result.0 w.in-Ok.answers w.in-Ok.is
       (subst (λ (journal : Option (List JournalEntry)). OnOk c.run_tasks-told.result.0 (IfSome journal (TellsPasses c.args.plan.now c.args.asked.now.pool.workers partitions passes))) c.in-Some.is c.run_tasks-told.ensures.told)
+  | in-Err w ↦ absurd (fault_not_done w.in-Err.fault c.match-told-2.status (w.status-is ∙ w.from-status.ensures) done)
+]
+
+pub returns-clause-charged : goal.returns-clause-charged
+returns-clause-charged g c done rows stand = elim c.match-told-2.branch [
+  | in-Ok w ↦
+      let plan = c.args.plan.now in
+      let parts = c.args.parts.now in
+      let files = post_files g.D.Disk.files c.args.posts.now in
+      let asked = c.args.asked.now in
+      let states = states_at g.C.Consumer.state c.args.posts.now.items in
+      ok_holds c.run_tasks-told.result.0 w.in-Ok.answers w.in-Ok.is
+      (subst (λ (journal : Option (List JournalEntry)). OnOk c.run_tasks-told.result.0 ((rows : ℕ → List (List (List ℕ))) → HoldsParts files g.B.Basis.rows plan parts asked.part_rows asked.pool.workers rows
+      → IfSome journal (ChargesPlan states plan (length parts) rows asked.pool.workers))) c.in-Some.is c.run_tasks-told.ensures.charged)
+      (λ part. partition_of asked.part_rows part rows) (holds_parts g.B.Basis.rows files asked plan parts rows c.requires.some stand)
   | in-Err w ↦ absurd (fault_not_done w.in-Err.fault c.match-told-2.status (w.status-is ∙ w.from-status.ensures) done)
 ]
 

@@ -57,6 +57,9 @@ returns-in-Ok-clause-prefix g c cut = for_run (call_of (length c.args.posts.now.
 pub returns-in-Ok-clause-fed : goal.returns-in-Ok-clause-fed
 returns-in-Ok-clause-fed g c done = for_run (call_of (length c.args.posts.now.items) (texts c.args.words.now)) c.in-Ok.asked _ (subst (λ (posts : ℕ). call_of posts (texts c.args.words.now) ≡ Runs c.in-Ok.asked) (omega (arith, c.len.ensures, c.args.posts.now.ok.0)) c.in-Ok.ensures.ok) (c.run_job.ensures.fed done)
 
+pub returns-in-Ok-clause-charged : goal.returns-in-Ok-clause-charged
+returns-in-Ok-clause-charged g c done = for_run (call_of (length c.args.posts.now.items) (texts c.args.words.now)) c.in-Ok.asked _ (subst (λ (posts : ℕ). call_of posts (texts c.args.words.now) ≡ Runs c.in-Ok.asked) (omega (arith, c.len.ensures, c.args.posts.now.ok.0)) c.in-Ok.ensures.ok) (c.run_job.ensures.charged done)
+
 pub returns-in-Ok-clause-gains : goal.returns-in-Ok-clause-gains
 returns-in-Ok-clause-gains g c = for_run (call_of (length c.args.posts.now.items) (texts c.args.words.now)) c.in-Ok.asked _ (subst (λ (posts : ℕ). call_of posts (texts c.args.words.now) ≡ Runs c.in-Ok.asked) (omega (arith, c.len.ensures, c.args.posts.now.ok.0)) c.in-Ok.ensures.ok) c.run_job.ensures.gains
 
@@ -106,6 +109,9 @@ returns-in-Err-clause-done g c done = for_none (call_of (length c.args.posts.now
 
 pub returns-in-Err-clause-fed : goal.returns-in-Err-clause-fed
 returns-in-Err-clause-fed g c done = for_none (call_of (length c.args.posts.now.items) (texts c.args.words.now)) c.unpooled.result.status _ (subst (λ (posts : ℕ). IsWhyNot (call_of posts (texts c.args.words.now)) c.unpooled.result.status) (omega (arith, c.len.ensures, c.args.posts.now.ok.0)) (subst (IsWhyNot (call_of c.len.result (texts c.args.words.now))) (sym c.unpooled.ensures.status) c.in-Err.ensures.why)) (λ asked is. absurd (wanting_not_done c.unpooled.result.status is done))
+
+pub returns-in-Err-clause-charged : goal.returns-in-Err-clause-charged
+returns-in-Err-clause-charged g c done = for_none (call_of (length c.args.posts.now.items) (texts c.args.words.now)) c.unpooled.result.status _ (subst (λ (posts : ℕ). IsWhyNot (call_of posts (texts c.args.words.now)) c.unpooled.result.status) (omega (arith, c.len.ensures, c.args.posts.now.ok.0)) (subst (IsWhyNot (call_of c.len.result (texts c.args.words.now))) (sym c.unpooled.ensures.status) c.in-Err.ensures.why)) (λ asked is. absurd (wanting_not_done c.unpooled.result.status is done))
 
 pub returns-in-Err-clause-prefix : goal.returns-in-Err-clause-prefix
 returns-in-Err-clause-prefix g c cut = for_none (call_of (length c.args.posts.now.items) (texts c.args.words.now)) c.unpooled.result.status _ (subst (λ (posts : ℕ). IsWhyNot (call_of posts (texts c.args.words.now)) c.unpooled.result.status) (omega (arith, c.len.ensures, c.args.posts.now.ok.0)) (subst (IsWhyNot (call_of c.len.result (texts c.args.words.now))) (sym c.unpooled.ensures.status) c.in-Err.ensures.why)) (λ asked is. if_each (g.S.Source.left c.args.input.now) _ (λ bytes known tell. prefix_of_nothing g.W.Sink.written c.args.output.now c.args.output.now (printed_in (ending_of asked bytes)) refl))

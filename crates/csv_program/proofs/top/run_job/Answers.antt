@@ -9,6 +9,7 @@ use Rattle.landing.specs.Landed.{AreRowsOf}
 use Rattle.run_file.specs.declared.run.Run.{Run}
 use Rattle.task_runner.specs.Consumers.{HasConsumers, KeepsConsumers}
 use Rattle.task_runner.specs.Pass.{states_at}
+use Rattle.csv_program.specs.Charges.{ChargesRun}
 use Rattle.csv_program.specs.Endings.{Ending, MayEndAs, ending_of, ending_of_totals, printed_in, totals_of}
 use Rattle.csv_program.specs.Feeds.{FeedsJob, FeedsRun}
 use Rattle.csv_program.specs.Posts.{post_files}
@@ -17,6 +18,7 @@ use Rattle.csv_program.proofs.Based.{none_said, says_parts, stand_as}
 use Rattle.csv_program.proofs.AllTotals.{ending_is}
 use Rattle.csv_program.proofs.EndedRuns.{prefix_of_nothing}
 use Rattle.csv_program.proofs.FedRows.{feeds_job}
+use Rattle.csv_program.proofs.ChargedPasses.{charges_job}
 use Rattle.csv_program.proofs.Judged.{ends_undamaged, if_each, known_is, landed_as, partitions_are, refusal_called, refusal_ends, refusal_is, refusal_may, some_always, tasks_judged, tasks_refuse_nothing}
 use Rattle.csv_program.proofs.PlannedPasses.{passes_are, passes_planned}
 use Rattle.csv_program.proofs.PostDisks.{consumers_as, keeps_same, states_same}
@@ -141,6 +143,19 @@ returns-in-Ok-clause-fed g c done = if_each (g.S.Source.left c.args.input.now) _
     (feeds_job (states_at g.C.Consumer.state c.land_on.new.posts.items worker) after asked.job known.header plan asked.part_rows (length c.deref.result.now) asked.pool.workers worker l.rows known.rows
     c.plans_derive_rows.ensures c.requires.run.job known.planned known.landed_are there.count
     (c.run_queries.ensures.fed done l.rows (stand_as (g.D.Disk.files c.args.store) (post_files g.D.Disk.files c.args.posts.now) files asked l.header plan c.deref.result.now l.rows c.requires.run.some l.planned there l.are_checked c.land_on.ensures.tells tell) worker below))))
+
+pub returns-in-Ok-clause-charged : goal.returns-in-Ok-clause-charged
+returns-in-Ok-clause-charged g c done = if_each (g.S.Source.left c.args.input.now) _ (λ bytes is tell.
+    let l = c.in-Ok.ensures.lands in
+    let asked = c.args.asked.now in
+    let files = post_files g.D.Disk.files c.land_on.new.posts in
+    let plan = c.in-Ok.landed.plan in
+    let known = subst (λ (o : Option (List ℕ)). IfSome (option_map rows_of o) (AreRowsOf asked.job asked.max_rows plan l.rows)) is l.are_known in
+    let there = landed_as files asked.part_rows _ asked.pool.workers _ c.deref.result.now l.rows refl (sym c.deref.ensures.value) l.are_landed in
+    subst (λ (what : Checked). ChargesRun asked what (states_at g.C.Consumer.state c.args.posts.now.items) c.run_queries.result.journal) (sym known.passed)
+    (charges_job (states_at g.C.Consumer.state c.args.posts.now.items) (states_at g.C.Consumer.state c.land_on.new.posts.items) asked.job known.header plan asked.part_rows (length c.deref.result.now) asked.pool.workers l.rows known.rows
+    c.run_queries.result.journal (λ place. sym (states_same g.C.Consumer.state c.args.posts.now.items c.land_on.new.posts.items c.land_on.ensures.consumers place)) known.planned known.landed_are there.count
+    (c.run_queries.ensures.charged done l.rows (stand_as (g.D.Disk.files c.args.store) (post_files g.D.Disk.files c.args.posts.now) files asked l.header plan c.deref.result.now l.rows c.requires.run.some l.planned there l.are_checked c.land_on.ensures.tells tell))))
 
 pub returns-in-Ok-clause-others : goal.returns-in-Ok-clause-others
 returns-in-Ok-clause-others g c place beyond =

@@ -27,6 +27,11 @@ returns-in_err-rules-clause-err g c =
     (λ never. absurd never) (λ disk never. absurd never)
     c.in_err-rules.field-0.0 c.in_err-rules.ensures.err)
 
+pub returns-in_err-rules-clause-of_header : goal.returns-in_err-rules-clause-of_header
+returns-in_err-rules-clause-of_header g c =
+    let p = err_from_is_err_and c.from_residual.result c.from_residual.ensures.1 in
+    rw (p.1, p.2) c.in_err-rules.ensures.of_header
+
 pub returns-clause-over : goal.returns-clause-over
 returns-clause-over g c =
     let given = rw c.in-Ok-Some.field-0-is at c.in-Ok-Some.ensures.rows in

@@ -1,4 +1,4 @@
-use Rattle.std.proofs.Common.{◌≡◌, ◌∙◌, ◌+◌, ◌∷◌, [], ℕ, ap, inr, subst}
+use Rattle.std.proofs.Common.{◌≡◌, ◌∙◌, ◌+◌, ◌∷◌, [], ℕ, List, map, ap, inr, subst}
 use Rattle.pool_ledger.specs.History.{held}
 use Rattle.pool_ledger.specs.Sizes.{floor_of}
 use Rattle.pool_ledger.specs.declared.entry.Event.TheVariants.{End}
@@ -9,9 +9,13 @@ use Rattle.memory_lock.specs.Endings.{EndsWith}
 use Rattle.memory_lock.specs.Workers.{Adds, own_of}
 use Rattle.task_account.specs.Attempts.{held_by}
 use Rattle.task_runner.specs.Blocks.{TellsTask}
-use Rattle.task_runner.specs.PassViews.{PassView, task_for}
+use Rattle.task_runner.specs.Charging.{IsChargedFor, IsPartCharged, leasts_in}
+use Rattle.task_runner.specs.PartAnswers.{HoldsPart}
+use Rattle.task_runner.specs.PassViews.{PassView, rows_over, task_for}
+use Rattle.task_runner.specs.Queries.{made_in}
 use Rattle.task_runner.specs.Works.{GoesOn, IsRefused, Works}
 use Rattle.task_runner.proofs.Answered.{on_ok}
+use Rattle.task_runner.proofs.Charged.{all_charged_still, peak_later}
 use Rattle.task_runner.proofs.OneTask.{shows_short, works_of}
 use Rattle.task_runner.proofs.Told.{told_ok, told_room}
 use Rattle.task_runner.proofs.ToldBlocks.{task_told}
@@ -59,6 +63,24 @@ returns-clause-told g c =
     rw c.told.ensures (told_ok (TellsNearest (chain_in pass.plan) pass.dataset c.args.part started served) (TellsTask pass c.args.part c.end-freed.new.worker) c.serve_rows-task.result.1 c.end-freed.result
     (λ tells. task_told number c.end-freed.result c.args.worker.now started served c.end-freed.new.worker c.in-Ok.ensures.sees (goes g c).sees c.end-freed.ensures.sees c.in-Ok.ensures.last end (ends g c) pass c.args.part (number_is g c) tells)
     c.serve_rows-task.ensures.told)
+
+pub returns-clause-charged : goal.returns-clause-charged
+returns-clause-charged g c =
+    let pass = c.args.pass.now in
+    let number = c.args.part + c.pass.inside.first in
+    let served = c.serve_rows-task.new.worker in
+    let ended = c.end-freed.new.worker in
+    let states = map g.C.Consumer.state c.args.post.now.consumers.items in
+    let files = g.D.Disk.files c.args.post.now.disk in
+    let rises = peak_later number served ended (entry_by served.number (End number c.end-freed.result) ∷ []) (ends g c) in
+    rw c.told.ensures (told_ok ((rows : List (List (List ℕ))) → HoldsPart files g.B.Basis.rows pass c.args.part rows → IsChargedFor states pass (rows_over pass rows) c.in-Ok.task (own_of served))
+    (IsPartCharged states files g.B.Basis.rows pass c.args.part (own_of ended)) c.serve_rows-task.result.1 c.end-freed.result
+    (λ charged rows holds.
+    let found = rows_over pass rows in
+    let then : IsChargedFor states pass found number (own_of served) = subst (λ (task : ℕ). IsChargedFor states pass found task (own_of served)) c.in-Ok.ensures.begun (charged rows holds) in
+    subst (λ (task : ℕ). IsChargedFor states pass found task (own_of ended)) (number_is g c)
+    (all_charged_still (leasts_in states pass.plan pass.queries) _ _ pass.queries (made_in pass.plan pass.queries found) rises then))
+    c.serve_rows-task.ensures.charged)
 
 pub returns-clause-no_room : goal.returns-clause-no_room
 returns-clause-no_room g c =

@@ -11,6 +11,8 @@ use Rattle.lineage.specs.LineageViews.{LineageView, run_for}
 use Rattle.lineage.specs.Standing.{HoldsInput, SaysKept}
 use Rattle.lineage.specs.Telling.{TellsNearest}
 use Rattle.task_account.specs.Attempts.{held_by}
+use Rattle.task_pool.specs.Workers.{own_of}
+use Rattle.task_runner.specs.Charging.{IsChargedFor, leasts_in}
 use Rattle.task_runner.specs.FedParts.{FeedsPart}
 use Rattle.task_runner.specs.PartAnswers.{HoldsPart}
 use Rattle.task_runner.specs.PassViews.{PassView, lineage_of, pass_with, rows_over}
@@ -18,6 +20,7 @@ use Rattle.task_runner.specs.Queries.{AnswerTotals, FeedsAll, made_in}
 use Rattle.task_runner.specs.Spilling.{AreShort}
 use Rattle.task_runner.specs.Works.{GoesOn, IsRefused}
 use Rattle.task_runner.proofs.Answered.{on_ok, on_ok_then}
+use Rattle.task_runner.proofs.Charged.{all_charged_still, peak_later}
 use Rattle.task_runner.proofs.Fields.{short_formed}
 use Rattle.task_runner.proofs.KeptRuns.{stands_shown}
 use Rattle.task_runner.proofs.OneTask.{at_work_as, done_still, goes_by_asks, goes_by_done, goes_by_rows, goes_then, holds_still}
@@ -93,6 +96,28 @@ done_on g c =
     let back = c.into_task-task.ensures.worker in
     let last = goes_by_done c.args.task c.in-Ok.rows _ c.rows_done.new.worker c.rows_done.ensures.task c.rows_done.ensures.sees c.rows_done.ensures.adds in
     grind (arith, common_steps, back, last)
+
+pub returns-clause-charged : goal.returns-clause-charged
+returns-clause-charged g c =
+    let inner : PassView = pass_with c.pass.inside.plan.now c.pass.inside.dataset c.pass.inside.queries.now c.pass.inside.parts.now c.pass.inside.part_rows c.pass.inside.first in
+    let pass = c.args.pass.now in
+    let states = map g.C.Consumer.state c.args.post.now.consumers.items in
+    let worked = c.make_runs-answer.new.pool.worker.now in
+    let its : ℕ = c.make_runs-answer.new.pool.task in
+    let done = done_on g c in
+    let same : its ≡ c.args.task = c.make_runs-answer.ensures.goes.same_task ∙ c.of-account.ensures.task in
+    let rises = peak_later c.args.task worked c.rows_done.new.worker done.added done.adds in
+    let pages : c.page.result.now.rows ≡ rows_in c.in-Ok.rows = ap (λ (page : PageView). page.rows) c.page.ensures in
+    on_ok_then c.make_runs-answer.result (IsChargedFor states inner c.page.result.now.rows its (own_of worked))
+    ((rows : List (List (List ℕ))) → HoldsPart (g.D.Disk.files c.args.post.now.disk) g.B.Basis.rows pass c.args.part rows → IsChargedFor states pass (rows_over pass rows) c.args.task (own_of c.rows_done.new.worker))
+    (λ charged rows holds.
+    let found = rows_over pass rows in
+    let fed : IsChargedFor states inner found its (own_of worked) =
+    subst (λ (list : List (List (List ℕ))). IsChargedFor states inner list its (own_of worked)) (pages ∙ found_rows g c rows holds) charged in
+    let viewed : IsChargedFor states pass found its (own_of worked) = subst (λ (view : PassView). IsChargedFor states view found its (own_of worked)) c.pass.view_is fed in
+    all_charged_still (leasts_in states pass.plan pass.queries) _ _ pass.queries (made_in pass.plan pass.queries found) rises
+    (subst (λ (task : ℕ). IsChargedFor states pass found task (own_of worked)) same viewed))
+    c.make_runs-answer.ensures.charged
 
 pub returns-clause-goes : goal.returns-clause-goes
 returns-clause-goes g c =

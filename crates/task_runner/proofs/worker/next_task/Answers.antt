@@ -19,5 +19,6 @@ returns-in-Ok-clause-adds g c =
       fed = done.fed;
       works = done.works;
       told = done.told;
+      charged = λ rows hold. done.charged rows hold;
     } in
     (found, one, c.in-Ok.ensures.items)

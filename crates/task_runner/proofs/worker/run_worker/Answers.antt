@@ -20,9 +20,9 @@ tasks-init g c =
     let start : Scene = scene_of c.args.worker.now (map g.C.Consumer.state post.consumers.items) (g.D.Disk.files post.disk) (g.D.Disk.faults post.disk) in
     record {
       tasks = 0;
-      first = subst (λ (answers : List (Option Run)). DoesFirst g.B.Basis.rows c.args.pass.now c.args.workers start start 0 answers) (sym c.new-answers.ensures.items)
-          (first_none g.B.Basis.rows c.args.pass.now c.args.workers start c.requires.free);
-      next = part_first c.args.workers c.args.worker.now.number c.number-part.result c.number-part.ensures.value c.number-part.type_inv;
+      first = subst (λ (answers : List (Option Run)). DoesFirst g.B.Basis.rows c.args.pass.now c.args.workers c.args.place start start 0 answers) (sym c.new-answers.ensures.items)
+          (first_none g.B.Basis.rows c.args.pass.now c.args.workers c.args.place start c.requires.free);
+      next = part_first c.args.workers c.args.place c.args.place refl c.requires.narrow;
     }
 
 pub next_task-requires-clause-owner : goal.next_task-requires-clause-owner
@@ -30,8 +30,8 @@ next_task-requires-clause-owner g c =
     let size = ap (λ (view : PassView). parts_of view) c.pass.view_is in
     let inside : c.tasks.part < parts_of c.args.pass.now = omega (arith, size, c.tasks-test.true) in
     let k = c.tasks.invariant.tasks in
-    let number = c.args.worker.now.number in
-    let is = part_is c.tasks.part (part_at c.args.workers number k) (parts_of c.args.pass.now) c.tasks.invariant.next inside c.requires.pass.few in
+    let place = c.args.place in
+    let is = part_is c.tasks.part (part_at c.args.workers place k) (parts_of c.args.pass.now) c.tasks.invariant.next inside c.requires.pass.few in
     let owns = c.requires.owner k (subst (λ (n : ℕ). n < parts_of c.args.pass.now) is inside) in
     subst (λ (n : ℕ). g.B.Basis.owner (task_for c.args.pass.now n) ≡ Some c.tasks.worker.number) (sym is) (owns ∙ ap Some (sym c.tasks.invariant.first.stays.sees.number_is))
 
@@ -40,10 +40,10 @@ next_task-requires-clause-fresh g c =
     let size = ap (λ (view : PassView). parts_of view) c.pass.view_is in
     let inside : c.tasks.part < parts_of c.args.pass.now = omega (arith, size, c.tasks-test.true) in
     let k = c.tasks.invariant.tasks in
-    let number = c.args.worker.now.number in
-    let is = part_is c.tasks.part (part_at c.args.workers number k) (parts_of c.args.pass.now) c.tasks.invariant.next inside c.requires.pass.few in
+    let place = c.args.place in
+    let is = part_is c.tasks.part (part_at c.args.workers place k) (parts_of c.args.pass.now) c.tasks.invariant.next inside c.requires.pass.few in
     subst (λ (n : ℕ). was_begun (own_of c.tasks.worker) (task_for c.args.pass.now n) ≡ false) (sym is)
-    (fresh_still c.args.pass.now.first c.args.workers k c.args.worker.now c.tasks.worker (omega (arith, c.requires.known)) c.tasks.invariant.first.works
+    (fresh_still c.args.pass.now.first c.args.workers c.args.place k c.args.worker.now c.tasks.worker (omega (arith, c.requires.known)) c.tasks.invariant.first.works
     (c.requires.fresh k (subst (λ (n : ℕ). n < parts_of c.args.pass.now) is inside)))
 
 pub next_task-requires-clause-unpinned : goal.next_task-requires-clause-unpinned
@@ -55,7 +55,7 @@ next_task-requires-clause-basis g c =
     let inside : c.tasks.part < parts_of c.args.pass.now = omega (arith, size, c.tasks-test.true) in
     let k = c.tasks.invariant.tasks in
     let pass = c.args.pass.now in
-    let part = part_at c.args.workers c.args.worker.now.number k in
+    let part = part_at c.args.workers c.args.place k in
     let start = g.D.Disk.files c.args.post.now.disk in
     let now = g.D.Disk.files c.tasks.post.disk in
     let is = part_is c.tasks.part part (parts_of pass) c.tasks.invariant.next inside c.requires.pass.few in
@@ -68,7 +68,7 @@ returns-in_err-next_task-clause-sound g c rows hold =
     let inside : c.tasks.part < parts_of c.args.pass.now = omega (arith, size, c.tasks-test.true) in
     let k = c.tasks.invariant.tasks in
     let pass = c.args.pass.now in
-    let part = part_at c.args.workers c.args.worker.now.number k in
+    let part = part_at c.args.workers c.args.place k in
     let start = g.D.Disk.files c.args.post.now.disk in
     let now = g.D.Disk.files c.tasks.post.disk in
     let is = part_is c.tasks.part part (parts_of pass) c.tasks.invariant.next inside c.requires.pass.few in
@@ -97,9 +97,9 @@ returns-in_err-next_task-clause-may_work g c =
     let now : Scene = scene_of c.tasks.worker (map g.C.Consumer.state mid.consumers.items) (g.D.Disk.files mid.disk) (g.D.Disk.faults mid.disk) in
     let k = c.tasks.invariant.tasks in
     let pass = c.args.pass.now in
-    let part = part_at c.args.workers c.args.worker.now.number k in
+    let part = part_at c.args.workers c.args.place k in
     let is = part_is c.tasks.part part (parts_of pass) c.tasks.invariant.next inside c.requires.pass.few in
-    some_more g.B.Basis.rows pass c.args.workers start now c.next_task.new.worker k c.tasks.answers.items c.tasks.invariant.first
+    some_more g.B.Basis.rows pass c.args.workers c.args.place start now c.next_task.new.worker k c.tasks.answers.items c.tasks.invariant.first
     (subst (λ (n : ℕ). n < parts_of pass) is inside) (subst (λ (n : ℕ). MayWork (task_for pass n) c.tasks.worker c.next_task.new.worker) is c.next_task.ensures.may_work)
 
 pub tasks-preserved : goal.tasks-preserved
@@ -114,17 +114,17 @@ tasks-preserved g c =
     let after : Scene = scene_of c.next_task.new.worker (map g.C.Consumer.state new.consumers.items) (g.D.Disk.files new.disk) (g.D.Disk.faults new.disk) in
     let pass = c.args.pass.now in
     let workers = c.args.workers in
-    let number = c.args.worker.now.number in
+    let place = c.args.place in
     let k = c.tasks.invariant.tasks in
     let found = c.in_ok-next_task.ensures.adds.0 in
-    let part = part_at workers number k in
+    let part = part_at workers place k in
     let is = part_is c.tasks.part part (parts_of pass) c.tasks.invariant.next inside c.requires.pass.few in
     record {
       tasks = suc k;
-      first = first_more g.B.Basis.rows pass workers start now after k c.tasks.answers.items c.next_task.new.answers.items found c.tasks.invariant.first c.requires.pass.queries.some
+      first = first_more g.B.Basis.rows pass workers place start now after k c.tasks.answers.items c.next_task.new.answers.items found c.tasks.invariant.first c.requires.pass.queries.some
           (subst (λ (n : ℕ). n < parts_of pass) is inside)
           (subst (λ (n : ℕ). DoesOne g.B.Basis.rows pass n now after found) is c.in_ok-next_task.ensures.adds.1) c.in_ok-next_task.ensures.adds.2;
-      next = part_next workers number c.tasks.part c.saturating_add-part.result k (suc k) refl is c.saturating_add-part.ensures;
+      next = part_next workers place c.tasks.part c.saturating_add-part.result k (suc k) refl is c.saturating_add-part.ensures;
     }
 
 pub returns-clause-all : goal.returns-clause-all
@@ -137,7 +137,7 @@ returns-clause-all g c =
     let inv = c.tasks.invariant in (
       inv.tasks,
       inv.first,
-      counts_all g.B.Basis.rows c.args.pass.now c.args.workers start now inv.tasks c.tasks.answers.items c.tasks.part inv.first c.requires.pass.few inv.next (omega (arith, size, c.tasks-test.false)),
+      counts_all g.B.Basis.rows c.args.pass.now c.args.workers c.args.place start now inv.tasks c.tasks.answers.items c.tasks.part inv.first c.requires.pass.few inv.next (omega (arith, size, c.tasks-test.false)),
     )
 
 pub returns-clause-may_work : goal.returns-clause-may_work

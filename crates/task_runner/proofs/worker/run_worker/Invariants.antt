@@ -7,11 +7,11 @@ use Rattle.task_runner.proofs.worker.run_worker.Given as goal
 abbrev pub invariant-tasks : goal.invariant-tasks
 invariant-tasks g l = record {
   tasks : ℕ;
-  first : DoesFirst g.B.Basis.rows l.pass l.workers
+  first : DoesFirst g.B.Basis.rows l.pass l.workers l.place
       (scene_of l.fn.worker (map g.C.Consumer.state l.fn.post.consumers.items) (g.D.Disk.files l.fn.post.disk) (g.D.Disk.faults l.fn.post.disk))
       (scene_of l.worker (map g.C.Consumer.state l.post.consumers.items) (g.D.Disk.files l.post.disk) (g.D.Disk.faults l.post.disk))
       tasks l.answers.items;
-  next : l.part ≡ min (part_at l.workers l.fn.worker.number tasks) (2 ^ 64 - 1);
+  next : l.part ≡ min (part_at l.workers l.place tasks) (2 ^ 64 - 1);
 }
 
 abbrev pub decreases-tasks : goal.decreases-tasks
