@@ -1,2 +1,3 @@
-pub mod Alone
 pub mod Beginning
+pub mod Crew
+pub mod Steady

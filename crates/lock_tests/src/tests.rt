@@ -1,7 +1,10 @@
 mod blocks;
 mod book;
+mod checks;
 mod crews;
 mod entries;
 mod manager;
+mod playing;
+mod seats;
 mod signs;
-mod steps;
+mod words;

@@ -2,11 +2,11 @@
 ghost use Rattle.std.specs.Prelude.{◌≡◌, ◌<◌, ◌^◌, ◌++◌, ◌∷◌, [], All, None, IfOk, OnOk, OnErr};
 ghost use Rattle.pool_ledger.specs.Workers.{Continues, entries_of};
 
+use crate::tests::checks::reads;
 use crate::tests::entries::put_number;
 use pool_ledger::{Entry, Event};
 use std::alloc::{AllocError, Global};
 use std::marker::{Brand, Model};
-use std::process::Abort;
 use std::sync::Wait;
 use std::test::*;
 use std::thread::{Threads, join};
@@ -222,15 +222,19 @@ fn alternate<R: Threads + Wait + Sync>(
 }
 
 // The book's tasks, each behind its worker.
-fn told(alloc: Global, entries: &[Entry]) -> Result<String, AllocError> {
-    let mut text = String::new(alloc);
+fn put_told(text: &mut String, entries: &[Entry]) -> Result<(), AllocError> {
     for entry in entries {
-        if let Event::Begin { task } = entry.event {
-            put(&mut text, " ", entry.worker)?;
-            put(&mut text, ":", task)?;
-        }
+        put_entry(text, *entry)?;
     }
-    Ok(text)
+    Ok(())
+}
+
+fn put_entry(text: &mut String, entry: Entry) -> Result<(), AllocError> {
+    let Event::Begin { task } = entry.event else {
+        return Ok(());
+    };
+    put(text, " ", entry.worker)?;
+    put(text, ":", task)
 }
 
 fn put(text: &mut String, mark: &str, number: u32) -> Result<(), AllocError> {
@@ -238,30 +242,12 @@ fn put(text: &mut String, mark: &str, number: u32) -> Result<(), AllocError> {
     put_number(text, u64::from(number))
 }
 
-#[test]
-fn one_thread_takes_turns_with_two_passes(rt: HostRuntime) -> Result<(), Fail> {
-    let alloc = rt.alloc();
-    let (lock, mut one) = TurnLock::<Book, Brand>::new(alloc, Book::new(alloc, 3)?)?;
-    let mut other = lock.split(&mut one)?;
-    assert_eq!(rt; one.number(), 0);
-    assert_eq!(rt; other.number(), 1);
-    add_behind_other(&rt, &lock, &mut one, 7)?;
-    add_behind_other(&rt, &lock, &mut other, 8)?;
-    look(&rt, alloc, &lock, &mut one, " 0:7 1:8")?;
-    add_behind_other(&rt, &lock, &mut one, 9)?;
-    let book = close_both(lock, one, other);
-    let text = told(alloc, book.entries())?;
-    assert_eq!(rt; text.as_str(), " 0:7 1:8 0:9");
-    Ok(())
-}
-
-// Takes the book and gives it back, and compares what stood in it.
-fn look<R: Wait + Abort>(
+// Takes the book and gives it back, and tells what stood in it.
+fn look<R: Wait>(
     rt: &R,
-    alloc: Global,
     lock: &TurnLock<Book, Brand>,
     pass: &mut Pass<Brand>,
-    wanted: &str,
+    text: &mut String,
 ) -> Result<(), AllocError>
     requires lock { pass.old.lock ≡ lock.now }
     requires free { pass.old.base ≡ None }
@@ -271,30 +257,101 @@ fn look<R: Wait + Abort>(
         × (pass.new.spare ≡ pass.old.spare) }
 {
     let book = lock.take(rt, pass);
-    let text = told(alloc, book.entries());
+    let told = put_told(text, book.entries());
     lock.give(pass, book);
-    let text = text?;
-    assert_eq!(rt; text.as_str(), wanted);
-    Ok(())
+    told
+}
+
+// Takes turns with two passes, and tells what stood in the book before the last one.
+fn take_turns<R: Wait>(
+    rt: &R,
+    lock: &TurnLock<Book, Brand>,
+    one: &mut Pass<Brand>,
+    other: &mut Pass<Brand>,
+    text: &mut String,
+) -> Result<(), AllocError>
+    requires lock { (one.old.lock ≡ lock.now) × (other.old.lock ≡ lock.now) }
+    requires free { (one.old.base ≡ None) × (other.old.base ≡ None) }
+    requires known { (one.old.number < 2) × (other.old.number < 2) }
+    ensures one { (one.new.lock ≡ one.old.lock) × (one.new.base ≡ None)
+        × (one.new.speaks ≡ one.old.speaks) × (one.new.spare ≡ one.old.spare) }
+    ensures other { (other.new.lock ≡ other.old.lock) × (other.new.base ≡ None)
+        × (other.new.speaks ≡ other.old.speaks) × (other.new.spare ≡ other.old.spare) }
+{
+    add_behind_other(rt, lock, one, 7)?;
+    add_behind_other(rt, lock, other, 8)?;
+    look(rt, lock, one, text)?;
+    text.push(';')?;
+    add_behind_other(rt, lock, one, 9)
+}
+
+// What one thread finds in the book, and what stands there at the end.
+fn found_alone<R: Wait>(rt: &R, alloc: Global) -> Result<String, AllocError> {
+    let (lock, mut one) = TurnLock::<Book, Brand>::new(alloc, Book::new(alloc, 3)?)?;
+    let mut other = lock.split(&mut one)?;
+    let (first, second) = (one.number(), other.number());
+    let mut text = String::new(alloc);
+    take_turns(rt, &lock, &mut one, &mut other, &mut text)?;
+    let book = close_both(lock, one, other);
+    put_told(&mut text, book.entries())?;
+    put(&mut text, ";", first)?;
+    put(&mut text, " ", second)?;
+    Ok(text)
+}
+
+#[test]
+fn one_thread_takes_turns_with_two_passes(rt: HostRuntime) -> Result<(), Fail> {
+    let found = found_alone(&rt, rt.alloc());
+    reads(
+        &rt,
+        found,
+        " 0:7 1:8; 0:7 1:8 0:9;0 1",
+        "the book twice, and the numbers",
+    )
+}
+
+// How many entries stand in a book to which two threads add four each.
+fn count_both<R: Threads + Wait + Sync>(rt: &R, alloc: Global) -> Result<String, AllocError> {
+    let first = [begin(0, 2), begin(0, 4), begin(0, 6), begin(0, 8)];
+    let second = [begin(1, 1), begin(1, 3), begin(1, 5), begin(1, 7)];
+    let book = add_both(rt, alloc, &first, &second)?;
+    text_of(alloc, book.entries().len() as u64)
+}
+
+fn text_of(alloc: Global, number: u64) -> Result<String, AllocError> {
+    let mut text = String::new(alloc);
+    put_number(&mut text, number)?;
+    Ok(text)
 }
 
 #[test]
 fn two_threads_keep_their_orders(rt: HostRuntime) -> Result<(), Fail> {
-    let first = [begin(0, 2), begin(0, 4), begin(0, 6), begin(0, 8)];
-    let second = [begin(1, 1), begin(1, 3), begin(1, 5), begin(1, 7)];
-    let book = add_both(&rt, rt.alloc(), &first, &second)?;
-    assert_eq!(rt; book.entries().len(), 8);
-    Ok(())
+    reads(&rt, count_both(&rt, rt.alloc()), "8", "entries")
+}
+
+// How many entries stand in a book to which two threads add by turns, up to the first that isn't in its place.
+fn count_in_turn<R: Threads + Wait + Sync>(rt: &R, alloc: Global) -> Result<String, AllocError> {
+    let book = alternate(rt, alloc, 100)?;
+    text_of(alloc, u64::from(in_turn(book.entries())))
+}
+
+fn in_turn(entries: &[Entry]) -> u32 {
+    let mut at = 0u32;
+    for entry in entries {
+        if *entry != begin(at % 2, at / 2) {
+            return at;
+        }
+        at = at.wrapping_add(1);
+    }
+    at
 }
 
 #[test]
 fn two_threads_change_hands(rt: HostRuntime) -> Result<(), Fail> {
-    let book = alternate(&rt, rt.alloc(), 100)?;
-    assert_eq!(rt; book.entries().len(), 200);
-    let mut at = 0u32;
-    for entry in book.entries() {
-        assert_eq!(rt; *entry, begin(at % 2, at / 2), "entry {at}");
-        at = at.wrapping_add(1);
-    }
-    Ok(())
+    reads(
+        &rt,
+        count_in_turn(&rt, rt.alloc()),
+        "200",
+        "entries in turn",
+    )
 }

@@ -1,15 +1,15 @@
-// Entries as words.
+// Entries as words, and what they tell.
+use crate::tests::words::cut;
 use pool_ledger::{Entry, Event, Fate, Level};
 use std::alloc::{AllocError, Global};
 use std::string::String;
 
 // All entries, with what moved from storage or with 0 in its place: a caller isn't told that.
-pub fn text_of(alloc: Global, entries: &[Entry], moved: bool) -> Result<String, AllocError> {
-    let mut text = String::new(alloc);
+pub fn put_entries(text: &mut String, entries: &[Entry], moved: bool) -> Result<(), AllocError> {
     for entry in entries {
-        put_entry(&mut text, *entry, moved)?;
+        put_entry(text, *entry, moved)?;
     }
-    Ok(text)
+    Ok(())
 }
 
 // The worker's entries that aren't waits, as its thread knows them.
@@ -22,6 +22,44 @@ pub fn granted_of(alloc: Global, entries: &[Entry], worker: u32) -> Result<Strin
         }
     }
     Ok(text)
+}
+
+// What of these words isn't found in the text, in their order.
+pub fn missing<'a>(text: &str, wanted: &'a str) -> &'a str {
+    let mut rest = wanted;
+    for word in text.split_whitespace() {
+        let (next, more) = cut(rest, ' ');
+        if word == next {
+            rest = more;
+        }
+    }
+    rest
+}
+
+pub fn count_words(text: &str) -> u32 {
+    let mut count = 0u32;
+    for _word in text.split_whitespace() {
+        count = count.wrapping_add(1);
+    }
+    count
+}
+
+// How many tasks ended, and how many blocks were admitted, pinned and unpinned.
+pub fn tally(entries: &[Entry]) -> [u32; 4] {
+    let mut tasks = 0u32;
+    let mut blocks = 0u32;
+    let mut pins = 0u32;
+    let mut unpins = 0u32;
+    for entry in entries {
+        match entry.event {
+            Event::End { .. } => tasks = tasks.wrapping_add(1),
+            Event::Admit { .. } => blocks = blocks.wrapping_add(1),
+            Event::Pin { copy: false, .. } => pins = pins.wrapping_add(1),
+            Event::Unpin { .. } => unpins = unpins.wrapping_add(1),
+            _ => {}
+        }
+    }
+    [tasks, blocks, pins, unpins]
 }
 
 // The most that the tasks of these entries hold at once, and what they hold at the end.
@@ -55,7 +93,7 @@ fn held_after(held: u64, event: Event) -> u64 {
     }
 }
 
-fn put_entry(text: &mut String, entry: Entry, with_moved: bool) -> Result<(), AllocError> {
+pub fn put_entry(text: &mut String, entry: Entry, with_moved: bool) -> Result<(), AllocError> {
     let worker = u64::from(entry.worker);
     match entry.event {
         Event::Begin { task } => put(text, " begin", &[worker, u64::from(task)]),
@@ -170,10 +208,14 @@ fn level_word(level: Level) -> &'static str {
 fn put(text: &mut String, word: &str, numbers: &[u64]) -> Result<(), AllocError> {
     text.push_str(word)?;
     for number in numbers {
-        text.push(',')?;
-        put_number(text, *number)?;
+        put_behind(text, *number)?;
     }
     Ok(())
+}
+
+fn put_behind(text: &mut String, number: u64) -> Result<(), AllocError> {
+    text.push(',')?;
+    put_number(text, number)
 }
 
 pub fn put_number(text: &mut String, number: u64) -> Result<(), AllocError> {

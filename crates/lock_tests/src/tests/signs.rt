@@ -1,4 +1,5 @@
-// What the threads of a script tell each other.
+// What the threads of a script tell each other, and what each leaves.
+use std::string::String;
 use std::sync::{Condvar, Mutex, Wait};
 
 // Whether something is so, which stays so.
@@ -39,27 +40,35 @@ impl Sign {
     }
 }
 
-// Each is raised by a step of its name, and all of them where a thread comes to its end.
+// Each sign is raised by a step of its name, and all of them where a thread comes to its end.
 #[derive(Drop)]
-pub struct Signs {
+pub struct Board {
     // Worker 1 has made its first attempt, and holds nothing.
     ready: Sign,
     // Worker 0 holds what it asked for.
     taken: Sign,
     // Worker 1 was granted what it waited for.
     pub granted: Sign,
+    // What each worker noted, once it has come to its script's end, at its number.
+    notes: [Mutex<Option<String>>; 4],
 }
 
-impl Signs {
-    pub fn new() -> Signs {
-        Signs {
+impl Board {
+    pub fn new() -> Board {
+        Board {
             ready: Sign::new(),
             taken: Sign::new(),
             granted: Sign::new(),
+            notes: [
+                Mutex::new(None),
+                Mutex::new(None),
+                Mutex::new(None),
+                Mutex::new(None),
+            ],
         }
     }
 
-    pub fn of(&self, name: &str) -> &Sign {
+    pub fn sign(&self, name: &str) -> &Sign {
         match name {
             "ready" => &self.ready,
             "taken" => &self.taken,
@@ -67,9 +76,18 @@ impl Signs {
         }
     }
 
-    pub fn raise_all<R: Wait>(&self, rt: &R) {
+    // A thread's end, with its notes, if it has come to its script's.
+    pub fn end<R: Wait>(&self, rt: &R, number: u32, notes: Option<String>) {
+        if let Some(place) = self.notes.get(number as usize) {
+            *place.lock(rt) = notes;
+        }
         self.ready.raise(rt);
         self.taken.raise(rt);
         self.granted.raise(rt);
+    }
+
+    // What the worker of this number noted, if it came to its script's end.
+    pub fn take_notes<R: Wait>(&self, rt: &R, number: usize) -> Option<String> {
+        self.notes.get(number)?.lock(rt).take()
     }
 }

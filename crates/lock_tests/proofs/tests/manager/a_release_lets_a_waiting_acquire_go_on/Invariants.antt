@@ -1,6 +1,0 @@
-use Rattle.std.proofs.Common.{Some, None}
-use Rattle.lock_tests.proofs.tests.manager.a_release_lets_a_waiting_acquire_go_on.Given as goal
-
--- the sizes are the setup's, each worker owns the task of its number, and no rows are given
-abbrev pub ghosts-share_two : goal.ghosts-share_two
-ghosts-share_two g a = record { sizes = a.setup; owner = λ task. Some task; rows = λ _ _. None }
