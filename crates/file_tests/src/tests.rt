@@ -1,6 +1,5 @@
 // Disks, runs, and runs that are merged.
 mod calls;
-mod checks;
 mod disks;
 mod entries;
 mod folders;
@@ -12,5 +11,6 @@ mod merging;
 mod owner;
 mod reading;
 mod runs;
-mod veils;
+mod scripts;
+mod told;
 mod words;

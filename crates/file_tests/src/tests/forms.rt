@@ -1,40 +1,47 @@
 // Forms of rows, and fields that are numbers.
-use crate::tests::checks::{equals, is_so};
-use crate::tests::words::parted;
+use crate::tests::scripts::plays;
+use crate::tests::told::Told;
+use crate::tests::words::{number_of, parted};
 use aggregate::{Agg, AggList, Kind};
 use row_page::RowBuf;
 use run_file::{Form, NumberList, is_decimal, parse_number};
-use std::alloc::Global;
+use std::alloc::{AllocError, Global};
 use std::test::Fail;
 
-// Whether a form and its copy take a row.
-fn takes(form: &Form, row: &RowBuf, greatest: u64) -> Result<bool, Fail> {
+// Tells whether a form takes a row, and where its copy takes it otherwise.
+fn put_taken(form: &Form, row: &RowBuf, greatest: u64, told: &mut Told) {
     let taken = form.accepts(row.view(), greatest);
-    if form.copy()?.accepts(row.view(), greatest) != taken {
-        return Err("the copy takes it otherwise".into());
+    told.put_bool(taken);
+    match form.copy() {
+        Ok(copy) => told.put(if copy.accepts(row.view(), greatest) == taken {
+            ""
+        } else {
+            "!"
+        }),
+        Err(_) => told.lack(),
     }
-    Ok(taken)
 }
 
 // An entry of the key `k` and a value of so many zeros.
-fn entry_of(alloc: Global, zeros: u8) -> Result<RowBuf, Fail> {
+fn entry_of(alloc: Global, zeros: u8) -> Result<RowBuf, AllocError> {
     let mut row = RowBuf::new(alloc);
     row.add(b"k")?;
     row.add(&vec![in alloc; 0u8; zeros as usize]?)?;
     Ok(row)
 }
 
-// Whether the form of a count takes such an entry.
-fn counts_take(alloc: Global, zeros: u8, greatest: u64) -> Result<bool, Fail> {
-    let row = entry_of(alloc, zeros)?;
-    let counts = Form::Entries(Kind::Group(AggList::of(alloc, &[Agg::Count])?));
-    takes(&counts, &row, greatest)
+// Tells whether a form takes such an entry.
+fn put_entry(alloc: Global, form: &Form, zeros: &str, greatest: u64, told: &mut Told) {
+    match entry_of(alloc, number_of(zeros).min(255) as u8) {
+        Ok(row) => put_taken(form, &row, greatest, told),
+        Err(_) => told.lack(),
+    }
 }
 
 // A landed row whose number has so many zeros, with two columns of which this is the second.
-fn landed_of(alloc: Global, zeros: u8, column: &str) -> Result<RowBuf, Fail> {
+fn landed_of(alloc: Global, zeros: u8, column: &str) -> Result<RowBuf, AllocError> {
     if column.len() > 1000 {
-        return Err("a long column".into());
+        return Err(AllocError);
     }
     let mut row = RowBuf::new(alloc);
     row.add(&vec![in alloc; 0u8; zeros as usize]?)?;
@@ -43,83 +50,123 @@ fn landed_of(alloc: Global, zeros: u8, column: &str) -> Result<RowBuf, Fail> {
     Ok(row)
 }
 
-// Whether the form of landed rows with two columns, the second a number, takes a row.
-fn landed_takes(alloc: Global, row: &RowBuf) -> Result<bool, Fail> {
-    let landed = Form::Landed {
+// Tells whether a form takes such a row.
+fn put_row(alloc: Global, form: &Form, zeros: &str, column: &str, told: &mut Told) {
+    match landed_of(alloc, number_of(zeros).min(255) as u8, column) {
+        Ok(row) => put_taken(form, &row, 100, told),
+        Err(_) => told.lack(),
+    }
+}
+
+fn counts_of(alloc: Global) -> Result<Form, AllocError> {
+    Ok(Form::Entries(Kind::Group(AggList::of(alloc, &[Agg::Count])?)))
+}
+
+fn put_counted(alloc: Global, form: &Form, words: &str, told: &mut Told) {
+    for word in words.split_whitespace() {
+        let (row, _) = parted(word, '=');
+        let (zeros, greatest) = parted(row, ':');
+        told.begin(row);
+        put_entry(alloc, form, zeros, number_of(greatest), told);
+    }
+}
+
+/// Whether the form of a count takes an entry whose value has so many bytes, with this greatest cost.
+pub fn play_counted(alloc: Global, words: &str, told: &mut Told) {
+    match counts_of(alloc) {
+        Ok(form) => put_counted(alloc, &form, words, told),
+        Err(_) => told.lack(),
+    }
+}
+
+fn landed(alloc: Global) -> Result<Form, AllocError> {
+    Ok(Form::Landed {
         columns: 2,
         numbers: NumberList::of(alloc, &[1])?,
-    };
-    takes(&landed, row, 100)
+    })
 }
 
-// Whether it takes a landed row.
-fn is_landed(alloc: Global, zeros: u8, column: &str) -> Result<bool, Fail> {
-    let row = landed_of(alloc, zeros, column)?;
-    landed_takes(alloc, &row)
+fn put_landed(alloc: Global, form: &Form, words: &str, told: &mut Told) {
+    for word in words.split_whitespace() {
+        let (row, _) = parted(word, '=');
+        let (zeros, column) = parted(row, ':');
+        told.begin(row);
+        put_row(alloc, form, zeros, column, told);
+    }
 }
 
-// Whether it takes an entry.
-fn is_landed_entry(alloc: Global) -> Result<bool, Fail> {
-    let row = entry_of(alloc, 16)?;
-    landed_takes(alloc, &row)
+/// Whether the form of landed rows with two columns, the second a number, takes a row with so many bytes for its number and
+/// this second column; and an entry whose value has 16 bytes.
+pub fn play_landed(alloc: Global, rest: &str, told: &mut Told) {
+    let (words, _) = parted(rest, '|');
+    match landed(alloc) {
+        Ok(form) => {
+            put_landed(alloc, &form, words, told);
+            told.put("|");
+            told.begin("entry");
+            put_entry(alloc, &form, "16", 100, told);
+        }
+        Err(_) => told.lack(),
+    }
 }
 
-// Entries whose value has 16 bytes, with the greatest costs 49, 48 and 100, and one whose value has 15.
-fn counts_taken(alloc: Global) -> Result<[bool; 4], Fail> {
-    Ok([
-        counts_take(alloc, 16, 49)?,
-        counts_take(alloc, 16, 48)?,
-        counts_take(alloc, 16, 100)?,
-        counts_take(alloc, 15, 100)?,
-    ])
-}
+// An entry with a value of 16 bytes costs 49: 24, 5 and 20. Of the landed rows one is whole, the second column of one is no
+// whole number, and the number of one has 7 bytes.
+const FORMS: &str = "\
+the form of a count|counted| 16:49=yes 16:48=no 16:100=yes 15:100=no
+the form of landed rows|landed| 8:-12=yes 8:1.5=no 7:1=no| entry=no";
 
-// A row that is whole, one whose second column is no whole number, one with a row number of 7 bytes, and an entry.
-fn landed_taken(alloc: Global) -> Result<[bool; 4], Fail> {
-    Ok([
-        is_landed(alloc, 8, "-12")?,
-        is_landed(alloc, 8, "1.5")?,
-        is_landed(alloc, 7, "1")?,
-        is_landed_entry(alloc)?,
-    ])
-}
-
-// An entry with a value of 16 bytes costs 49: 24, 5 and 20.
 #[test]
 fn a_form_takes_its_rows_and_no_others(rt: HostRuntime) -> Result<(), Fail> {
-    let counts = [true, false, true, false];
-    equals(&rt, counts_taken(rt.alloc()), counts, "counts")?;
-    let landed = [true, false, false, false];
-    equals(&rt, landed_taken(rt.alloc()), landed, "landed rows")
+    plays(&rt, rt.alloc(), FORMS)
 }
 
-// Fields, and the numbers that they are.
-const NUMBERS: &str = "0=0,7=7,+5=5,-0=0,-41=-41,007=7,922337203685477579=922337203685477579,\
-9223372036854775799=9223372036854775799,-9223372036854775799=-9223372036854775799,\
-9223372036854775800=9223372036854775800,9223372036854775807=9223372036854775807,\
--9223372036854775808=-9223372036854775808,00000000000000000000000012=12,9223372036854775808=none,\
--9223372036854775809=none,92233720368547758070=none,=none,-=none,+=none,--1=none,-+1=none, 1=none,\
-1/=none,1:=none,\
--999999999999999999=-999999999999999999,99999999999999999:=none,1000000000000000000=1000000000000000000";
-
-// Whether a field is the number that stands behind its `=`, where the two calls agree whether it is one.
-fn is_number(row: &str) -> Result<bool, Fail> {
-    let (field, wanted) = parted(row)?;
+/// The number that a field is, where the two calls agree whether it is one.
+pub fn play_number(row: &str, told: &mut Told) {
+    let (field, _) = parted(row, '=');
+    told.put(field);
     let number = parse_number(field.as_bytes());
     if is_decimal(field.as_bytes()) != number.is_some() {
-        return Ok(false);
+        told.put(" otherwise");
     }
-    match number {
-        Some(number) => Ok(number == wanted.parse()?),
-        None => Ok(wanted == "none"),
-    }
+    let is_ok = match number {
+        Some(number) => write!(told.text, "={number}").is_ok(),
+        None => write!(told.text, "=none").is_ok(),
+    };
+    told.need(is_ok);
 }
 
-// 9223372036854775799 is the greatest number that is read digit by digit.
+// Fields, and the numbers that they are. 9223372036854775799 is the greatest number that is read digit by digit.
+const NUMBERS: &str = "\
+the field 0|number|0=0
+the field 7|number|7=7
+the field +5|number|+5=5
+the field -0|number|-0=0
+the field -41|number|-41=-41
+the field 007|number|007=7
+the field 922337203685477579|number|922337203685477579=922337203685477579
+the field 9223372036854775799|number|9223372036854775799=9223372036854775799
+the field -9223372036854775799|number|-9223372036854775799=-9223372036854775799
+the field 9223372036854775800|number|9223372036854775800=9223372036854775800
+the field 9223372036854775807|number|9223372036854775807=9223372036854775807
+the field -9223372036854775808|number|-9223372036854775808=-9223372036854775808
+the field 00000000000000000000000012|number|00000000000000000000000012=12
+the field 9223372036854775808|number|9223372036854775808=none
+the field -9223372036854775809|number|-9223372036854775809=none
+the field 92233720368547758070|number|92233720368547758070=none
+the field |number|=none
+the field -|number|-=none
+the field +|number|+=none
+the field --1|number|--1=none
+the field -+1|number|-+1=none
+the field  1|number| 1=none
+the field 1/|number|1/=none
+the field 1:|number|1:=none
+the field -999999999999999999|number|-999999999999999999=-999999999999999999
+the field 99999999999999999:|number|99999999999999999:=none
+the field 1000000000000000000|number|1000000000000000000=1000000000000000000";
+
 #[test]
 fn a_number_is_a_sign_and_digits_of_64_bits(rt: HostRuntime) -> Result<(), Fail> {
-    for row in NUMBERS.split(',') {
-        is_so(&rt, is_number(row), row)?;
-    }
-    Ok(())
+    plays(&rt, rt.alloc(), NUMBERS)
 }

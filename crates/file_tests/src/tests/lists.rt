@@ -3,72 +3,80 @@ ghost use Rattle.std.specs.Prelude.{◌-◌, ◌^◌, IfOk};
 ghost use Rattle.run_file.specs.Several.{AreOn};
 
 use crate::tests::entries::{push_entry, put_run};
-use aggregate::{Agg, AggList, Kind, put_partial};
+use crate::tests::told::Told;
+use crate::tests::words::parted;
+use aggregate::{Agg, AggList, Kind};
 use row_page::Page;
 use run_file::Run;
 use spill_disk::Disk;
-use std::alloc::Global;
+use std::alloc::{AllocError, Global};
 use std::collections::BTreeMap;
 use std::test::Fail;
 
 /// A key of one byte, and a number.
 pub type Pair = (u8, i64);
 
-/// A group with one aggregate.
-pub fn group_of(alloc: Global, agg: Agg) -> Result<Kind, Fail> {
-    Ok(Kind::Group(AggList::of(alloc, &[agg])?))
+/// Groups with one aggregate, or orders.
+pub fn kind_of(alloc: Global, word: &str) -> Result<Kind, AllocError> {
+    match word {
+        "count" => Ok(Kind::Group(AggList::of(alloc, &[Agg::Count])?)),
+        "sum" => Ok(Kind::Group(AggList::of(alloc, &[Agg::Sum])?)),
+        _ => Ok(Kind::Order),
+    }
 }
 
 // A pair as `a:1`.
-fn pair_of(word: &str) -> Result<Pair, Fail> {
-    let (key, number) = word.split_once(':').ok_or("a pair without a number")?;
-    let key = key.as_bytes().first().ok_or("a pair without a key")?;
-    Ok((*key, number.parse()?))
+fn pair_of(word: &str) -> Pair {
+    let (key, number) = parted(word, ':');
+    let key = key.as_bytes().first().copied().unwrap_or(0);
+    (key, number.parse().unwrap_or(0))
 }
 
 // The pairs of a text as `a:1 c:-1`.
-fn list_of(alloc: Global, text: &str) -> Result<Vec<Pair>, Fail> {
+fn list_of(alloc: Global, text: &str, told: &mut Told) -> Vec<Pair> {
     let mut list = Vec::new(alloc);
     for word in text.split_whitespace() {
-        list.push(pair_of(word)?)?;
+        told.need(list.push(pair_of(word)).is_ok());
     }
-    Ok(list)
+    list
 }
 
-/// The lists of a text, each behind a `|`.
-pub fn lists_of(alloc: Global, text: &str) -> Result<Vec<Vec<Pair>>, Fail> {
+/// The lists of a text, with a `/` between them. `none` is no list.
+pub fn lists_of(alloc: Global, text: &str, told: &mut Told) -> Vec<Vec<Pair>> {
     let mut lists = Vec::new(alloc);
-    let (_, text) = text.split_once('|').ok_or("no list")?;
-    for list in text.split('|') {
-        lists.push(list_of(alloc, list)?)?;
+    if text == "none" {
+        return lists;
     }
-    Ok(lists)
+    for list in text.split('/') {
+        let list = list_of(alloc, list, told);
+        told.need(lists.push(list).is_ok());
+    }
+    lists
 }
 
-// A number as a value of 16 bytes, or where it is short as one of 4.
-fn value_of(alloc: Global, number: i64, is_short: bool) -> Result<Vec<u8>, Fail> {
+// Puts a key with a number as a value of 16 bytes, or where it is short of 4.
+fn push_pair(page: &mut Page, pair: Pair, is_short: bool, told: &mut Told) {
+    let (key, number) = pair;
     if is_short {
-        return Ok(u32::try_from(number)?.to_be_bytes().to_vec(alloc)?);
+        let short = u32::try_from(number).unwrap_or(0);
+        return push_entry(page, &[key], &short.to_be_bytes(), told);
     }
-    let mut value = Vec::new(alloc);
-    put_partial(&mut value, i128::from(number))?;
-    Ok(value)
+    push_entry(page, &[key], &i128::from(number).to_be_bytes(), told);
 }
 
 /// The page of these pairs.
-pub fn page_of(alloc: Global, pairs: &[Pair], is_short: bool) -> Result<Page, Fail> {
+pub fn page_of(alloc: Global, pairs: &[Pair], is_short: bool, told: &mut Told) -> Page {
     let mut page = Page::new(alloc, 1_000_000);
-    for (key, number) in pairs {
-        let value = value_of(alloc, *number, is_short)?;
-        push_entry(alloc, &mut page, &[*key], &value)?;
+    for pair in pairs {
+        push_pair(&mut page, *pair, is_short, told);
     }
-    Ok(page)
+    page
 }
 
 /// The page of the pairs of a text.
-pub fn page_of_text(alloc: Global, text: &str, is_short: bool) -> Result<Page, Fail> {
-    let list = list_of(alloc, text)?;
-    page_of(alloc, &list, is_short)
+pub fn page_of_text(alloc: Global, text: &str, is_short: bool, told: &mut Told) -> Page {
+    let list = list_of(alloc, text, told);
+    page_of(alloc, &list, is_short, told)
 }
 
 /// Writes each list as a run, the first on the disk of this number, each other on that so many further.
@@ -79,6 +87,7 @@ pub fn put_lists<D: Disk>(
     is_short: bool,
     first: u32,
     step: u32,
+    told: &mut Told,
 ) -> Result<Vec<Run>, Fail>
     ensures { IfOk result (λ runs. AreOn (2 ^ 32 - 1) runs.items) }
 {
@@ -88,51 +97,90 @@ pub fn put_lists<D: Disk>(
         if number > 100 {
             return Err("a disk of a high number".into());
         }
-        let page = page_of(alloc, list, is_short)?;
+        let page = page_of(alloc, list, is_short, told);
         runs.push(put_run(disk, number, &page)?)?;
         number = number.saturating_add(step);
     }
     Ok(runs)
 }
 
-// All pairs, list by list.
-fn all_of(alloc: Global, lists: &Vec<Vec<Pair>>) -> Result<Vec<Pair>, Fail> {
-    let mut all = Vec::new(alloc);
-    for list in lists {
-        all.extend_from_slice(list)?;
-    }
-    Ok(all)
+// The drawn number behind this one.
+fn drawn_behind(drawn: u64) -> u64 {
+    drawn
+        .wrapping_mul(6364136223846793005)
+        .wrapping_add(1442695040888963407)
 }
 
-/// All pairs, by key, those of one key in the order of the lists.
-pub fn all_sorted(alloc: Global, lists: &Vec<Vec<Pair>>) -> Result<Vec<Pair>, Fail> {
-    let mut all = all_of(alloc, lists)?;
-    all.sort_by_key(|pair: &Pair| pair.0)?;
-    Ok(all)
+// Entries whose keys ascend, of so many places; each key stands there about every second time, and once where `times`
+// is 1.
+fn drawn_list(alloc: Global, seed: u64, places: u8, times: u8, told: &mut Told) -> Vec<Pair> {
+    let mut list = Vec::new(alloc);
+    let mut drawn = seed;
+    for place in 0..places {
+        drawn = drawn_behind(drawn);
+        if drawn >> 63 == 1 {
+            let pair = (place / times.max(1), i64::from((drawn >> 40) as u32));
+            told.need(list.push(pair).is_ok());
+        }
+    }
+    list
+}
+
+/// So many drawn lists.
+pub fn drawn_lists(
+    alloc: Global,
+    count: u64,
+    places: u8,
+    times: u8,
+    told: &mut Told,
+) -> Vec<Vec<Pair>> {
+    let mut lists = Vec::new(alloc);
+    for seed in 0..count {
+        let list = drawn_list(alloc, seed, places, times, told);
+        told.need(lists.push(list).is_ok());
+    }
+    lists
+}
+
+// All pairs, list by list.
+fn all_of(alloc: Global, lists: &Vec<Vec<Pair>>, told: &mut Told) -> Vec<Pair> {
+    let mut all = Vec::new(alloc);
+    for list in lists {
+        told.need(all.extend_from_slice(list).is_ok());
+    }
+    all
+}
+
+/// The page of all pairs by key, those of one key in the order of the lists.
+pub fn sorted_page(alloc: Global, lists: &Vec<Vec<Pair>>, is_short: bool, told: &mut Told) -> Page {
+    let mut all = all_of(alloc, lists, told);
+    told.need(all.sort_by_key(|pair: &Pair| pair.0).is_ok());
+    page_of(alloc, &all, is_short, told)
 }
 
 // Adds a number to the sum of its key.
-fn add(sums: &mut BTreeMap<u8, i64>, key: u8, number: i64) -> Result<(), Fail> {
-    let sum: &mut i64 = sums.entry(key)?.or_insert(0);
-    *sum = sum.wrapping_add(number);
-    Ok(())
+fn add(sums: &mut BTreeMap<u8, i64>, pair: Pair, told: &mut Told) {
+    let (key, number) = pair;
+    let sum = sums.get(&key).copied().unwrap_or(0);
+    told.need(sums.insert(key, sum.wrapping_add(number)).is_ok());
 }
 
-// The keys and their sums.
-fn pairs_in(alloc: Global, sums: &BTreeMap<u8, i64>) -> Result<Vec<Pair>, Fail> {
-    let mut all = Vec::new(alloc);
-    for (key, sum) in sums {
-        all.push((*key, *sum))?;
-    }
-    Ok(all)
-}
-
-/// The sum of each key's numbers.
-pub fn all_summed(alloc: Global, lists: &Vec<Vec<Pair>>) -> Result<Vec<Pair>, Fail> {
-    let all = all_of(alloc, lists)?;
+// The sum of each key's numbers.
+fn sums_of(alloc: Global, pairs: &[Pair], told: &mut Told) -> BTreeMap<u8, i64> {
     let mut sums = BTreeMap::new(alloc);
-    for (key, number) in &all {
-        add(&mut sums, *key, *number)?;
+    for pair in pairs {
+        add(&mut sums, *pair, told);
     }
-    pairs_in(alloc, &sums)
+    sums
+}
+
+/// The page of the sum of each key's numbers.
+pub fn summed_page(alloc: Global, lists: &Vec<Vec<Pair>>, told: &mut Told) -> Page {
+    let all = all_of(alloc, lists, told);
+    let sums = sums_of(alloc, &all, told);
+    let mut page = Page::new(alloc, 1_000_000);
+    for (key, sum) in &sums {
+        push_pair(&mut page, (*key, *sum), false, told);
+    }
+    page
 }

@@ -1,6 +1,7 @@
 // An owner of a disk, of which a list is a shelf.
+use crate::tests::told::Told;
 use spill_disk::{HasDisk, MemoryDisk};
-use std::test::Fail;
+use std::alloc::Global;
 
 #[derive(Drop)]
 pub struct Owner {
@@ -21,8 +22,10 @@ impl HasDisk<MemoryDisk> for Owner {
     }
 }
 
-/// Puts the owner of a disk behind the others.
-pub fn add_owner(owners: &mut Vec<Owner>, disk: MemoryDisk) -> Result<(), Fail> {
-    owners.push(Owner { own: disk })?;
-    Ok(())
+/// Puts the owner of a new disk behind the others.
+pub fn add_owner(alloc: Global, owners: &mut Vec<Owner>, told: &mut Told) {
+    let own = MemoryDisk::new(alloc, Vec::new(alloc));
+    if owners.push(Owner { own }).is_err() {
+        told.lack();
+    }
 }

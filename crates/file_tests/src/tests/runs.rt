@@ -4,50 +4,164 @@ ghost use Rattle.run_file.specs.Readers.{run_of};
 ghost use Rattle.run_file.specs.Reading.{IsAhead};
 ghost use Rattle.run_file.specs.Shelved.{files_on};
 
-use crate::tests::checks::{agrees, equals, is_so};
+use crate::tests::calls::put_failed;
 use crate::tests::entries::{put_run, three_entries};
 use crate::tests::folders::{disk_in, remove};
-use crate::tests::reading::other_step;
-use aggregate::{Agg, AggList, Kind};
+use crate::tests::lists::kind_of;
+use crate::tests::reading::{put_fault, put_numbers, take_steps};
+use crate::tests::scripts::plays;
+use crate::tests::told::{Told, tells};
+use crate::tests::words::{number_of, parted};
+use aggregate::Kind;
 use row_page::Page;
-use run_file::{Form, Run, RunReader, RunWriter};
+use run_file::{Form, Run, RunFault, RunReader, RunWriter};
 use spill_disk::{Disk, MemoryDisk, One, Shelf, VeilDisk};
 use std::alloc::Global;
 use std::test::Fail;
 
-// The first step that a reader of the three entries' run answers otherwise.
-fn read_otherwise(alloc: Global, steps: &str) -> Result<Option<String>, Fail> {
-    formed_otherwise(alloc, Form::Entries(Kind::Order), steps)
+/// A disk in memory, one that tells nothing, or one that hides the last byte; a run that is written there, and steps of a
+/// reader.
+pub fn play_read(alloc: Global, given: &str, rest: &str, told: &mut Told) {
+    let (disk, run) = parted(given, ' ');
+    if disk == "memory" {
+        let mut disk = MemoryDisk::new(alloc, Vec::new(alloc));
+        return read_on(alloc, &mut disk, run, rest, told);
+    }
+    let hidden = if disk == "short" { 1 } else { 0 };
+    let Ok(short) = vec![in alloc; (0, hidden)] else {
+        return told.lack();
+    };
+    let mut disk = VeilDisk::new(alloc, Vec::new(alloc), short);
+    read_on(alloc, &mut disk, run, rest, told);
 }
 
-// The same of a reader with this form.
-fn formed_otherwise(alloc: Global, form: Form, steps: &str) -> Result<Option<String>, Fail> {
-    let mut disk = MemoryDisk::new(alloc, Vec::new(alloc));
-    let run = put_run(&mut disk, 0, &three_entries(alloc)?)?;
-    other_step(alloc, &mut disk, &run, form, steps)
+/// Tells of the run that is written, and of the steps of a reader with a form.
+pub fn read_on<D: Disk>(alloc: Global, disk: &mut D, run: &str, rest: &str, told: &mut Told) {
+    let (kind, entries) = parted(run, ' ');
+    let (_, steps) = parted(rest, '|');
+    let page = three_entries(alloc, told);
+    match put_entries(disk, &page, entries) {
+        Ok(run) => read_run(alloc, disk, &run, kind, steps, told),
+        Err(fault) => put_fault(fault, told),
+    }
 }
 
-// The run of the three entries.
-fn written(alloc: Global) -> Result<Run, Fail> {
-    let mut disk = MemoryDisk::new(alloc, Vec::new(alloc));
-    put_run(&mut disk, 0, &three_entries(alloc)?)
+fn read_run<D: Disk>(
+    alloc: Global,
+    disk: &mut D,
+    run: &Run,
+    kind: &str,
+    steps: &str,
+    told: &mut Told,
+)
+    requires { run.now.disk ≡ 0 }
+{
+    put_numbers(run, told);
+    told.put("|");
+    match kind_of(alloc, kind) {
+        Ok(kind) => take_steps(alloc, disk, run, Form::Entries(kind), steps, told),
+        Err(_) => told.lack(),
+    }
 }
 
-#[test]
-fn a_run_is_read_as_it_was_written(rt: HostRuntime) -> Result<(), Fail> {
-    let run = Run {
+// Writes a page as a run, once or twice, or with another length of its second row.
+fn put_entries<D: Disk>(disk: &mut D, page: &Page, entries: &str) -> Result<Run, RunFault>
+    ensures { IfOk result (λ run. run.disk ≡ 0) }
+{
+    match entries {
+        "once" => put_run(disk, 0, page),
+        "twice" => put_twice(disk, page),
+        length => put_damaged(disk, page, number_of(length)),
+    }
+}
+
+fn put_twice<D: Disk>(disk: &mut D, page: &Page) -> Result<Run, RunFault>
+    ensures { IfOk result (λ run. run.disk ≡ 0) }
+{
+    let mut writer = RunWriter::start(disk, 0)?;
+    writer.write(disk, page)?;
+    writer.write(disk, page)?;
+    Ok(writer.finish())
+}
+
+// The bytes of the three entries' page with another length of the second one.
+fn damaged_bytes(page: &Page, length: u64) -> Result<[u8; 43], RunFault> {
+    if page.bytes().len() != 43 {
+        return Err(RunFault::NoMemory);
+    }
+    let mut bytes = [0u8; 43];
+    bytes.copy_from_slice(page.bytes());
+    let length = length.min(4_294_967_295) as u32;
+    bytes[14..18].copy_from_slice(&length.to_be_bytes());
+    Ok(bytes)
+}
+
+/// Writes the run of the three entries with another length of the second one.
+pub fn put_damaged<D: Disk>(disk: &mut D, page: &Page, length: u64) -> Result<Run, RunFault>
+    ensures { IfOk result (λ run. run.disk ≡ 0) }
+{
+    let bytes = damaged_bytes(page, length)?;
+    let Ok(file) = disk.create() else {
+        return Err(RunFault::NoMemory);
+    };
+    if disk.append(file, &bytes).is_err() {
+        return Err(RunFault::NoMemory);
+    }
+    Ok(Run {
         disk: 0,
-        file: 0,
+        file,
         bytes: 43,
         count: 3,
         greatest: 36,
-    };
-    equals(&rt, written(rt.alloc()), run, "the run")?;
-    let steps = "advance=00000001610000000131 advance=000000016200000000 \
-        advance=000000026363000000023232 advance=end next=end";
-    agrees(&rt, read_otherwise(rt.alloc(), steps), "advance")?;
-    let steps = "next=00000001610000000131";
-    agrees(&rt, read_otherwise(rt.alloc(), steps), "next")
+    })
+}
+
+// An entry of another form has a value of 1 byte, where a count has 16. The second row has 9 bytes, and none of the run
+// more than 12.
+const READ: &str = "\
+a run is read as it was written|read memory order once|0:0:43:3:36| advance=00000001610000000131 \
+advance=000000016200000000 advance=000000026363000000023232 advance=end next=end
+the first by next|read memory order once|0:0:43:3:36| next=00000001610000000131
+next lends the rows in order and then none|read memory order once|0:0:43:3:36| next=00000001610000000131 \
+next=000000016200000000 next=000000026363000000023232 next=end next=end
+next goes on from the row that advance stands at|read memory order once|0:0:43:3:36| \
+advance=00000001610000000131 next=000000016200000000 advance=000000026363000000023232 advance=end
+a row of another form is damage|read memory count once|0:0:43:3:36| next=damaged:0:0:3:0
+a short file is damaged and not ended|read short order once|0:0:43:3:36| advance=00000001610000000131 \
+advance=000000016200000000 advance=damaged:0:0:3:2 next=damaged:0:0:3:2";
+
+#[test]
+fn a_run_is_read_as_it_was_written(rt: HostRuntime) -> Result<(), Fail> {
+    plays(&rt, rt.alloc(), READ)
+}
+
+const LENGTHS: &str = "\
+0|read memory order 0|0:0:43:3:36| advance=00000001610000000131 advance=damaged:0:0:3:1 next=damaged:0:0:3:1
+8|read memory order 8|0:0:43:3:36| advance=00000001610000000131 advance=damaged:0:0:3:1 next=damaged:0:0:3:1
+10|read memory order 10|0:0:43:3:36| advance=00000001610000000131 advance=damaged:0:0:3:1 next=damaged:0:0:3:1
+12|read memory order 12|0:0:43:3:36| advance=00000001610000000131 advance=damaged:0:0:3:1 next=damaged:0:0:3:1
+13|read memory order 13|0:0:43:3:36| advance=00000001610000000131 advance=damaged:0:0:3:1 next=damaged:0:0:3:1
+26|read memory order 26|0:0:43:3:36| advance=00000001610000000131 advance=damaged:0:0:3:1 next=damaged:0:0:3:1
+4294967295|read memory order 4294967295|0:0:43:3:36| advance=00000001610000000131 advance=damaged:0:0:3:1 \
+next=damaged:0:0:3:1
+0, a disk that tells nothing|read veil order 0|0:0:43:3:36| advance=00000001610000000131 advance=damaged:0:0:3:1 \
+next=damaged:0:0:3:1
+8, a disk that tells nothing|read veil order 8|0:0:43:3:36| advance=00000001610000000131 advance=damaged:0:0:3:1 \
+next=damaged:0:0:3:1
+10, a disk that tells nothing|read veil order 10|0:0:43:3:36| advance=00000001610000000131 advance=damaged:0:0:3:1 \
+next=damaged:0:0:3:1
+12, a disk that tells nothing|read veil order 12|0:0:43:3:36| advance=00000001610000000131 advance=damaged:0:0:3:1 \
+next=damaged:0:0:3:1
+13, a disk that tells nothing|read veil order 13|0:0:43:3:36| advance=00000001610000000131 advance=damaged:0:0:3:1 \
+next=damaged:0:0:3:1
+26, a disk that tells nothing|read veil order 26|0:0:43:3:36| advance=00000001610000000131 advance=damaged:0:0:3:1 \
+next=damaged:0:0:3:1
+4294967295, a disk that tells nothing|read veil order 4294967295|0:0:43:3:36| advance=00000001610000000131 \
+advance=damaged:0:0:3:1 next=damaged:0:0:3:1";
+
+#[test]
+fn a_length_that_is_another_is_damage(rt: HostRuntime) -> Result<(), Fail> {
+    plays(&rt, rt.alloc(), LENGTHS)
 }
 
 /// Puts the rows that are ahead behind those of a page, by `next` alone.
@@ -80,157 +194,42 @@ fn put_run_rows(
     put_rows(&mut reader, &mut One { disk }, page)
 }
 
-// Whether the page that the three entries' run is read into is that of the three entries.
-fn is_copied(alloc: Global) -> Result<bool, Fail> {
-    let page = three_entries(alloc)?;
+// Reads the run of a page into another one.
+fn copy_rows(alloc: Global, page: &Page, copy: &mut Page) -> Result<(), Fail> {
     let mut disk = MemoryDisk::new(alloc, Vec::new(alloc));
-    let run = put_run(&mut disk, 0, &page)?;
+    let run = put_run(&mut disk, 0, page)?;
+    put_run_rows(alloc, &mut disk, &run, copy)
+}
+
+/// Whether a run that is read in a loop into another page is that of the three entries.
+pub fn play_copy(alloc: Global, told: &mut Told) -> Result<(), Fail> {
+    let page = three_entries(alloc, told);
     let mut copy = Page::new(alloc, 100);
-    put_run_rows(alloc, &mut disk, &run, &mut copy)?;
-    Ok(copy.bytes() == page.bytes())
-}
-
-#[test]
-fn next_lends_the_rows_in_order_and_then_none(rt: HostRuntime) -> Result<(), Fail> {
-    let steps = "next=00000001610000000131 next=000000016200000000 next=000000026363000000023232 \
-        next=end next=end";
-    agrees(&rt, read_otherwise(rt.alloc(), steps), "next")?;
-    is_so(&rt, is_copied(rt.alloc()), "in a loop")
-}
-
-#[test]
-fn next_goes_on_from_the_row_that_advance_stands_at(rt: HostRuntime) -> Result<(), Fail> {
-    let steps = "advance=00000001610000000131 next=000000016200000000 \
-        advance=000000026363000000023232 advance=end";
-    agrees(&rt, read_otherwise(rt.alloc(), steps), "both")
-}
-
-// The same of a reader with the form of a count.
-fn counted_otherwise(alloc: Global, steps: &str) -> Result<Option<String>, Fail> {
-    let aggs = AggList::of(alloc, &[Agg::Count])?;
-    formed_otherwise(alloc, Form::Entries(Kind::Group(aggs)), steps)
-}
-
-// A value of 1 byte, where a count has 16.
-#[test]
-fn a_row_of_another_form_is_damage(rt: HostRuntime) -> Result<(), Fail> {
-    agrees(
-        &rt,
-        counted_otherwise(rt.alloc(), "next=damaged:0:0:3:0"),
-        "a count",
-    )
-}
-
-// The first step that a reader of the three entries' run answers otherwise, where the file's last byte is hidden.
-fn short_otherwise(alloc: Global, steps: &str) -> Result<Option<String>, Fail> {
-    let short = vec![in alloc; (0, 1)]?;
-    let mut disk = VeilDisk::new(alloc, Vec::new(alloc), short);
-    let run = put_run(&mut disk, 0, &three_entries(alloc)?)?;
-    other_step(alloc, &mut disk, &run, Form::Entries(Kind::Order), steps)
-}
-
-#[test]
-fn a_short_file_is_damaged_and_not_ended(rt: HostRuntime) -> Result<(), Fail> {
-    let steps = "advance=00000001610000000131 advance=000000016200000000 advance=damaged:0:0:3:2 \
-        next=damaged:0:0:3:2";
-    agrees(&rt, short_otherwise(rt.alloc(), steps), "a short file")
-}
-
-// The bytes of the three entries' page with another length of the second one.
-fn damaged_bytes(alloc: Global, length: u32) -> Result<Vec<u8>, Fail> {
-    let page = three_entries(alloc)?;
-    let mut bytes = page.bytes().to_vec(alloc)?;
-    if bytes.len() < 18 {
-        return Err("a short page".into());
-    }
-    bytes[14..18].copy_from_slice(&length.to_be_bytes());
-    Ok(bytes)
-}
-
-/// Writes the run of the three entries with another length of the second one.
-pub fn put_damaged<D: Disk>(alloc: Global, disk: &mut D, length: u32) -> Result<Run, Fail>
-    ensures { IfOk result (λ run. run.disk ≡ 0) }
-{
-    let bytes = damaged_bytes(alloc, length)?;
-    let file = disk.create()?;
-    disk.append(file, &bytes)?;
-    Ok(Run {
-        disk: 0,
-        file,
-        bytes: 43,
-        count: 3,
-        greatest: 36,
-    })
-}
-
-// The first step that a reader of such a run answers otherwise.
-fn damaged_otherwise<D: Disk>(
-    alloc: Global,
-    disk: &mut D,
-    length: u32,
-) -> Result<Option<String>, Fail> {
-    let run = put_damaged(alloc, disk, length)?;
-    let steps = "advance=00000001610000000131 advance=damaged:0:0:3:1 next=damaged:0:0:3:1";
-    other_step(alloc, disk, &run, Form::Entries(Kind::Order), steps)
-}
-
-// The same on a disk that tells the ends of files, or on one that doesn't.
-fn length_otherwise(alloc: Global, length: &str, tells: bool) -> Result<Option<String>, Fail> {
-    let length: u32 = length.parse()?;
-    if tells {
-        let mut disk = MemoryDisk::new(alloc, Vec::new(alloc));
-        return damaged_otherwise(alloc, &mut disk, length);
-    }
-    let mut disk = VeilDisk::new(alloc, Vec::new(alloc), Vec::new(alloc));
-    damaged_otherwise(alloc, &mut disk, length)
-}
-
-// The second row has 9 bytes, and none of the run more than 12.
-#[test]
-fn a_length_that_is_another_is_damage(rt: HostRuntime) -> Result<(), Fail> {
-    for length in ["0", "8", "10", "12", "13", "26", "4294967295"] {
-        agrees(&rt, length_otherwise(rt.alloc(), length, true), length)?;
-        agrees(&rt, length_otherwise(rt.alloc(), length, false), length)?;
-    }
+    copy_rows(alloc, &page, &mut copy)?;
+    told.put_bool(copy.bytes() == page.bytes());
     Ok(())
 }
 
-// Writes the page of the three entries twice.
-fn put_twice<D: Disk>(alloc: Global, disk: &mut D) -> Result<Run, Fail>
-    ensures { IfOk result (λ run. run.disk ≡ 0) }
-{
-    let page = three_entries(alloc)?;
-    let mut writer = RunWriter::start(disk, 0)?;
-    writer.write(disk, &page)?;
-    writer.write(disk, &page)?;
-    Ok(writer.finish())
+#[test]
+fn next_lends_the_rows_in_a_loop(rt: HostRuntime) -> Result<(), Fail> {
+    plays(&rt, rt.alloc(), "three entries|copy|yes")
 }
 
-// The first step that a reader of a run that is written twice answers otherwise. The run is removed.
-fn twice_otherwise<D: Disk>(
-    alloc: Global,
-    disk: &mut D,
-    steps: &str,
-) -> Result<Option<String>, Fail> {
-    let run = put_twice(alloc, disk)?;
-    if run.count != 6 {
-        return Err("another count".into());
-    }
-    let other = other_step(alloc, disk, &run, Form::Entries(Kind::Order), steps)?;
-    disk.remove(run.file)?;
-    Ok(other)
-}
-
-fn folder_otherwise(rt: &HostRuntime, steps: &str) -> Result<Option<String>, Fail> {
+fn read_folder(rt: &HostRuntime, rest: &str, told: &mut Told) -> Result<(), Fail> {
     let mut disk = disk_in(rt, "runs")?;
-    twice_otherwise(rt.alloc(), &mut disk, steps)
+    read_on(rt.alloc(), &mut disk, "order twice", rest, told);
+    put_failed(disk.remove(0), told);
+    remove(rt, "runs", told);
+    Ok(())
 }
+
+const TWICE: &str = "0:0:86:6:36| advance=00000001610000000131 advance=000000016200000000 \
+    advance=000000026363000000023232 advance=00000001610000000131 advance=000000016200000000 \
+    advance=000000026363000000023232 advance=end";
 
 #[test]
 fn a_run_through_a_folder_is_read_back(rt: HostRuntime) -> Result<(), Fail> {
-    let steps = "advance=00000001610000000131 advance=000000016200000000 \
-        advance=000000026363000000023232 advance=00000001610000000131 advance=000000016200000000 \
-        advance=000000026363000000023232 advance=end";
-    agrees(&rt, folder_otherwise(&rt, steps), "six entries")?;
-    remove(&rt, "runs")
+    let mut told = Told::new(rt.alloc());
+    read_folder(&rt, TWICE, &mut told)?;
+    tells(&rt, &told, TWICE, "six entries")
 }

@@ -1,24 +1,11 @@
-// Words of a text: what is done, and behind a `=` the answer that it is to get.
-use std::alloc::Global;
-use std::test::Fail;
+// Parts of a text.
 
-/// What is done, and the answer that is wanted behind the `=`.
-pub fn parted(word: &str) -> Result<(&str, &str), Fail> {
-    match word.split_once('=') {
-        Some(parts) => Ok(parts),
-        None => Err("no answer is wanted".into()),
-    }
+/// What stands before the mark, and what behind it; all and nothing where there is none.
+pub fn parted<'a>(text: &'a str, mark: char) -> (&'a str, &'a str) {
+    text.split_once(mark).unwrap_or((text, ""))
 }
 
-/// What was done with the answer that it got, where that is another one than is wanted.
-pub fn otherwise(
-    alloc: Global,
-    done: &str,
-    wanted: &str,
-    answer: String,
-) -> Result<Option<String>, Fail> {
-    if answer.as_str() == wanted {
-        return Ok(None);
-    }
-    Ok(Some(format!(in alloc; "{done}={answer}")?))
+/// The number of a word, or the greatest where it is none.
+pub fn number_of(word: &str) -> u64 {
+    word.parse().unwrap_or(u64::MAX)
 }

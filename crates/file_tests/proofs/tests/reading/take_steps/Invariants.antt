@@ -1,6 +1,6 @@
 use Rattle.std.proofs.Common.{◌≡◌}
 use Rattle.run_file.specs.Readers.{run_of}
-use Rattle.file_tests.proofs.tests.reading.other_of.Given as goal
+use Rattle.file_tests.proofs.tests.reading.take_steps.Given as goal
 
 -- the reader's run stays
 abbrev pub invariant-loop-word : goal.invariant-loop-word

@@ -1,6 +1,6 @@
 use Rattle.std.proofs.Common.{◌≡◌}
 use Rattle.run_merge.specs.Merging.{left_of, runs_of}
-use Rattle.file_tests.proofs.tests.merging.drain.Given as goal
+use Rattle.file_tests.proofs.tests.merging.put_rest.Given as goal
 
 abbrev pub invariant-loop-page : goal.invariant-loop-page
 invariant-loop-page g l = runs_of l.merge ≡ runs_of l.fn.merge

@@ -1,6 +1,6 @@
 use Rattle.std.proofs.Common.{◌≡◌}
 use Rattle.run_merge.specs.Merging.{runs_of}
-use Rattle.file_tests.proofs.tests.merging.other_of.Given as goal
+use Rattle.file_tests.proofs.tests.merging.take_steps.Given as goal
 
 -- the merge's runs stay
 abbrev pub invariant-loop-word : goal.invariant-loop-word

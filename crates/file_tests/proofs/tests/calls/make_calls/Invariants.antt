@@ -1,6 +1,6 @@
 use Rattle.std.specs.Prelude.{IfSome}
 use Rattle.spill_disk.specs.Files.{IsThere}
-use Rattle.file_tests.proofs.tests.calls.other_answer.Given as goal
+use Rattle.file_tests.proofs.tests.calls.make_calls.Given as goal
 
 -- the file that was made last is there
 abbrev pub invariant-loop-word : goal.invariant-loop-word
