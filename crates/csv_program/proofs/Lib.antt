@@ -32,3 +32,4 @@ pub mod Worked
 pub mod Making
 pub mod StillThere
 pub mod Named
+pub mod Tried

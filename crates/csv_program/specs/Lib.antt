@@ -18,3 +18,4 @@ pub mod Complete
 pub mod Made
 pub mod QueryConsumers
 pub mod Passing
+pub mod Trials

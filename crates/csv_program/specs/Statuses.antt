@@ -148,5 +148,5 @@ MakesPool _ = ⊥
 -- the number that a process ends with where it can't use the folder `spill/`
 abbrev pub number_of_spill : SpillFault → ℕ
 number_of_spill spill_fault.InUse = 16
-number_of_spill spill_fault.Failed = 16
+number_of_spill (spill_fault.Failed path reason) = 16
 number_of_spill spill_fault.NoMemory = 18

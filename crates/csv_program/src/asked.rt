@@ -66,7 +66,7 @@ fn call_for(alloc: Global, said: RunWords<'_>) -> Result<RunCall, Status>
 }
 
 // The pool that options make.
-fn pool_for(options: WorkOptions) -> Result<Setup, HeapTooSmall>
+pub(crate) fn pool_for(options: WorkOptions) -> Result<Setup, HeapTooSmall>
     requires ranges { AreInRange (work_reading options) }
     ensures ok { IfOk result (λ pool. pool ≡ pool_of (work_reading options)) }
     ensures heap { IfOk result (λ _. smallest_heap options.reserved ≤ options.heap) }

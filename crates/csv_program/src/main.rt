@@ -18,6 +18,7 @@ mod table;
 #[cfg(test)]
 mod tests;
 mod top;
+mod trial;
 
 use audit_program::{AuditStatus, audit_call};
 use byte_io::{FileSink, StdSink, StdSource};
@@ -31,6 +32,7 @@ use std::rt::{Env, Files};
 use std::{env, io};
 use task_runner::NoGate;
 use top::run;
+use trial::trial;
 use words::begins_with;
 
 // The words behind the program's name. One that is no text makes the words faulty.
@@ -109,8 +111,21 @@ fn main(rt: HostRuntime) -> ExitCode {
         Ok(made) => made,
         Err(fault) => return end_with(&rt, fault.number(), &fault),
     };
-    let mut input = StdSource::new(rt.reader());
     let mut output = StdSink::new(io::writer(&rt));
+    if begins_with(&texts, "trial") {
+        let status = trial(
+            &rt,
+            rt.alloc(),
+            &texts,
+            &mut output,
+            &mut posts,
+            store,
+            &NoGate,
+        )
+        .status;
+        return end_with(&rt, status.number(), &status);
+    }
+    let mut input = StdSource::new(rt.reader());
     let Ok(mut journal) = journal_sink(&rt) else {
         let status = Status::NoMemory;
         return end_with(&rt, status.number(), &status);

@@ -24,9 +24,14 @@ pub enum SpillFault {
     /// Another process holds the lock.
     #[error("spill: another run is using it")]
     InUse,
-    /// The folder, its lock or an earlier run's files can't be had.
-    #[error("spill: a call failed")]
-    Failed,
+    /// A call failed on the folder, on its lock, or on one of its folders with an earlier run's files.
+    #[error("{path}: {reason}")]
+    Failed {
+        /// Which of them, as a path from the working folder.
+        path: String,
+        /// What std says of the call.
+        reason: io::ErrorKind,
+    },
     /// There is too little memory.
     #[error("out of memory")]
     NoMemory,
@@ -38,7 +43,7 @@ impl SpillFault {
         ensures { result ≡ number_of_spill self.now }
     {
         match self {
-            SpillFault::InUse | SpillFault::Failed => 16,
+            SpillFault::InUse | SpillFault::Failed { .. } => 16,
             SpillFault::NoMemory => 18,
         }
     }
@@ -50,14 +55,17 @@ impl From<AllocError> for SpillFault {
     }
 }
 
-impl From<io::Error> for SpillFault {
-    fn from(failed: io::Error) -> SpillFault {
-        if failed.kind() == io::ErrorKind::OutOfMemory {
-            SpillFault::NoMemory
-        } else {
-            SpillFault::Failed
-        }
+// The answer of a call on this path, as a fault that names the path where the call failed.
+fn named<T>(alloc: Global, path: &str, answer: io::Result<T>) -> Result<T, SpillFault> {
+    let reason = match answer {
+        Ok(value) => return Ok(value),
+        Err(failed) => failed.kind(),
+    };
+    if reason == io::ErrorKind::OutOfMemory {
+        return Err(SpillFault::NoMemory);
     }
+    let path = String::from_str(alloc, path)?;
+    Err(SpillFault::Failed { path, reason })
 }
 
 // Makes the folder; one that is there already serves.
@@ -89,26 +97,36 @@ fn clear_folder<R: Files + AllocGlobal + Clone + Drop>(rt: &R, folder: &str) -> 
     Ok(())
 }
 
+// The folder's lock, which no other process has then.
+fn take_lock<R: Files<File = File> + AllocGlobal>(rt: &R) -> Result<File, SpillFault> {
+    let opened = File::options()
+        .write(true)
+        .create(true)
+        .open(rt, "spill/lock");
+    let lock = named(rt.alloc(), "spill/lock", opened)?;
+    match lock.try_lock() {
+        Ok(()) => Ok(lock),
+        Err(TryLockError::WouldBlock) => Err(SpillFault::InUse),
+        Err(TryLockError::Error(failed)) => named(rt.alloc(), "spill/lock", Err(failed)),
+    }
+}
+
 // Makes the folder, takes its lock, and removes the files that an earlier run left there. Another process can't do so until the
 // answer is dropped.
 fn take_folder<R: Files<File = File> + AllocGlobal + Clone + Drop>(
     rt: &R,
 ) -> Result<File, SpillFault> {
-    make_folder(rt)?;
-    let lock = File::options()
-        .write(true)
-        .create(true)
-        .open(rt, "spill/lock")?;
-    match lock.try_lock() {
-        Ok(()) => {}
-        Err(TryLockError::WouldBlock) => return Err(SpillFault::InUse),
-        Err(TryLockError::Error(failed)) => return Err(SpillFault::from(failed)),
-    }
+    named(rt.alloc(), "spill", make_folder(rt))?;
+    let lock = take_lock(rt)?;
     for place in 0..POSTS {
         let folder = format!(in rt.alloc(); "spill/post{place}")?;
-        clear_folder(rt, folder.as_str())?;
+        named(
+            rt.alloc(),
+            folder.as_str(),
+            clear_folder(rt, folder.as_str()),
+        )?;
     }
-    clear_folder(rt, "spill/store")?;
+    named(rt.alloc(), "spill/store", clear_folder(rt, "spill/store"))?;
     Ok(lock)
 }
 
@@ -148,12 +166,12 @@ fn make_posts<R: Files + AllocGlobal + Clone + Drop>(
     Ok(posts)
 }
 
-// Whether words may be those of a run: others make no file.
+// Whether words may be those of a run or of a trial: others make no file.
 fn may_run(words: &[&str]) -> bool
     ensures { result ≡ may_run (map (λ word. word.now) words.now) }
 {
     match words.split_first() {
-        Some((first, rest)) => *first == "run" && !rest.is_empty(),
+        Some((first, rest)) => (*first == "run" || *first == "trial") && !rest.is_empty(),
         None => false,
     }
 }

@@ -1,6 +1,7 @@
 // Runs through the top call, against answers from outside.
 mod datasets;
 mod faults;
+mod folder;
 mod gates;
 mod generated;
 mod journals;
@@ -12,3 +13,4 @@ mod refusals;
 mod running;
 mod statuses;
 mod tables;
+mod trials;

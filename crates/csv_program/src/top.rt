@@ -58,7 +58,7 @@ pub(crate) fn land_status(fault: LandFault) -> Status
 }
 
 // Runs a job in its pool.
-fn run_job<
+pub(crate) fn run_job<
     X: Threads + Wait + Sync,
     S: Source,
     W: Sink,

@@ -1,10 +1,11 @@
 //! The words of `trial`.
 
-ghost use Rattle.std.specs.Prelude.{◌≡◌, IfOk, IfErr, Some, None, drop};
+ghost use Rattle.std.specs.Prelude.{◌≡◌, ◌≤◌, IfOk, IfErr, Some, None, drop};
 ghost use Rattle.clap.specs.Words.{first_value, found_of};
+ghost use Rattle.words.specs.Options.{AreInRange};
 ghost use Rattle.words.specs.Programs.{trial_from, trial_words};
 ghost use Rattle.words.specs.Texts.{texts};
-ghost use Rattle.words.specs.Views.{trial_reading};
+ghost use Rattle.words.specs.Views.{trial_reading, work_reading};
 
 use crate::WordsFault;
 use crate::command::Names;
@@ -28,6 +29,9 @@ pub struct TrialWords {
 /// `NoMemory` may come of any words.
 pub fn read_trial_words(alloc: Global, words: &[&str]) -> Result<TrialWords, WordsFault>
     ensures ok { IfOk result (λ r. trial_words (drop 1 (texts words.now)) ≡ Some (trial_reading r)) }
+    ensures ranges { IfOk result (λ r. AreInRange (work_reading r.options)) }
+    ensures some { IfOk result (λ r. 1 ≤ r.rows) }
+    ensures rows { IfOk result (λ r. r.rows ≤ 1000000) }
     ensures bad { IfErr result (λ e. e ≡ WordsFault.BadWords → trial_words (drop 1 (texts words.now)) ≡ None) }
 {
     let names = Names {
@@ -49,6 +53,9 @@ pub fn read_trial_words(alloc: Global, words: &[&str]) -> Result<TrialWords, Wor
 // What is found among the words.
 fn trial_from(matches: &ArgMatches<'_>) -> Result<TrialWords, WordsFault>
     ensures ok { IfOk result (λ r. trial_from (first_value (found_of matches.now)) ≡ Some (trial_reading r)) }
+    ensures ranges { IfOk result (λ r. AreInRange (work_reading r.options)) }
+    ensures some { IfOk result (λ r. 1 ≤ r.rows) }
+    ensures rows { IfOk result (λ r. r.rows ≤ 1000000) }
     ensures bad { IfErr result (λ e. trial_from (first_value (found_of matches.now)) ≡ None) }
 {
     let Some(text) = matches.get_str("N") else {

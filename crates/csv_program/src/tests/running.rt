@@ -68,8 +68,8 @@ fn post_of(alloc: Global, fails: &[u64]) -> Result<Post<MemoryDisk, QueryConsume
     })
 }
 
-// Posts, of which the first has a disk on which these calls fail.
-fn posts_of(
+/// Posts, of which the first has a disk on which these calls fail.
+pub fn posts_of(
     alloc: Global,
     count: usize,
     fails: &[u64],
