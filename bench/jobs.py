@@ -24,6 +24,7 @@ import sys
 import time
 
 TOP = os.path.dirname(os.path.dirname(os.path.abspath(__file__)))
+PROGRAM = os.path.join(TOP, "crates", "csv_program", "out", "csv_program")
 JOBS = {
     "few": ("keys", "group key: count, sum price"),
     "many": ("half", "group key: count, sum price"),
@@ -68,14 +69,21 @@ def make_input(path, kind, rows):
     os.replace(path + ".part", path)
 
 
+def prepare(directory):
+    """Builds the program, where it isn't there, and makes the folder in which it runs."""
+    folder = os.path.join(directory, "work")
+    os.makedirs(folder, exist_ok=True)
+    subprocess.run([os.path.join(TOP, "luvenashil"), "build"], check=True)
+    return folder
+
+
 def commands(job, path, pool, given):
     """What each tool runs, by its name."""
     text = JOBS[job][1]
-    program = os.path.join(TOP, "crates", "csv_program", "out", "csv_program")
     words = ["run"]
     if pool:
         words += ["--workers", "1", "--reserved", "0", "--fraction", "1000", "--heap", str(pool * 2**20)]
-    tools = {"luvenashil": [program, *words, text]}
+    tools = {"luvenashil": [PROGRAM, *words, text]}
     scratch = os.path.join(given.dir, "scratch")
     os.makedirs(scratch, exist_ok=True)
     if job == "order":
@@ -140,10 +148,7 @@ def main():
     arguments.add_argument("--dir", default="/tmp/luvenashil-bench")
     arguments.add_argument("--rust")
     given = arguments.parse_args()
-    folder = os.path.join(given.dir, "work")
-    os.makedirs(folder, exist_ok=True)
-
-    subprocess.run([os.path.join(TOP, "luvenashil"), "build"], check=True)
+    folder = prepare(given.dir)
     differ = False
     for rows in given.rows:
         for job in given.jobs:

@@ -11,10 +11,9 @@ in turn. The tables of all have to agree. The input is by the generator of jobs.
 
 import argparse
 import os
-import subprocess
 import sys
 
-from jobs import TOP, make_input, run_once
+from jobs import PROGRAM, make_input, prepare, run_once
 
 DATASET = "let pos = input where price >= 0 and not key = 'k7'{keep}; let low = pos where price < 100; "
 FIRST = "group key: count from pos"
@@ -40,21 +39,18 @@ def main():
     arguments.add_argument("--heap", type=int, nargs="+", default=[2**32, 2**26])
     arguments.add_argument("--dir", default="/tmp/luvenashil-bench")
     given = arguments.parse_args()
-    folder = os.path.join(given.dir, "work")
-    os.makedirs(folder, exist_ok=True)
-    subprocess.run([os.path.join(TOP, "luvenashil"), "build"], check=True)
+    folder = prepare(given.dir)
     path = os.path.join(given.dir, f"keys_{given.rows}.csv")
     if not os.path.exists(path):
         make_input(path, "keys", given.rows)
     output = os.path.join(given.dir, "output")
-    program = os.path.join(TOP, "crates", "csv_program", "out", "csv_program")
     for heap in given.heap:
         best = {}
         for _ in range(given.reps):
             for level, keep in LEVELS.items():
                 for queries in (FIRST, FIRST + SECOND):
                     words = [f"--workers={given.workers}", "--reserved=0", "--fraction=1000", f"--heap={heap}"]
-                    command = [program, "run", *words, DATASET.format(keep=keep) + queries]
+                    command = [PROGRAM, "run", *words, DATASET.format(keep=keep) + queries]
                     at = (level, queries)
                     best[at] = least(command, path, folder, output, best.get(at))
         print(f"{given.rows} rows, heap {heap}, {given.workers} workers: seconds of the second pass")

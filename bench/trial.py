@@ -9,10 +9,9 @@ of --reps runs in turn are printed, and what the trial takes of the run. The lin
 
 import argparse
 import os
-import subprocess
 import sys
 
-from jobs import TOP
+from jobs import PROGRAM, prepare
 from kept import least
 
 JOB = (
@@ -40,18 +39,15 @@ def main():
     arguments.add_argument("--heap", type=int, default=2**30)
     arguments.add_argument("--dir", default="/tmp/luvenashil-bench")
     given = arguments.parse_args()
-    folder = os.path.join(given.dir, "work")
-    os.makedirs(folder, exist_ok=True)
-    subprocess.run([os.path.join(TOP, "luvenashil"), "build"], check=True)
+    folder = prepare(given.dir)
     path = os.path.join(given.dir, f"trial_{given.rows}.csv")
     if not os.path.exists(path):
         make_rows(path, given.rows)
     output = os.path.join(given.dir, "output")
-    program = os.path.join(TOP, "crates", "csv_program", "out", "csv_program")
     lines = None
     for workers in given.workers:
         options = [f"--workers={workers}", "--reserved=0", "--fraction=1000", f"--heap={given.heap}"]
-        commands = {"run": [program, "run", *options, JOB], "trial": [program, "trial", *options, str(given.rows)]}
+        commands = {"run": [PROGRAM, "run", *options, JOB], "trial": [PROGRAM, "trial", *options, str(given.rows)]}
         best = {}
         for _ in range(given.reps):
             for word, command in commands.items():

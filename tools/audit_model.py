@@ -300,56 +300,57 @@ def many(count, blocks):
     return '\n'.join(out[:count + 1]) + '\n'
 
 
+SIZE = 1000
+
+
+def filled(blocks, named, level='memory', room=0):
+    """The first lines of a journal: a pool with room for so many blocks of 1,000 bytes and for some more, and these blocks, each
+    named by its number."""
+    region = (blocks + room) * SIZE
+    admitted = [f'admit,0,{named(number)},{SIZE},{level},0,0' for number in range(blocks)]
+    return [f'memory journal 1,{region},{region},1', *admitted]
+
+
 def turning(count, blocks):
     """A legal journal of blocks that fill the pool: each admission evicts the least recently used one."""
-    size = 1000
-    region = blocks * size
-    out = [f'memory journal 1,{region},{region},1']
-    out += [f'admit,0,{1 + part},0,{size},memory,0,0' for part in range(blocks)]
+    out = filled(blocks, lambda number: f'{1 + number},0')
     oldest = 1
     while len(out) + 1 <= count:
         new = oldest + blocks
-        out += [f'evict,0,{oldest},0,{size},gone', f'admit,0,{new},0,{size},memory,0,1']
+        out += [f'evict,0,{oldest},0,{SIZE},gone', f'admit,0,{new},0,{SIZE},memory,0,1']
         oldest += 1
     return '\n'.join(out) + '\n'
 
 
 def asking(count, blocks):
     """A legal journal of blocks that fill the pool: each ask evicts the least recently used one, and gives back to the next."""
-    size = 1000
-    out = [f'memory journal 1,{blocks * size},{(blocks - 1) * size},1']
-    out += [f'admit,0,{1 + part},0,{size},memory,{0 if part < blocks - 1 else size},0' for part in range(blocks)]
+    out = [f'memory journal 1,{blocks * SIZE},{(blocks - 1) * SIZE},1']
+    out += [f'admit,0,{1 + part},0,{SIZE},memory,{0 if part < blocks - 1 else SIZE},0' for part in range(blocks)]
     out.append('begin,0,0')
     oldest = 1
     while len(out) + 3 <= count:
-        out += [f'evict,0,{oldest},0,{size},gone', f'attempt,0,0,{size},{size},1,{size}', f'release,0,0,{size}',
-                f'admit,0,{oldest + blocks},0,{size},memory,{size},0']
+        out += [f'evict,0,{oldest},0,{SIZE},gone', f'attempt,0,0,{SIZE},{SIZE},1,{SIZE}', f'release,0,0,{SIZE}',
+                f'admit,0,{oldest + blocks},0,{SIZE},memory,{SIZE},0']
         oldest += 1
     return '\n'.join(out) + '\n'
 
 
 def refusing(count, blocks):
     """A legal journal of blocks of one dataset that fill the pool: no further block of it is admitted."""
-    size = 1000
-    region = blocks * size
-    out = [f'memory journal 1,{region},{region},1']
-    out += [f'admit,0,1,{part},{size},memory,0,0' for part in range(blocks)]
+    out = filled(blocks, lambda number: f'1,{number}')
     while len(out) <= count:
-        out.append(f'refused,0,1,{len(out)},{size},0,0')
+        out.append(f'refused,0,1,{len(out)},{SIZE},0,0')
     return '\n'.join(out) + '\n'
 
 
 def keeping(count, blocks):
     """A legal journal of blocks of one dataset that stay: each further one evicts the block of another, and is removed for the next."""
-    size = 1000
-    region = (blocks + 1) * size
-    out = [f'memory journal 1,{region},{region},1']
-    out += [f'admit,0,1,{part},{size},memory,0,0' for part in range(blocks)]
+    out = filled(blocks, lambda number: f'1,{number}', room=1)
     other = 0
-    out.append(f'admit,0,2,{other},{size},memory,0,0')
+    out.append(f'admit,0,2,{other},{SIZE},memory,0,0')
     while len(out) + 3 <= count:
-        out += [f'evict,0,2,{other},{size},gone', f'admit,0,1,{blocks},{size},memory,0,1', f'remove,0,1,{blocks},{size}',
-                f'admit,0,2,{other + 1},{size},memory,0,0']
+        out += [f'evict,0,2,{other},{SIZE},gone', f'admit,0,1,{blocks},{SIZE},memory,0,1', f'remove,0,1,{blocks},{SIZE}',
+                f'admit,0,2,{other + 1},{SIZE},memory,0,0']
         other += 1
     return '\n'.join(out) + '\n'
 
@@ -369,40 +370,33 @@ def pinned(count, blocks):
 
 def removing(count, blocks):
     """A legal journal of blocks of two datasets in turn: one of them is removed each time, and comes again as the last."""
-    size = 1000
-    region = blocks * size
-    out = [f'memory journal 1,{region},{region},1']
-    out += [f'admit,0,{part % 2},{part},{size},disk,0,0' for part in range(blocks)]
+    out = filled(blocks, lambda number: f'{number % 2},{number}', level='disk')
     step = 0
     while len(out) + 1 <= count:
         part = step % blocks
-        out += [f'remove,0,{part % 2},{part},{size}', f'admit,0,{part % 2},{part},{size},disk,0,0']
+        out += [f'remove,0,{part % 2},{part},{SIZE}', f'admit,0,{part % 2},{part},{SIZE},disk,0,0']
         step += 7919
     return '\n'.join(out) + '\n'
 
 
 def copying(count, blocks):
-    """A legal journal of blocks of two levels that fill the pool: the oldest goes to a copy, is read back, and evicts the next."""
-    size = 1000
-    region = blocks * size
-    out = [f'memory journal 1,{region},{region},1']
-    out += [f'admit,0,{1 + part},0,{size},disk,0,0' for part in range(blocks)]
+    """A legal journal of blocks of level disk that fill the pool: the oldest goes to a copy, is read back, and evicts the next."""
+    out = filled(blocks, lambda number: f'{1 + number},0', level='disk')
     oldest, missing = 0, blocks
     while len(out) + 2 <= count:
-        out += [f'evict,0,{1 + oldest},0,{size},disk', f'admit,0,{1 + missing},0,{size},disk,0,1', f'pin,0,{1 + oldest},0,copy']
+        out += [f'evict,0,{1 + oldest},0,{SIZE},disk', f'admit,0,{1 + missing},0,{SIZE},disk,0,1', f'pin,0,{1 + oldest},0,copy']
         oldest, missing = (oldest + 1) % (blocks + 1), oldest
     return '\n'.join(out) + '\n'
 
 
 def emptying(count, blocks):
     """A legal journal of blocks that fill the pool: each ask evicts all of them but one, and gives back, and they come again."""
-    size = 1000
-    out = [f'memory journal 1,{blocks * size},{size},1', 'begin,0,0']
-    asked = (blocks - 1) * size
+    out = [f'memory journal 1,{blocks * SIZE},{SIZE},1', 'begin,0,0']
+    asked = (blocks - 1) * SIZE
     while len(out) + 2 * blocks + 1 <= count:
-        out += [f'admit,0,{1 + part},0,{size},memory,{size if part else 0},0' for part in range(blocks)]
-        out += [f'evict,0,{1 + part},0,{size},gone' for part in range(blocks - 1)]
-        out += [f'attempt,0,0,{asked},{asked},{blocks - 1},{asked}', f'release,0,0,{asked}', f'remove,0,{blocks},0,{size}']
+        out += [f'admit,0,{1 + part},0,{SIZE},memory,{SIZE if part else 0},0' for part in range(blocks)]
+        out += [f'evict,0,{1 + part},0,{SIZE},gone' for part in range(blocks - 1)]
+        out += [f'attempt,0,0,{asked},{asked},{blocks - 1},{asked}', f'release,0,0,{asked}', f'remove,0,{blocks},0,{SIZE}']
     return '\n'.join(out) + '\n'
 
 

@@ -35,9 +35,9 @@ use std::thread::Threads;
 
 /// Does the tasks of all partitions of a pass, each of these workers in a thread of its own. Of `n` workers, which may be any of a
 /// manager's, the one at place `p % n` does partition `p`, on the post of that place, and the task has the number `first + p`.
-/// Answers, for each query of the pass, the runs of what it makes of
-/// the dataset's rows of the partitions, in the order of the partitions, each on the disk of its worker's place; a
-/// partition without such a row has none. A fault is that of the first worker that failed, and names its place.
+/// Answers, for each query of the pass, the runs of what it makes of the dataset's rows of the partitions, in the order of the
+/// partitions, each on the disk of its worker's place; a partition without such a row has none. A fault is that of the first worker
+/// that failed, and names its place.
 pub fn run_workers<
     K: Disk + Send,
     D: Disk + Send,

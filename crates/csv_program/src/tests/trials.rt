@@ -144,7 +144,7 @@ const CACHED: [&str; 7] = [
     "1000",
 ];
 
-// The first 100 calls of the store disk fail: the blocks whose writes made them are dropped without a copy, and no later one.
+// The first 100 calls of the store disk fail: at first blocks are dropped without a copy, and none is behind one that has a copy.
 #[test]
 fn a_failing_store_disk_changes_no_line(rt: HostRuntime) -> Result<(), Fail> {
     let alloc = rt.alloc();
