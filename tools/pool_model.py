@@ -2,9 +2,9 @@
 `crates/pool_tests/src/tests` are answered. Run it at the top of the repository.
 
     python3 tools/pool_model.py check     do the scripts without blocks, in asks.rt, have the answers that the model gives, and
-                                          do the tables of scripts.rt and faults.rt, and the journal of docs/JOURNAL.md, stand
+                                          do the tables of scripts.rt, copies.rt and faults.rt, and the journal of docs/JOURNAL.md, stand
                                           there as it prints them?
-    python3 tools/pool_model.py table     scripts.rt: the scripts with blocks, with answers, journals, blocks and files
+    python3 tools/pool_model.py table     scripts.rt, copies.rt: the scripts with blocks, with answers, journals, blocks and files
     python3 tools/pool_model.py faults    faults.rt: the script with a store disk that fails at one call, and what each call changes
     python3 tools/pool_model.py journal   the journal of docs/JOURNAL.md and examples/journal.csv
 """
@@ -476,12 +476,14 @@ def check():
         words, _ = run(int(maximum), int(storage), int(workers), int(tasks), wanted)
         assert words == wanted.split(), (name, words, wanted)
     print(len(scripts), 'scripts agree')
-    for name, texts in ('scripts.rt', tables()), ('faults.rt', fault_tables()):
-        with open(f'{TESTS}/{name}', encoding='utf-8') as file:
-            source = file.read()
+    for names, texts in (('scripts.rt', 'copies.rt'), tables()), (('faults.rt',), fault_tables()):
+        source = ''
+        for name in names:
+            with open(f'{TESTS}/{name}', encoding='utf-8') as file:
+                source += file.read()
         for text in texts:
             assert text in source, text
-        print(len(texts), 'tables of', name, 'agree')
+        print(len(texts), 'tables of', ' and '.join(names), 'agree')
     for name in 'docs/JOURNAL.md', 'examples/journal.csv':
         with open(name, encoding='utf-8') as file:
             assert journal_text() in file.read(), name

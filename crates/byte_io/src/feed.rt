@@ -68,9 +68,13 @@ impl<S: Source> Tap for &mut S {
 /// read found the end.
 #[derive(Drop)]
 pub struct Feed<T: Tap, O: Origin> {
+    /// What bytes are drawn from.
     pub source: T,
+    /// Whether a read of the source failed.
     pub failed: bool,
+    /// Whether the last read found the source's end.
     pub ended: bool,
+    /// The source as it was lent, for contracts alone.
     pub origin: PhantomData<O>,
     ghost same: { T.name source ≡ O.name },
     ghost later: { O.faults ≤ T.faults source },

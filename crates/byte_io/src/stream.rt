@@ -9,7 +9,7 @@ use crate::sink::{Sink, SinkError};
 use crate::source::{Failed, Source};
 use std::io::{Read, Write};
 
-// No source gives bytes for ever, so one that was read this often fails.
+/// No source gives bytes for ever, so one that was read this often fails.
 pub const MAX_TURNS: u64 = 1 << 62;
 
 /// A source over any std reader. It tells nothing, and counts a fault at each `Err` of the reader. One

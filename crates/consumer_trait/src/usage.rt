@@ -14,10 +14,13 @@ pub struct Usage {
     pub fed: u64,
     /// The room when the spill began.
     pub mark: u64,
-    /// Whether a spill has begun, and what it did: it asked for bytes, wrote entries, gave bytes back.
+    /// Whether a spill has begun.
     pub spilling: bool,
+    /// Whether it asked for bytes.
     pub asked: bool,
+    /// Whether it wrote entries.
     pub wrote: bool,
+    /// Whether it gave bytes back.
     pub freed: bool,
     ghost covered: { costs ≤ used },
     ghost small: { used ≤ 2 ^ 50 },

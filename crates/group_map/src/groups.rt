@@ -14,6 +14,7 @@ use std::alloc::{AllocError, Global};
 /// from `width * i` on. Contracts see them as `entries_of_groups`.
 #[derive(Drop)]
 pub struct Groups {
+    /// How many bytes each value has.
     pub width: usize,
     keys: IndexSet<GroupKey<'static>>,
     values: Vec<u8>,

@@ -4,6 +4,7 @@ pub mod Fitting
 pub mod Viable
 pub mod Growing
 pub mod SoFar
+pub mod SoundDatasets
 pub mod Sound
 pub mod Ends
 pub mod Scanning

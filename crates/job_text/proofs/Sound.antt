@@ -1,8 +1,8 @@
 -- Tokens that are read as a job are written as the grammar has it.
-use Rattle.std.proofs.Common.{◌≡◌, ℕ, ◌+◌, ◌<◌, Bool, true, false, cond, List, [], ◌∷◌, ◌++◌, length, Option, Some, None, refl, sym, ap, subst, ◌∙◌, append_assoc, arith, ◌&&◌}
-use Rattle.std.specs.Prelude.{All, IfSome, flat_map, option_and_then, if◌then◌else◌, nat_lt, nat_le, not}
-use Rattle.std.proofs.lemmas.Bool.{ltb-true, not-true, and_parts, leb-true}
-use Rattle.std.proofs.lemmas.List.{append-nil, length-append, length-map, map-append}
+use Rattle.std.proofs.Common.{◌≡◌, ℕ, ◌+◌, Bool, true, false, cond, List, [], ◌∷◌, ◌++◌, length, Option, Some, None, refl, sym, ap, subst, ◌∙◌, append_assoc, arith, ◌&&◌}
+use Rattle.std.specs.Prelude.{All, IfSome, flat_map, option_and_then, if◌then◌else◌, nat_lt}
+use Rattle.std.proofs.lemmas.Bool.{ltb-true, and_parts, leb-true}
+use Rattle.std.proofs.lemmas.List.{append-nil, length-append}
 use Rattle.std.proofs.lemmas.List.Elements.{All-nil, All-push}
 use Rattle.aggregate.specs.declared.agg_list.Agg.TheVariants as aggs
 use Rattle.job_text.specs.declared.mark.Mark.{Mark}
@@ -15,34 +15,26 @@ use Rattle.job_text.specs.declared.job.Shape.{Shape}
 use Rattle.job_text.specs.declared.job.Shape.TheVariants as shapes
 use Rattle.job_text.specs.declared.job.Job.{Job}
 use Rattle.job_text.specs.declared.job.Query.{Query}
-use Rattle.job_text.specs.declared.job.Dataset.{Dataset}
 use Rattle.pool_ledger.specs.declared.entry.Level.{Level}
-use Rattle.pool_ledger.specs.declared.entry.Level.TheVariants as levels
 use Rattle.job_text.specs.declared.state.At.{At}
 use Rattle.job_text.specs.declared.state.At.TheVariants as at
 use Rattle.job_text.specs.declared.state.Read.{Read}
 use Rattle.job_text.specs.declared.state.State.{State}
 use Rattle.job_text.specs.Columns.{place_of, dataset_names, is_among, number_of, with_name, with_names, is_short, has_column, has_key, has_part}
-use Rattle.job_text.specs.Step.{step, start, query_of, counted, key, named, after_mark, after_query, after_group_columns, after_part, after_parts, after_keys, after_key_column, after_order_columns, after_source, after_start, after_name, after_equals, after_parent, after_made, after_keep, after_word, after_quoted, after_constant, filter_ended, filtered, in_filter, dataset_ended, input_as, made_from, ended, after_column, one_more, last_query}
+use Rattle.job_text.specs.Step.{step, start, query_of, counted, key, named, after_mark, after_query, after_group_columns, after_part, after_parts, after_keys, after_key_column, after_order_columns, after_source, after_start, after_word, after_quoted, after_constant, input_as, after_column, last_query}
 use Rattle.job_text.specs.Begins.{steps, job_with, job_at, job_of}
-use Rattle.job_text.specs.Grammar.{WrittenColumn, WrittenSource, WrittenFilter, WrittenDataset, where_written, keep_written, WrittenQuery, WrittenJob, ended_by, source_written, level_written, dataset_written, column_written, key_written, agg_written, shape_written, query_written, job_written}
-use Rattle.job_text.specs.Rules.{IsFilterRight, filter_uses, dataset_uses, query_names, IsSourceRight, IsDatasetRight, AreDatasets, IsQueryRight, names_written, name_of, IsShortColumn, IsShortAgg, IsRight, agg_named}
+use Rattle.job_text.specs.Grammar.{WrittenColumn, WrittenSource, WrittenJob, ended_by, source_written, dataset_written, column_written, key_written, agg_written, shape_written, query_written, job_written}
+use Rattle.job_text.specs.Rules.{dataset_uses, query_names, IsSourceRight, AreDatasets, IsQueryRight, name_of, IsShortColumn, IsShortAgg, IsRight, agg_named}
 use Rattle.job_text.specs.Meaning.{column_meant, key_meant, agg_meant}
 use Rattle.job_text.specs.Grammar.{word, in_quotes, count, input, by_name}
 use Rattle.job_text.specs.Printing.{agg_mark}
 use Rattle.row_filter.specs.declared.filter.Filter.{Filter}
-use Rattle.job_text.specs.declared.filter_state.FilterState.{FilterState}
-use Rattle.job_text.specs.FilterStep.{filter_start, filter_step, filter_steps, filter_at}
-use Rattle.job_text.specs.FilterGrammar.{IsWrittenFilter}
-use Rattle.std.proofs.lemmas.List.Concat.{flat_map-append}
-use Rattle.job_text.proofs.FilterNames.{filter_steps-append}
-use Rattle.job_text.proofs.FilterSound.{read_written as filter_read}
-use Rattle.job_text.proofs.FilterUses.{token_names, filter_uses_are}
 use Rattle.job_text.proofs.Fitting.{put}
 use Rattle.job_text.proofs.Named.{place_now, with_names-append}
 use Rattle.job_text.proofs.Names.{Reaches, reaches}
-use Rattle.job_text.proofs.Spelled.{ended-push, separated-last, no_items, opened}
-use Rattle.job_text.proofs.SoFar.{key_name, IsShortKey, IsDatasetBegun, IsAtWritten, AreBefore, IsStateWritten, on_one, on_two, IsShapeWhole, group_whole, order_whole, IsQueryWhole, without_source, column_more, part_is, part_more, new_key, key_more}
+use Rattle.job_text.proofs.Spelled.{separated-last, no_items, opened}
+use Rattle.job_text.proofs.SoFar.{key_name, IsShortKey, IsAtWritten, AreBefore, IsStateWritten, on_one, on_two, IsShapeWhole, group_whole, order_whole, IsQueryWhole, without_source, column_more, part_is, part_more, new_key, key_more}
+use Rattle.job_text.proofs.SoundDatasets.{goes_cond, goes_none, stays, more, goes_ended, goes_dataset, goes_made, goes_keep, goes_in_filter, goes_parent_mark, goes_parent_word, goes_equals, goes_name, renamed}
 
 -- ---- each step keeps it
 
@@ -54,279 +46,22 @@ module _ (names : List (List ℕ)) (r : Read) (front : List Token) (before : Are
   abbrev Goes : List Token → State → Type 0
   Goes back next = Reaches next.read.names names → IsStateWritten names (front ++ back) next
 
-  goes_cond : (back : List Token) (b : Bool) (x : State) → (b ≡ true → Goes back x) → IfSome (cond b (Some x) None) (Goes back)
-  goes_cond back true x h = h refl
-  goes_cond back false x h = tt
-
-  goes_none : (back : List Token) (b : Bool) (x : State) → (b ≡ false → Goes back x) → IfSome (cond b None (Some x)) (Goes back)
-  goes_none back true x h = tt
-  goes_none back false x h = h refl
-
-  stays : (back : List Token) (place : At) → IsAtWritten names base r back place → Goes back (record { read = r; at = place })
-  stays back place h = λ _. (front, back, refl, before, h)
-
-  more : {A : Type 0} (back : List Token) (items : List A) (next : At) → (length items < 8 → IsAtWritten names base r back next) → IfSome (one_more r items next) (Goes back)
-  more back items next h = goes_cond back (nat_lt (length items) 8) (record { read = r; at = next }) (λ t. stays back next (h (ltb-true _ _ t)))
-
-  front_more : (q : WrittenQuery) → front ++ (query_written q ++ Fixed marks.Semicolon ∷ []) ≡ ended_by marks.Semicolon dataset_written before.made ++ ended_by marks.Semicolon query_written (before.written ++ q ∷ [])
-  front_more q =
-      let made = ended_by marks.Semicolon dataset_written before.made in
-      let done = ended_by marks.Semicolon query_written before.written in
-      let one : List Token = query_written q ++ Fixed marks.Semicolon ∷ [] in
-      ap (λ (l : List Token). l ++ one) before.tokens_are ∙ append_assoc made done one
-      ∙ ap (λ (l : List Token). made ++ l) (sym (append_assoc done (query_written q) (Fixed marks.Semicolon ∷ [])) ∙ sym (ended-push marks.Semicolon query_written before.written q))
-
-  before_more : (query : Query) (q : WrittenQuery) → IsQueryRight (dataset_names r.datasets) q → length r.queries + 1 < 8 → AreBefore (record r { queries = r.queries ++ query ∷ [] }) (front ++ (query_written q ++ Fixed marks.Semicolon ∷ []))
-  before_more query q right lt = record {
-    made = before.made;
-    written = before.written ++ q ∷ [];
-    tokens_are = front_more q;
-    names_are = before.names_are;
-    made_right = before.made_right;
-    made_few = before.made_few;
-    as_many = omega (arith, before.as_many, length-append before.written (q ∷ []), length-append r.queries (query ∷ []));
-    few = omega (arith, lt, length-append r.queries (query ∷ []));
-    right = All-push (IsQueryRight (dataset_names r.datasets)) before.written q before.right right;
-  }
-
-  goes_ended : (back : List Token) (query : Query) (mark : Mark) → IsQueryWhole names base r back → IfSome (ended r query mark) (Goes (back ++ Fixed mark ∷ []))
-  goes_ended back query marks.Semicolon h =
-      goes_cond (back ++ Fixed marks.Semicolon ∷ []) (nat_lt (length r.queries + 1) 8) (put r.names r.datasets (r.queries ++ query ∷ []) at.Query) (λ t. λ _. (
-        front ++ (query_written h.0 ++ Fixed marks.Semicolon ∷ []),
-        [],
-        ap (λ (l : List Token). front ++ (l ++ Fixed marks.Semicolon ∷ [])) h.1 ∙ sym (append-nil (front ++ (query_written h.0 ++ Fixed marks.Semicolon ∷ []))),
-        before_more query h.0 h.2 (ltb-true _ _ t),
-        refl,
-      ))
-  goes_ended back query _ h = tt
-
-  -- ---- datasets
-
-  none_written : (ws : List WrittenQuery) → length ws ≡ 0 → ended_by marks.Semicolon query_written ws ≡ []
-  none_written [] e = refl
-  none_written (w ∷ ws) e = absurd (omega (arith, e))
-
-  datasets_push : (all names : List (List ℕ)) (made : List WrittenDataset) (w : WrittenDataset) → AreDatasets all names made → IsDatasetRight all (names ++ names_written made) w → AreDatasets all names (made ++ w ∷ [])
-  datasets_push all names [] w h right = (subst (λ (l : List (List ℕ)). IsDatasetRight all l w) (append-nil names) right, tt)
-  datasets_push all names (one ∷ made) w h right =
-      (h.0, datasets_push all (names ++ one.name ∷ []) made w h.1 (subst (λ (l : List (List ℕ)). IsDatasetRight all l w) (sym (append_assoc names (one.name ∷ []) (names_written made))) right))
-
-  -- the names behind one dataset more
-  more_names : (w : WrittenDataset) → with_names [] (flat_map dataset_uses (before.made ++ w ∷ [])) ≡ with_names base (dataset_uses w)
-  more_names w =
-      ap (with_names []) (flat_map-append dataset_uses before.made (w ∷ []) ∙ ap (λ (l : List (List ℕ)). flat_map dataset_uses before.made ++ l) (append-nil (dataset_uses w)))
-      ∙ with_names-append (flat_map dataset_uses before.made) (dataset_uses w) []
-
-  all_right : (w : WrittenDataset) → r.names ≡ with_names base (dataset_uses w) → ((later : List (List ℕ)) → IsDatasetRight (with_names r.names later) (dataset_names r.datasets) w) → (later : List (List ℕ))
-      → AreDatasets (with_names (with_names [] (flat_map dataset_uses (before.made ++ w ∷ []))) later) [] (before.made ++ w ∷ [])
-  all_right w names_are right later =
-      let all = with_names (with_names [] (flat_map dataset_uses (before.made ++ w ∷ []))) later in
-      let one : with_names base (dataset_uses w ++ later) ≡ all = with_names-append (dataset_uses w) later base ∙ ap (λ (l : List (List ℕ)). with_names l later) (sym (more_names w)) in
-      let other : with_names r.names later ≡ all = ap (λ (l : List (List ℕ)). with_names l later) (names_are ∙ sym (more_names w)) in
-      datasets_push all [] before.made w (subst (λ (l : List (List ℕ)). AreDatasets l [] before.made) one (before.made_right (dataset_uses w ++ later)))
-      (subst (λ (l : List (List ℕ)). IsDatasetRight all l w) before.names_are (subst (λ (l : List (List ℕ)). IsDatasetRight l (dataset_names r.datasets) w) other (right later)))
-
-  dataset_front : (w : WrittenDataset) → length r.queries ≡ 0 → front ++ (dataset_written w ++ Fixed marks.Semicolon ∷ []) ≡ ended_by marks.Semicolon dataset_written (before.made ++ w ∷ []) ++ ended_by marks.Semicolon query_written before.written
-  dataset_front w none =
-      let made = ended_by marks.Semicolon dataset_written before.made in
-      let one : List Token = dataset_written w ++ Fixed marks.Semicolon ∷ [] in
-      let no = none_written before.written (before.as_many ∙ none) in
-      ap (λ (l : List Token). l ++ one) (before.tokens_are ∙ ap (λ (l : List Token). made ++ l) no ∙ append-nil made)
-      ∙ sym (append_assoc made (dataset_written w) (Fixed marks.Semicolon ∷ [])) ∙ sym (ended-push marks.Semicolon dataset_written before.made w)
-      ∙ sym (append-nil (ended_by marks.Semicolon dataset_written (before.made ++ w ∷ []))) ∙ ap (λ (l : List Token). ended_by marks.Semicolon dataset_written (before.made ++ w ∷ []) ++ l) (sym no)
-
-  abbrev dataset_before : (d : Dataset) (w : WrittenDataset) → d.name ≡ w.name → ((later : List (List ℕ)) → IsDatasetRight (with_names r.names later) (dataset_names r.datasets) w) → length r.queries ≡ 0 → length r.datasets < 8
-      → r.names ≡ with_names base (dataset_uses w) → AreBefore (record r { datasets = r.datasets ++ d ∷ [] }) (front ++ (dataset_written w ++ Fixed marks.Semicolon ∷ []))
-  dataset_before d w same right none few names_are = record {
-    made = before.made ++ w ∷ [];
-    written = before.written;
-    tokens_are = dataset_front w none;
-    names_are = map-append (λ dataset. dataset.name) r.datasets (d ∷ []) ∙ ap (λ (l : List (List ℕ)). l ++ d.name ∷ []) before.names_are ∙ ap (λ (n : List ℕ). names_written before.made ++ n ∷ []) same ∙ sym (map-append (λ dataset. dataset.name) before.made (w ∷ []));
-    made_right = all_right w names_are right;
-    made_few = omega (arith, few, length-append before.made (w ∷ []), ap length before.names_are, length-map r.datasets (λ dataset. dataset.name), length-map before.made (λ dataset. dataset.name));
-    as_many = before.as_many;
-    few = before.few;
-    right = λ k d lt. absurd (omega (arith, lt, before.as_many, none));
-  }
-
-  goes_dataset : (back : List Token) (d : Dataset) (mark : Mark) → IsAtWritten names base r back (at.Kept d) → IfSome (dataset_ended r d mark) (Goes (back ++ Fixed mark ∷ []))
-  goes_dataset back d marks.Semicolon h = λ _. (
-    front ++ (dataset_written h.0 ++ Fixed marks.Semicolon ∷ []),
-    [],
-    ap (λ (l : List Token). front ++ (l ++ Fixed marks.Semicolon ∷ [])) h.1 ∙ sym (append-nil (front ++ (dataset_written h.0 ++ Fixed marks.Semicolon ∷ []))),
-    dataset_before d h.0 h.5 h.2 h.3 h.4 h.6,
-    (refl, h.3, h.6 ∙ sym (more_names h.0)),
-  )
-  goes_dataset back d _ h = tt
-
-  -- a dataset with no level
-  whole_dataset : (back : List Token) (d : Dataset) (source : WrittenSource) (filter : Option WrittenFilter) (level : Option Level) → back ≡ Fixed marks.Let ∷ Word d.name ∷ Fixed marks.Equal ∷ ((source_written source ++ where_written filter) ++ keep_written level)
-      → IsDatasetBegun r d.name → IsSourceRight (dataset_names r.datasets) source → r.names ≡ with_names base (filter_uses filter) → ((later : List (List ℕ)) → IfSome filter (IsFilterRight (with_names r.names later))) → IsAtWritten names base r back (at.Kept d)
-  whole_dataset back d source filter level e h right names_are filters = (
-    record { name = d.name; source = source; filter = filter; level = level },
-    e,
-    λ later. record { short = h.short; new = h.new; source = right; filter = filters later },
-    h.none,
-    h.few,
-    refl,
-    names_are,
-  )
-
-  made_whole : (back : List Token) (d : Dataset) → IsAtWritten names base r back (at.Made d) → IsAtWritten names base r back (at.Kept d)
-  made_whole back d h =
-      let source = source_written h.0 in
-      whole_dataset back d h.0 None None (h.1 ∙ ap (λ (l : List Token). Fixed marks.Let ∷ Word d.name ∷ Fixed marks.Equal ∷ l) (sym (append-nil source) ∙ sym (append-nil (source ++ [])))) h.2 h.3 h.4 (λ later. tt)
-
-  goes_made : (back : List Token) (d : Dataset) (mark : Mark) → IsAtWritten names base r back (at.Made d) → IfSome (after_made r d mark) (Goes (back ++ Fixed mark ∷ []))
-  unfolding filter_steps
-  goes_made back d marks.Where h = stays (back ++ Fixed marks.Where ∷ []) (at.Filter d.name d.parent filter_start) (h.0, [], ap (λ (l : List Token). l ++ Fixed marks.Where ∷ []) h.1, h.2, h.3, nothing_read h.4)
-    where
-      nothing_read : r.names ≡ base → filter_steps base filter_start [] ≡ Some (r.names, filter_start)
-      nothing_read e = ap (λ (l : List (List ℕ)). Some (l, filter_start)) (sym e)
-  goes_made back d marks.Keep h = stays (back ++ Fixed marks.Keep ∷ []) (at.Level d) (
-    h.0,
-    None,
-    ap (λ (l : List Token). l ++ Fixed marks.Keep ∷ []) h.1 ∙ ap (λ (l : List Token). Fixed marks.Let ∷ Word d.name ∷ Fixed marks.Equal ∷ (l ++ Fixed marks.Keep ∷ [])) (sym (append-nil (source_written h.0))),
-    h.2,
-    h.3,
-    h.4,
-    λ later. tt,
-  )
-  goes_made back d mark h = goes_dataset back d mark (made_whole back d h)
-
-  level_whole : (back : List Token) (d : Dataset) (level : Level) → IsAtWritten names base r back (at.Level d) → IsAtWritten names base r (back ++ level_written level) (at.Kept (record d { level = Some level }))
-  level_whole back d level h =
-      whole_dataset (back ++ level_written level) (record d { level = Some level }) h.0 h.1 (Some level)
-      (ap (λ (l : List Token). l ++ level_written level) h.2 ∙ ap (λ (l : List Token). Fixed marks.Let ∷ Word d.name ∷ Fixed marks.Equal ∷ l) (append_assoc (source_written h.0 ++ where_written h.1) (Fixed marks.Keep ∷ []) (level_written level)))
-      h.3 h.4 h.5 h.6
-
-  goes_keep : (back : List Token) (d : Dataset) (mark : Mark) → IsAtWritten names base r back (at.Level d) → IfSome (after_keep r d mark) (Goes (back ++ Fixed mark ∷ []))
-  goes_keep back d marks.Memory h = stays (back ++ Fixed marks.Memory ∷ []) (at.Kept (record d { level = Some levels.Memory })) (level_whole back d levels.Memory h)
-  goes_keep back d marks.Disk h = stays (back ++ Fixed marks.Disk ∷ []) (at.Kept (record d { level = Some levels.Disk })) (level_whole back d levels.Disk h)
-  goes_keep back d _ h = tt
-
-  -- ---- filters
-
-  -- the names change, and nothing else
-  abbrev renamed : (more : List (List ℕ)) → AreBefore (record r { names = more }) front
-  renamed more = record {
-    made = before.made;
-    written = before.written;
-    tokens_are = before.tokens_are;
-    names_are = before.names_are;
-    made_right = before.made_right;
-    made_few = before.made_few;
-    as_many = before.as_many;
-    few = before.few;
-    right = before.right;
-  }
-
-  -- the filter that was read
-  filter_is : (fs : List Token) (s : FilterState) (filter : Filter) → filter_steps base filter_start fs ≡ Some (r.names, s) → filter_at s ≡ Some filter
-      → (r.names ≡ with_names base (token_names fs)) × ((later : List (List ℕ)) → IsWrittenFilter (with_names r.names later) fs (token_names fs) filter)
-  filter_is fs s filter e is = (
-    (let w = filter_read base r.names [] fs s filter e is in sym w.1 ∙ ap (with_names base) (filter_uses_are (with_names r.names []) fs w.0 filter w.2)),
-    λ later.
-        let w = filter_read base r.names later fs s filter e is in
-        subst (λ (l : List (List ℕ)). IsWrittenFilter (with_names r.names later) fs l filter) (filter_uses_are (with_names r.names later) fs w.0 filter w.2) w.2,
-  )
-
-  goes_filter_keep : (back : List Token) (name : List ℕ) (parent : ℕ) (s : FilterState) (o : Option Filter) → filter_at s ≡ o → IsAtWritten names base r back (at.Filter name parent s) → IfSome (filter_ended r name parent o marks.Keep) (Goes (back ++ Fixed marks.Keep ∷ []))
-  goes_filter_keep back name parent s None e h = tt
-  goes_filter_keep back name parent s (Some filter) e h =
-      let is = filter_is h.1 s filter h.5 e in
-      stays (back ++ Fixed marks.Keep ∷ []) (at.Level (made_from name parent (Some filter))) (
-        h.0,
-        Some (record { tokens = h.1; used = token_names h.1; means = filter }),
-        ap (λ (l : List Token). l ++ Fixed marks.Keep ∷ []) h.2,
-        h.3,
-        h.4,
-        is.0,
-        is.1,
-      )
-
-  goes_filter_end : (back : List Token) (name : List ℕ) (parent : ℕ) (s : FilterState) (o : Option Filter) → filter_at s ≡ o → IsAtWritten names base r back (at.Filter name parent s) → IfSome (filter_ended r name parent o marks.Semicolon) (Goes (back ++ Fixed marks.Semicolon ∷ []))
-  goes_filter_end back name parent s None e h = tt
-  goes_filter_end back name parent s (Some filter) e h =
-      let is = filter_is h.1 s filter h.5 e in
-      let dataset = made_from name parent (Some filter) in
-      goes_dataset back dataset marks.Semicolon (whole_dataset back dataset h.0 (Some (record { tokens = h.1; used = token_names h.1; means = filter })) None
-      (h.2 ∙ ap (λ (l : List Token). Fixed marks.Let ∷ Word name ∷ Fixed marks.Equal ∷ l) (sym (append-nil (source_written h.0 ++ Fixed marks.Where ∷ h.1)))) h.3 h.4 is.0 is.1)
-
-  goes_filtered : (back : List Token) (name : List ℕ) (parent : ℕ) (s : FilterState) (t : Token) (o : Option (List (List ℕ) × FilterState)) → filter_step r.names s t ≡ o → IsAtWritten names base r back (at.Filter name parent s)
-      → IfSome (filtered r name parent o) (Goes (back ++ t ∷ []))
-  unfolding filter_steps
-  goes_filtered back name parent s t None e h = tt
-  goes_filtered back name parent s t (Some next) e h = λ _. (
-    front,
-    back ++ t ∷ [],
-    refl,
-    renamed next.0,
-    (
-      h.0,
-      h.1 ++ t ∷ [],
-      ap (λ (l : List Token). l ++ t ∷ []) h.2 ∙ ap (λ (l : List Token). Fixed marks.Let ∷ Word name ∷ Fixed marks.Equal ∷ l) (append_assoc (source_written h.0) (Fixed marks.Where ∷ h.1) (t ∷ [])),
-      record { none = h.3.none; few = h.3.few; short = h.3.short; new = h.3.new },
-      h.4,
-      one_more_token,
-    ),
-  )
-    where
-      one_more_token : filter_steps base filter_start (h.1 ++ t ∷ []) ≡ Some (next.0, next.1)
-      one_more_token = filter_steps-append h.1 (t ∷ []) base filter_start ∙ ap (λ (o : Option (List (List ℕ) × FilterState)). option_and_then (λ next. filter_steps next.0 next.1 (t ∷ [])) o) h.5
-          ∙ ap (λ (o : Option (List (List ℕ) × FilterState)). option_and_then (λ next. filter_steps next.0 next.1 []) o) e
-
-  goes_in_filter : (back : List Token) (name : List ℕ) (parent : ℕ) (s : FilterState) (t : Token) → IsAtWritten names base r back (at.Filter name parent s) → IfSome (in_filter r name parent s t) (Goes (back ++ t ∷ []))
-  goes_in_filter back name parent s (Fixed marks.Keep) h = goes_filter_keep back name parent s (filter_at s) refl h
-  goes_in_filter back name parent s (Fixed marks.Semicolon) h = goes_filter_end back name parent s (filter_at s) refl h
-  goes_in_filter back name parent s t h = goes_filtered back name parent s t (filter_step r.names s t) refl h
-
-  -- a source that is known
-  goes_parent : (back : List Token) (name : List ℕ) (source : WrittenSource) (parent : ℕ) → IsSourceRight (dataset_names r.datasets) source → IsAtWritten names base r back (at.DatasetSource name)
-      → IfSome (after_parent r name (Some parent)) (Goes (back ++ source_written source))
-  goes_parent back name source parent right h = stays (back ++ source_written source) (at.Made (made_from name parent None)) (source, ap (λ (l : List Token). l ++ source_written source) h.0, h.1, right, h.2)
-
-  goes_parent_mark : (back : List Token) (name : List ℕ) (mark : Mark) → IsAtWritten names base r back (at.DatasetSource name) → IfSome (after_parent r name (input_as mark)) (Goes (back ++ Fixed mark ∷ []))
-  goes_parent_mark back name marks.Input h = goes_parent back name input 0 tt h
-  goes_parent_mark back name _ h = tt
-
-  goes_parent_word : (back : List Token) (name title : List ℕ) → IsAtWritten names base r back (at.DatasetSource name) → IfSome (after_parent r name (number_of r.datasets title)) (Goes (back ++ Word title ∷ []))
-  goes_parent_word back name title h = by (is_among (dataset_names r.datasets) title) refl
-    where
-      by : (b : Bool) → is_among (dataset_names r.datasets) title ≡ b → IfSome (after_parent r name (cond b (Some (place_of (dataset_names r.datasets) title + 1)) None)) (Goes (back ++ Word title ∷ []))
-      by true e = goes_parent back name (by_name title) (place_of (dataset_names r.datasets) title + 1) e h
-      by false e = tt
-
-  goes_equals : (back : List Token) (name : List ℕ) (mark : Mark) → IsAtWritten names base r back (at.DatasetEquals name) → IfSome (after_equals r name mark) (Goes (back ++ Fixed mark ∷ []))
-  goes_equals back name marks.Equal h = stays (back ++ Fixed marks.Equal ∷ []) (at.DatasetSource name) (ap (λ (l : List Token). l ++ Fixed marks.Equal ∷ []) h.0, h.1, h.2)
-  goes_equals back name _ h = tt
-
-  goes_name : (back : List Token) (title : List ℕ) → IsAtWritten names base r back at.DatasetName → IfSome (after_name r title) (Goes (back ++ Word title ∷ []))
-  goes_name back title h =
-      goes_cond (back ++ Word title ∷ []) (nat_le (length title) 64 && not (is_among (dataset_names r.datasets) title)) (record { read = r; at = at.DatasetEquals title }) (λ t.
-      let both = and_parts (nat_le (length title) 64) (not (is_among (dataset_names r.datasets) title)) t in
-      stays (back ++ Word title ∷ []) (at.DatasetEquals title) (
-        ap (λ (l : List Token). l ++ Word title ∷ []) h.0,
-        record { none = h.1; few = h.2; short = leb-true (length title) 64 both.0; new = not-true (is_among (dataset_names r.datasets) title) both.1 },
-        h.3,
-      ))
-
   goes_query : (back : List Token) (mark : Mark) → back ≡ [] → IfSome (after_query r mark) (Goes (back ++ Fixed mark ∷ []))
-  goes_query back marks.Group h = stays (back ++ Fixed marks.Group ∷ []) (at.GroupColumn []) ([], ap (λ (l : List Token). l ++ Fixed marks.Group ∷ []) h, no_items column_written (column_meant names) name_of IsShortColumn)
-  goes_query back marks.Order h = stays (back ++ Fixed marks.Order ∷ []) (at.Key []) ([], ap (λ (l : List Token). l ++ Fixed marks.Order ∷ []) h, no_items key_written (key_meant names) key_name IsShortKey)
+  goes_query back marks.Group h = stays names r front before (back ++ Fixed marks.Group ∷ []) (at.GroupColumn []) ([], ap (λ (l : List Token). l ++ Fixed marks.Group ∷ []) h, no_items column_written (column_meant names) name_of IsShortColumn)
+  goes_query back marks.Order h = stays names r front before (back ++ Fixed marks.Order ∷ []) (at.Key []) ([], ap (λ (l : List Token). l ++ Fixed marks.Order ∷ []) h, no_items key_written (key_meant names) key_name IsShortKey)
   goes_query back _ h = tt
 
   goes_start : (back : List Token) (mark : Mark) → IsAtWritten names base r back at.Start → IfSome (after_start r mark) (Goes (back ++ Fixed mark ∷ []))
-  goes_start back marks.Let h = goes_cond (back ++ Fixed marks.Let ∷ []) (nat_lt (length r.datasets) 8) (record { read = r; at = at.DatasetName }) (λ t. stays (back ++ Fixed marks.Let ∷ []) at.DatasetName (ap (λ (l : List Token). l ++ Fixed marks.Let ∷ []) h.0, h.1, ltb-true _ _ t, h.2))
+  goes_start back marks.Let h = goes_cond names r front before (back ++ Fixed marks.Let ∷ []) (nat_lt (length r.datasets) 8) (record { read = r; at = at.DatasetName }) (λ t. stays names r front before (back ++ Fixed marks.Let ∷ []) at.DatasetName (ap (λ (l : List Token). l ++ Fixed marks.Let ∷ []) h.0, h.1, ltb-true _ _ t, h.2))
   goes_start back mark h = goes_query back mark h.0
 
   goes_group_columns : (back : List Token) (columns : List ℕ) (mark : Mark) → IsAtWritten names base r back (at.GroupColumns columns) → IfSome (after_group_columns r columns mark) (Goes (back ++ Fixed mark ∷ []))
-  goes_group_columns back columns marks.Comma h = more (back ++ Fixed marks.Comma ∷ []) columns (at.GroupColumn columns) (λ lt. (
+  goes_group_columns back columns marks.Comma h = more names r front before (back ++ Fixed marks.Comma ∷ []) columns (at.GroupColumn columns) (λ lt. (
     h.0 ++ Fixed marks.Comma ∷ [],
     on_one (Fixed marks.Group) h.0 back (Fixed marks.Comma ∷ []) h.1,
     opened column_written (column_meant names) name_of IsShortColumn columns h.0 h.2 lt,
   ))
-  goes_group_columns back columns marks.Colon h = stays (back ++ Fixed marks.Colon ∷ []) (at.Part columns []) (
+  goes_group_columns back columns marks.Colon h = stays names r front before (back ++ Fixed marks.Colon ∷ []) (at.Part columns []) (
     h.0,
     [],
     on_one (Fixed marks.Group) h.0 back (Fixed marks.Colon ∷ []) h.1,
@@ -336,23 +71,23 @@ module _ (names : List (List ℕ)) (r : Read) (front : List Token) (before : Are
   goes_group_columns back columns _ h = tt
 
   goes_part : (back : List Token) (columns : List ℕ) (parts : List Part) (mark : Mark) → IsAtWritten names base r back (at.Part columns parts) → IfSome (after_part r columns parts mark) (Goes (back ++ Fixed mark ∷ []))
-  goes_part back columns parts marks.Count h = goes_none (back ++ Fixed marks.Count ∷ []) (has_part parts counted) (record { read = r; at = at.Parts columns (parts ++ counted ∷ []) }) (λ free. stays (back ++ Fixed marks.Count ∷ []) (at.Parts columns (parts ++ counted ∷ [])) (
+  goes_part back columns parts marks.Count h = goes_none names r front before (back ++ Fixed marks.Count ∷ []) (has_part parts counted) (record { read = r; at = at.Parts columns (parts ++ counted ∷ []) }) (λ free. stays names r front before (back ++ Fixed marks.Count ∷ []) (at.Parts columns (parts ++ counted ∷ [])) (
     h.0,
     h.1 ++ Fixed marks.Count ∷ [],
     on_two (Fixed marks.Group) (Fixed marks.Colon) h.0 h.1 back (Fixed marks.Count ∷ []) h.2,
     h.3,
     part_is names base r parts h.1 h.4 count counted (Fixed marks.Count ∷ []) refl refl tt free,
   ))
-  goes_part back columns parts marks.Sum h = stays (back ++ Fixed marks.Sum ∷ []) (at.PartColumn columns parts aggs.Sum) (h.0, h.1, on_two (Fixed marks.Group) (Fixed marks.Colon) h.0 h.1 back (Fixed marks.Sum ∷ []) h.2, h.3, h.4, refl)
-  goes_part back columns parts marks.Min h = stays (back ++ Fixed marks.Min ∷ []) (at.PartColumn columns parts aggs.Min) (h.0, h.1, on_two (Fixed marks.Group) (Fixed marks.Colon) h.0 h.1 back (Fixed marks.Min ∷ []) h.2, h.3, h.4, refl)
-  goes_part back columns parts marks.Max h = stays (back ++ Fixed marks.Max ∷ []) (at.PartColumn columns parts aggs.Max) (h.0, h.1, on_two (Fixed marks.Group) (Fixed marks.Colon) h.0 h.1 back (Fixed marks.Max ∷ []) h.2, h.3, h.4, refl)
+  goes_part back columns parts marks.Sum h = stays names r front before (back ++ Fixed marks.Sum ∷ []) (at.PartColumn columns parts aggs.Sum) (h.0, h.1, on_two (Fixed marks.Group) (Fixed marks.Colon) h.0 h.1 back (Fixed marks.Sum ∷ []) h.2, h.3, h.4, refl)
+  goes_part back columns parts marks.Min h = stays names r front before (back ++ Fixed marks.Min ∷ []) (at.PartColumn columns parts aggs.Min) (h.0, h.1, on_two (Fixed marks.Group) (Fixed marks.Colon) h.0 h.1 back (Fixed marks.Min ∷ []) h.2, h.3, h.4, refl)
+  goes_part back columns parts marks.Max h = stays names r front before (back ++ Fixed marks.Max ∷ []) (at.PartColumn columns parts aggs.Max) (h.0, h.1, on_two (Fixed marks.Group) (Fixed marks.Colon) h.0 h.1 back (Fixed marks.Max ∷ []) h.2, h.3, h.4, refl)
   goes_part back columns parts _ h = tt
 
   goes_source_word : (back : List Token) (shape : Shape) → IsShapeWhole names base r back → Goes (back ++ Fixed marks.From ∷ []) (record { read = r; at = at.Source shape })
-  goes_source_word back shape h = stays (back ++ Fixed marks.From ∷ []) (at.Source shape) (h.0, ap (λ (l : List Token). l ++ Fixed marks.From ∷ []) h.1, h.2)
+  goes_source_word back shape h = stays names r front before (back ++ Fixed marks.From ∷ []) (at.Source shape) (h.0, ap (λ (l : List Token). l ++ Fixed marks.From ∷ []) h.1, h.2)
 
   goes_parts : (back : List Token) (columns : List ℕ) (parts : List Part) (mark : Mark) → IsAtWritten names base r back (at.Parts columns parts) → IfSome (after_parts r columns parts mark) (Goes (back ++ Fixed mark ∷ []))
-  goes_parts back columns parts marks.Comma h = more (back ++ Fixed marks.Comma ∷ []) parts (at.Part columns parts) (λ lt. (
+  goes_parts back columns parts marks.Comma h = more names r front before (back ++ Fixed marks.Comma ∷ []) parts (at.Part columns parts) (λ lt. (
     h.0,
     h.1 ++ Fixed marks.Comma ∷ [],
     on_two (Fixed marks.Group) (Fixed marks.Colon) h.0 h.1 back (Fixed marks.Comma ∷ []) h.2,
@@ -360,15 +95,15 @@ module _ (names : List (List ℕ)) (r : Read) (front : List Token) (before : Are
     opened agg_written (agg_meant names) agg_named IsShortAgg parts h.1 h.4 lt,
   ))
   goes_parts back columns parts marks.From h = goes_source_word back (shapes.Group columns parts) (group_whole names base r back columns parts h)
-  goes_parts back columns parts mark h = goes_ended back (query_of 0 (shapes.Group columns parts)) mark (without_source names base r back (group_whole names base r back columns parts h))
+  goes_parts back columns parts mark h = goes_ended names r front before back (query_of 0 (shapes.Group columns parts)) mark (without_source names base r back (group_whole names base r back columns parts h))
 
   goes_keys : (back : List Token) (keys : List KeyItem) (mark : Mark) → IsAtWritten names base r back (at.Keys keys) → IfSome (after_keys r keys mark) (Goes (back ++ Fixed mark ∷ []))
-  goes_keys back keys marks.Comma h = more (back ++ Fixed marks.Comma ∷ []) keys (at.Key keys) (λ lt. (
+  goes_keys back keys marks.Comma h = more names r front before (back ++ Fixed marks.Comma ∷ []) keys (at.Key keys) (λ lt. (
     h.0 ++ Fixed marks.Comma ∷ [],
     on_one (Fixed marks.Order) h.0 back (Fixed marks.Comma ∷ []) h.1,
     opened key_written (key_meant names) key_name IsShortKey keys h.0 h.2 lt,
   ))
-  goes_keys back keys marks.Colon h = stays (back ++ Fixed marks.Colon ∷ []) (at.OrderColumn keys []) (
+  goes_keys back keys marks.Colon h = stays names r front before (back ++ Fixed marks.Colon ∷ []) (at.OrderColumn keys []) (
     h.0,
     [],
     on_one (Fixed marks.Order) h.0 back (Fixed marks.Colon ∷ []) h.1,
@@ -378,12 +113,12 @@ module _ (names : List (List ℕ)) (r : Read) (front : List Token) (before : Are
   goes_keys back keys _ h = tt
 
   goes_key_column : (back : List Token) (keys : List KeyItem) (column : ℕ) (number : Bool) (mark : Mark) → IsAtWritten names base r back (at.KeyColumn keys column number) → IfSome (after_key_column r keys column number mark) (Goes (back ++ Fixed mark ∷ []))
-  goes_key_column back keys column number marks.Down h = stays (back ++ Fixed marks.Down ∷ []) (at.Keys (key keys column number true)) (key_more names base r back keys column number true h)
+  goes_key_column back keys column number marks.Down h = stays names r front before (back ++ Fixed marks.Down ∷ []) (at.Keys (key keys column number true)) (key_more names base r back keys column number true h)
   goes_key_column back keys column number mark h =
       goes_keys back (key keys column number false) mark (subst (λ (l : List Token). IsAtWritten names base r l (at.Keys (key keys column number false))) (append-nil back) (key_more names base r back keys column number false h))
 
   goes_order_columns : (back : List Token) (keys : List KeyItem) (columns : List ℕ) (mark : Mark) → IsAtWritten names base r back (at.OrderColumns keys columns) → IfSome (after_order_columns r keys columns mark) (Goes (back ++ Fixed mark ∷ []))
-  goes_order_columns back keys columns marks.Comma h = more (back ++ Fixed marks.Comma ∷ []) columns (at.OrderColumn keys columns) (λ lt. (
+  goes_order_columns back keys columns marks.Comma h = more names r front before (back ++ Fixed marks.Comma ∷ []) columns (at.OrderColumn keys columns) (λ lt. (
     h.0,
     h.1 ++ Fixed marks.Comma ∷ [],
     on_two (Fixed marks.Order) (Fixed marks.Colon) h.0 h.1 back (Fixed marks.Comma ∷ []) h.2,
@@ -391,11 +126,11 @@ module _ (names : List (List ℕ)) (r : Read) (front : List Token) (before : Are
     opened column_written (column_meant names) name_of IsShortColumn columns h.1 h.4 lt,
   ))
   goes_order_columns back keys columns marks.From h = goes_source_word back (shapes.Order keys columns) (order_whole names base r back keys columns h)
-  goes_order_columns back keys columns mark h = goes_ended back (query_of 0 (shapes.Order keys columns)) mark (without_source names base r back (order_whole names base r back keys columns h))
+  goes_order_columns back keys columns mark h = goes_ended names r front before back (query_of 0 (shapes.Order keys columns)) mark (without_source names base r back (order_whole names base r back keys columns h))
 
   goes_source : (back : List Token) (shape : Shape) (source : WrittenSource) (dataset : ℕ) → IsSourceRight (dataset_names r.datasets) source → IsAtWritten names base r back (at.Source shape)
       → IfSome (after_source r shape (Some dataset)) (Goes (back ++ source_written source))
-  goes_source back shape source dataset right h = stays (back ++ source_written source) (at.Sourced (query_of dataset shape)) (
+  goes_source back shape source dataset right h = stays names r front before (back ++ source_written source) (at.Sourced (query_of dataset shape)) (
     record { shape = h.0; source = Some source },
     ap (λ (l : List Token). l ++ source_written source) h.1 ∙ append_assoc (shape_written h.0) (Fixed marks.From ∷ []) (source_written source),
     record { shape = h.2; source = right },
@@ -413,18 +148,18 @@ module _ (names : List (List ℕ)) (r : Read) (front : List Token) (before : Are
       by false e = tt
 
   goes_number : (back : List Token) (keys : List KeyItem) (mark : Mark) → IsAtWritten names base r back (at.Key keys) → IfSome (after_mark r (at.Key keys) mark) (Goes (back ++ Fixed mark ∷ []))
-  goes_number back keys marks.Number h = stays (back ++ Fixed marks.Number ∷ []) (at.NumberKey keys) (h.0, on_one (Fixed marks.Order) h.0 back (Fixed marks.Number ∷ []) h.1, h.2)
+  goes_number back keys marks.Number h = stays names r front before (back ++ Fixed marks.Number ∷ []) (at.NumberKey keys) (h.0, on_one (Fixed marks.Order) h.0 back (Fixed marks.Number ∷ []) h.1, h.2)
   goes_number back keys _ h = tt
 
   goes_mark : (back : List Token) (place : At) (mark : Mark) → IsAtWritten names base r back place → IfSome (after_mark r place mark) (Goes (back ++ Fixed mark ∷ []))
   goes_mark back at.Start mark h = goes_start back mark h
   goes_mark back at.DatasetName mark h = tt
-  goes_mark back (at.DatasetEquals name) mark h = goes_equals back name mark h
-  goes_mark back (at.DatasetSource name) mark h = goes_parent_mark back name mark h
-  goes_mark back (at.Made dataset) mark h = goes_made back dataset mark h
-  goes_mark back (at.Filter name parent filter) mark h = goes_in_filter back name parent filter (Fixed mark) h
-  goes_mark back (at.Level dataset) mark h = goes_keep back dataset mark h
-  goes_mark back (at.Kept dataset) mark h = goes_dataset back dataset mark h
+  goes_mark back (at.DatasetEquals name) mark h = goes_equals names r front before back name mark h
+  goes_mark back (at.DatasetSource name) mark h = goes_parent_mark names r front before back name mark h
+  goes_mark back (at.Made dataset) mark h = goes_made names r front before back dataset mark h
+  goes_mark back (at.Filter name parent filter) mark h = goes_in_filter names r front before back name parent filter (Fixed mark) h
+  goes_mark back (at.Level dataset) mark h = goes_keep names r front before back dataset mark h
+  goes_mark back (at.Kept dataset) mark h = goes_dataset names r front before back dataset mark h
   goes_mark back at.Query mark h = goes_query back mark h
   goes_mark back (at.GroupColumn columns) mark h = tt
   goes_mark back (at.GroupColumns columns) mark h = goes_group_columns back columns mark h
@@ -438,7 +173,7 @@ module _ (names : List (List ℕ)) (r : Read) (front : List Token) (before : Are
   goes_mark back (at.OrderColumn keys columns) mark h = tt
   goes_mark back (at.OrderColumns keys columns) mark h = goes_order_columns back keys columns mark h
   goes_mark back (at.Source shape) mark h = goes_source_mark back shape mark h
-  goes_mark back (at.Sourced query) mark h = goes_ended back query mark h
+  goes_mark back (at.Sourced query) mark h = goes_ended names r front before back query mark h
 
   -- ---- columns
 
@@ -448,10 +183,10 @@ module _ (names : List (List ℕ)) (r : Read) (front : List Token) (before : Are
 
   goes_named : (back : List Token) (c : WrittenColumn) (is_taken : ℕ → Bool) (next : ℕ → At) → ((place : ℕ) → place ≡ column_meant names c → IsShortColumn c → is_taken place ≡ false → IsAtWritten names base (record r { names = with_name r.names (name_of c) }) back (next place))
       → IfSome (named r is_taken next (Some (name_of c))) (Goes back)
-  goes_named back c is_taken next h = goes_cond back (is_short (name_of c) && (if is_taken (place_of r.names (name_of c)) then false else true)) (put (with_name r.names (name_of c)) r.datasets r.queries (next (place_of r.names (name_of c)))) (λ t. λ reach.
+  goes_named back c is_taken next h = goes_cond names r front before back (is_short (name_of c) && (if is_taken (place_of r.names (name_of c)) then false else true)) (put (with_name r.names (name_of c)) r.datasets r.queries (next (place_of r.names (name_of c)))) (λ t. λ reach.
       let both = and_parts (is_short (name_of c)) (if is_taken (place_of r.names (name_of c)) then false else true) t in
       let there = place_now r.names (name_of c) reach.0 ∙ ap (λ (l : List (List ℕ)). place_of l (name_of c)) reach.1 in
-      (front, back, refl, renamed (with_name r.names (name_of c)), h (place_of r.names (name_of c)) there (leb-true (length (name_of c)) 1024 both.0) (free_of (is_taken (place_of r.names (name_of c))) both.1)))
+      (front, back, refl, renamed names r front before (with_name r.names (name_of c)), h (place_of r.names (name_of c)) there (leb-true (length (name_of c)) 1024 both.0) (free_of (is_taken (place_of r.names (name_of c))) both.1)))
 
   goes_column : (back : List Token) (c : WrittenColumn) (place : At) → IsAtWritten names base r back place → IfSome (after_column r place (Some (name_of c))) (Goes (back ++ column_written c))
   goes_column back c (at.GroupColumn columns) h = goes_named (back ++ column_written c) c (has_column columns) (λ p. at.GroupColumns (columns ++ p ∷ [])) (λ place e short free. (
@@ -494,9 +229,9 @@ module _ (names : List (List ℕ)) (r : Read) (front : List Token) (before : Are
   goes_column back c _ h = tt
 
   goes_word : (back : List Token) (name : List ℕ) (place : At) → IsAtWritten names base r back place → IfSome (after_word r place name) (Goes (back ++ Word name ∷ []))
-  goes_word back name (at.Filter dataset parent filter) h = goes_in_filter back dataset parent filter (Word name) h
-  goes_word back name at.DatasetName h = goes_name back name h
-  goes_word back name (at.DatasetSource dataset) h = goes_parent_word back dataset name h
+  goes_word back name (at.Filter dataset parent filter) h = goes_in_filter names r front before back dataset parent filter (Word name) h
+  goes_word back name at.DatasetName h = goes_name names r front before back name h
+  goes_word back name (at.DatasetSource dataset) h = goes_parent_word names r front before back dataset name h
   goes_word back name (at.Source shape) h = goes_source_name back shape name h
   goes_word back name (at.GroupColumn columns) h = goes_column back (word name) (at.GroupColumn columns) h
   goes_word back name (at.PartColumn columns parts agg) h = goes_column back (word name) (at.PartColumn columns parts agg) h
@@ -506,7 +241,7 @@ module _ (names : List (List ℕ)) (r : Read) (front : List Token) (before : Are
   goes_word back name _ h = tt
 
   goes_quoted : (back : List Token) (name : List ℕ) (place : At) → IsAtWritten names base r back place → IfSome (after_quoted r place name) (Goes (back ++ Quoted name ∷ []))
-  goes_quoted back name (at.Filter dataset parent filter) h = goes_in_filter back dataset parent filter (Quoted name) h
+  goes_quoted back name (at.Filter dataset parent filter) h = goes_in_filter names r front before back dataset parent filter (Quoted name) h
   goes_quoted back name (at.GroupColumn columns) h = goes_column back (in_quotes name) (at.GroupColumn columns) h
   goes_quoted back name (at.PartColumn columns parts agg) h = goes_column back (in_quotes name) (at.PartColumn columns parts agg) h
   goes_quoted back name (at.Key keys) h = goes_column back (in_quotes name) (at.Key keys) h
@@ -515,7 +250,7 @@ module _ (names : List (List ℕ)) (r : Read) (front : List Token) (before : Are
   goes_quoted back name _ h = tt
 
   goes_constant : (back : List Token) (t : Token) (place : At) → IsAtWritten names base r back place → IfSome (after_constant r place t) (Goes (back ++ t ∷ []))
-  goes_constant back t (at.Filter name parent filter) h = goes_in_filter back name parent filter t h
+  goes_constant back t (at.Filter name parent filter) h = goes_in_filter names r front before back name parent filter t h
   goes_constant back t _ h = tt
 
 module _ (names : List (List ℕ)) where

@@ -30,6 +30,7 @@ pub type QueryList = Listed<Query>;
 /// What is told of each group: how many rows it has, or the sum, the least or the greatest of a column.
 #[derive(Clone, Copy, Debug, PartialEq, Eq)]
 pub struct Part {
+    /// Which of the four.
     pub agg: Agg,
     /// The column, but for the count.
     pub column: Option<u32>,
@@ -38,8 +39,11 @@ pub struct Part {
 /// A column that rows are ordered by: as a number or byte by byte, the least or the greatest first.
 #[derive(Clone, Copy, Debug, PartialEq, Eq)]
 pub struct KeyItem {
+    /// The column, as its place in the job's names.
     pub column: u32,
+    /// Whether its fields are compared as numbers.
     pub number: bool,
+    /// Whether the greatest comes first.
     pub down: bool,
 }
 
@@ -55,7 +59,9 @@ pub enum Shape {
 /// A query over the rows of a dataset; 0 is the input.
 #[derive(Debug, Drop)]
 pub struct Query {
+    /// The dataset's number.
     pub dataset: u32,
+    /// Groups, or an order.
     pub shape: Shape,
 }
 
@@ -63,9 +69,13 @@ pub struct Query {
 /// a level, its rows are kept as blocks.
 #[derive(Drop)]
 pub struct Dataset {
+    /// What the text calls it.
     pub name: Name,
+    /// The number of the dataset that it is made from.
     pub parent: u32,
+    /// Which rows it keeps; without one all.
     pub filter: Option<Filter>,
+    /// Where its blocks are kept; without a level nowhere.
     pub level: Option<Level>,
 }
 
@@ -73,8 +83,11 @@ pub struct Dataset {
 /// queries.
 #[derive(Drop)]
 pub struct Job {
+    /// The columns that it names.
     pub names: NameList,
+    /// Its datasets, from number 1 on.
     pub datasets: DatasetList,
+    /// Its queries, in the order of the text.
     pub queries: QueryList,
 }
 

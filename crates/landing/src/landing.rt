@@ -35,8 +35,11 @@ const PAGE_ROOM: u64 = 262144;
 /// partition `p` on disk `p % workers`, and how many rows there are.
 #[derive(Drop)]
 pub struct Landed {
+    /// The job's plan over the header.
     pub plan: Plan,
+    /// The run of each partition.
     pub parts: Vec<Run>,
+    /// How many rows the input has below its header.
     pub rows: u64,
 }
 

@@ -6,8 +6,11 @@ use crate::entry::Event;
 /// What is kept of one task: the bytes that it holds, and whether it is active.
 #[derive(Clone, Copy)]
 pub struct Holding {
+    /// The task's number.
     pub task: u32,
+    /// How many bytes it holds.
     pub held: u64,
+    /// Whether it counts when shares are made.
     pub active: bool,
 }
 

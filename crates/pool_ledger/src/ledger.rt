@@ -242,10 +242,7 @@ impl Ledger {
     {
         let kept = self.kept(entry.worker);
         match (entry.event, kept.seat) {
-            (Event::Begin { task }, _) => Kept {
-                seat: Some(Holding::new(task)),
-                ..kept
-            },
+            (Event::Begin { task }, _) => kept.with_seat(Some(Holding::new(task))),
             (Event::Attempt { moved, got, .. }, Some(open)) => {
                 let next = open.granted(got.unwrap_or(0));
                 Kept {
@@ -274,25 +271,13 @@ impl Ledger {
                     ..kept
                 }
             }
-            (Event::Evict { size, .. }, _) => Kept {
-                stored: kept.stored - size,
-                ..kept
-            },
-            (Event::Remove { size, .. }, _) => Kept {
-                stored: kept.stored - size,
-                ..kept
-            },
-            (Event::Admit { size, borrowed, .. }, _) => Kept {
-                stored: kept.stored + size,
-                pool: kept.pool - borrowed,
-                ..kept
-            },
-            (Event::Refused { borrowed, .. }, _) => Kept {
-                pool: kept.pool - borrowed,
-                ..kept
-            },
+            (Event::Evict { size, .. }, _) => kept.with_stored(kept.stored - size),
+            (Event::Remove { size, .. }, _) => kept.with_stored(kept.stored - size),
+            (Event::Admit { size, borrowed, .. }, _) => kept
+                .with_stored(kept.stored + size)
+                .with_pool(kept.pool - borrowed),
+            (Event::Refused { borrowed, .. }, _) => kept.with_pool(kept.pool - borrowed),
             (Event::Pin { .. }, _) => kept,
-            (Event::Unpin { .. }, _) => kept,
             _ => kept,
         }
     }
@@ -324,6 +309,29 @@ struct Kept {
     stored: u64,
     pool: u64,
     active: u64,
+}
+
+impl Kept {
+    // The same sums, with another task at hand.
+    fn with_seat(self, seat: Option<Holding>) -> Kept
+        ensures { result ≡ record self { seat = seat } }
+    {
+        Kept { seat, ..self }
+    }
+
+    // The same sums, with so many bytes stored.
+    fn with_stored(self, stored: u64) -> Kept
+        ensures { result ≡ record self { stored = stored } }
+    {
+        Kept { stored, ..self }
+    }
+
+    // The same sums, with an execution pool of so many bytes.
+    fn with_pool(self, pool: u64) -> Kept
+        ensures { result ≡ record self { pool = pool } }
+    {
+        Kept { pool, ..self }
+    }
 }
 
 // Adds an entry for which there is room.

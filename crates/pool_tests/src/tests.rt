@@ -1,4 +1,5 @@
 mod asks;
+mod copies;
 mod entries;
 mod faults;
 mod game;

@@ -15,7 +15,9 @@ use run_file::Form;
 pub struct Link {
     /// The dataset that it is made from: 0 is the input, and the others are numbered as they stand.
     pub parent: u32,
+    /// Which rows it keeps; without one all.
     pub filter: Option<Filter>,
+    /// Where its blocks are kept; without a level nowhere.
     pub level: Option<Level>,
 }
 

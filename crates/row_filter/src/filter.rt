@@ -5,18 +5,26 @@ use item_lists::{Boxed, Listed, Name};
 /// How a test compares a field with its constant.
 #[derive(Clone, Copy, Debug, PartialEq, Eq)]
 pub enum Comparison {
+    /// `=`
     Equal,
+    /// `!=`
     NotEqual,
+    /// `<`
     Less,
+    /// `<=`
     AtMost,
+    /// `>`
     Greater,
+    /// `>=`
     AtLeast,
 }
 
 /// What a test compares a field with: as a number, or byte by byte.
 #[derive(Debug, Drop)]
 pub enum Constant {
+    /// A number of 64 bits with a sign.
     Number(i64),
+    /// A text, by its bytes.
     Text(Name),
 }
 

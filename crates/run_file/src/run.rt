@@ -6,25 +6,32 @@ ghost use Rattle.run_file.specs.Causes.{fault_by};
 use spill_disk::DiskError;
 use thiserror::Error;
 
-/// A file of rows that was written once. `bytes` and `count` are its bytes and rows, `greatest` is the
-/// greatest cost of a row, 24 bytes and its encoding, or 0 without rows. `disk` is a place of a shelf.
+/// A file of rows that was written once.
 #[derive(Clone, Copy, Debug, PartialEq, Eq)]
 pub struct Run {
+    /// Its disk, as a place of a shelf.
     pub disk: u32,
+    /// The file's number on its disk.
     pub file: u64,
+    /// How many bytes it has.
     pub bytes: u64,
+    /// How many rows it has.
     pub count: u64,
+    /// The greatest cost of a row in bytes, 24 and its encoding, or 0 without rows.
     pub greatest: u64,
 }
 
-/// A file that isn't what was written: of `kept` rows that were, the one after the first `found` isn't
-/// well formed. `disk` is a place of a shelf.
+/// A file that isn't what was written: the row after the first `found` isn't well formed.
 #[derive(Clone, Copy, Debug, PartialEq, Eq, Error)]
 #[error("file {file} of disk {disk} is damaged: {found} of {kept} rows were found")]
 pub struct Damage {
+    /// Its disk, as a place of a shelf.
     pub disk: u32,
+    /// The file's number on its disk.
     pub file: u64,
+    /// How many rows were written.
     pub kept: u64,
+    /// How many were found before the one that isn't well formed.
     pub found: u64,
 }
 

@@ -22,6 +22,7 @@ pub struct Opened<F: Read + Write + Seek + Drop> {
 }
 
 impl<F: Read + Write + Seek + Drop> Opened<F> {
+    /// A file that was opened now: nothing is collected, and nothing was read ahead.
     pub fn new(alloc: Global, file: F) -> Opened<F>
         ensures collected { result.collected.items ≡ [] }
         ensures ahead { result.ahead.items ≡ [] }

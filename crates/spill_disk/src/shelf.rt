@@ -54,6 +54,7 @@ pub trait Shelf<D: Disk> {
 /// One disk as a shelf: each number names it.
 #[derive(Drop)]
 pub struct One<'a, D: Disk> {
+    /// The disk that it lends.
     pub disk: &'a mut D,
 }
 

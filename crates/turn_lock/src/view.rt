@@ -14,12 +14,18 @@ pub enum Stage {
 
 /// The view of one pass's seat.
 pub struct View {
+    /// The pass's own number.
     pub number: u64,
+    /// The numbers that it speaks for.
     pub speaks: LinkedList<u64>,
+    /// The first number that it may still give away.
     pub spare: u64,
+    /// The history as it last saw it.
     pub seen: LinkedList<Entry>,
-    // The numbers and the list of a pass that was joined in, until the two lists are compared.
+    /// The numbers of a pass that was joined in, until the two lists are compared.
     pub joined: LinkedList<u64>,
+    /// The list of that pass.
     pub told: LinkedList<Entry>,
+    /// Where it is between two steps.
     pub stage: Stage,
 }

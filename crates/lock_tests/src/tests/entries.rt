@@ -158,6 +158,12 @@ fn put_block_entry(text: &mut String, worker: u64, event: Event) -> Result<(), A
             put_block(text, " refused", worker, dataset, part)?;
             put(text, "", &[size, borrowed, evictions])
         }
+        _ => put_use_entry(text, worker, event),
+    }
+}
+
+fn put_use_entry(text: &mut String, worker: u64, event: Event) -> Result<(), AllocError> {
+    match event {
         Event::Pin {
             dataset,
             part,

@@ -76,6 +76,12 @@ fn put_block_entry(text: &mut String, worker: u64, event: Event) -> Result<(), F
             let numbers = [worker, dataset, u64::from(part), size, borrowed, evictions];
             put(text, " refused", &numbers)
         }
+        _ => put_use_entry(text, worker, event),
+    }
+}
+
+fn put_use_entry(text: &mut String, worker: u64, event: Event) -> Result<(), Fail> {
+    match event {
         Event::Pin {
             dataset,
             part,

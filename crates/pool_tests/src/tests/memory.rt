@@ -1,8 +1,9 @@
 // Tasks that share a pool with blocks, by scripts of what their workers call.
 use crate::tests::asks::ASKS;
+use crate::tests::copies::{COPIES, CROWDS, REMOVALS, WAITS};
 use crate::tests::faults::{FAULTS, SCRIPT};
 use crate::tests::game::{Told, play_script};
-use crate::tests::scripts::{COPIES, CROWDS, EVICTIONS, LIMITS, LOANS, REMOVALS, USES, WAITS};
+use crate::tests::scripts::{EVICTIONS, LIMITS, LOANS, USES};
 use crate::tests::words::{counts, cut, reads};
 use pool_ledger::Setup;
 use std::alloc::Global;

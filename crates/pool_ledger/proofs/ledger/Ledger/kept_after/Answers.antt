@@ -67,8 +67,9 @@ overflow_sub-result-in-End-Some-2 c =
 pub returns-in-Begin-default : goal.returns-in-Begin-default
 returns-in-Begin-default c =
     let can = subst (λ e. CanFollow c.args.self.now.setup c.args.self.now.history (entry_of c.args.entry.worker e)) c.in-Begin-default.is-0 c.requires in
-    rw c.new.ensures
-    (at_entry _ _ _ c.args.entry _ c.in-Begin-default.is-0 (kept-Begin _ _ _ _ _ c.kept-kept.ensures.sums c.kept-kept.ensures.recorded can))
+    rw c.with_seat.ensures
+    (rw c.new.ensures
+    (at_entry _ _ _ c.args.entry _ c.in-Begin-default.is-0 (kept-Begin _ _ _ _ _ c.kept-kept.ensures.sums c.kept-kept.ensures.recorded can)))
 
 pub returns-in-Attempt-Some : goal.returns-in-Attempt-Some
 returns-in-Attempt-Some c =
@@ -95,25 +96,27 @@ can_evict c = subst (λ e. CanCome c.args.self.now.setup c.args.self.now.history
 can_remove : (c : In-Remove-default) → CanCome c.args.self.now.setup c.args.self.now.history c.args.entry.worker (Remove c.in-Remove-default.dataset-0 c.in-Remove-default.part-0 c.in-Remove-default.size)
 can_remove c = subst (λ e. CanCome c.args.self.now.setup c.args.self.now.history c.args.entry.worker e) c.in-Remove-default.is-0 c.requires.event_fits
 
-pub overflow_sub-result-in-Evict-default : goal.overflow_sub-result-in-Evict-default
-overflow_sub-result-in-Evict-default c =
-    let can = can_evict (goal.at.overflow_sub-result-in-Evict-default c).In-Evict-default in
+pub overflow_sub-kept : goal.overflow_sub-kept
+overflow_sub-kept c =
+    let can = can_evict (goal.at.overflow_sub-kept c).In-Evict-default in
     omega (arith, c.kept-kept.ensures.sums.stored_is, stored-without _ _ _ _ _ _ c.kept-kept.ensures.recorded can.1)
 
-pub overflow_sub-result-in-Remove-default : goal.overflow_sub-result-in-Remove-default
-overflow_sub-result-in-Remove-default c =
-    let can = can_remove (goal.at.overflow_sub-result-in-Remove-default c).In-Remove-default in
+pub overflow_sub-kept-in-Remove-default : goal.overflow_sub-kept-in-Remove-default
+overflow_sub-kept-in-Remove-default c =
+    let can = can_remove (goal.at.overflow_sub-kept-in-Remove-default c).In-Remove-default in
     omega (arith, c.kept-kept.ensures.sums.stored_is, stored-without _ _ _ _ _ _ c.kept-kept.ensures.recorded can.1)
 
 pub returns-in-Evict-default : goal.returns-in-Evict-default
 returns-in-Evict-default c =
-    at_entry _ _ _ c.args.entry _ c.in-Evict-default.is-0
-    (kept-Leave _ _ _ _ _ _ _ c.in-Evict-default.fate-0 c.kept-kept.ensures.sums c.kept-kept.ensures.recorded (can_evict (goal.at.returns-in-Evict-default c).In-Evict-default))
+    rw c.with_stored.ensures
+    (at_entry _ _ _ c.args.entry _ c.in-Evict-default.is-0
+    (kept-Leave _ _ _ _ _ _ _ c.in-Evict-default.fate-0 c.kept-kept.ensures.sums c.kept-kept.ensures.recorded (can_evict (goal.at.returns-in-Evict-default c).In-Evict-default)))
 
 pub returns-in-Remove-default : goal.returns-in-Remove-default
 returns-in-Remove-default c =
-    at_entry _ _ _ c.args.entry _ c.in-Remove-default.is-0
-    (kept-Remove _ _ _ _ _ _ _ c.kept-kept.ensures.sums c.kept-kept.ensures.recorded (can_remove (goal.at.returns-in-Remove-default c).In-Remove-default))
+    rw c.with_stored-in-Remove-default.ensures
+    (at_entry _ _ _ c.args.entry _ c.in-Remove-default.is-0
+    (kept-Remove _ _ _ _ _ _ _ c.kept-kept.ensures.sums c.kept-kept.ensures.recorded (can_remove (goal.at.returns-in-Remove-default c).In-Remove-default)))
 
 pub returns-in-Pin-default : goal.returns-in-Pin-default
 returns-in-Pin-default c =
