@@ -1,4 +1,5 @@
 pub mod PlaceFields
+pub mod ShortRecords
 pub mod Keeping
 pub mod Following
 pub mod Shelves
