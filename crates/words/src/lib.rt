@@ -9,8 +9,6 @@ mod numbers;
 mod parsing;
 mod plan;
 mod run;
-#[cfg(test)]
-mod tests;
 mod texts;
 mod trial;
 mod work;

@@ -1,9 +1,9 @@
 // Each call where its words are read: every field, by its default and as it is given.
-use crate::{
+use std::test::Fail;
+use words::{
     RunWords, TrialWords, WordsFault, WorkOptions, read_audit_words, read_plan_words,
     read_run_call, read_run_words, read_trial_words,
 };
-use std::test::Fail;
 
 const DEFAULTS: WorkOptions = WorkOptions {
     workers: 4,

@@ -1,10 +1,10 @@
 // Tables of lists of words, and what each of them says.
-use crate::{
+use std::alloc::Global;
+use std::test::Fail;
+use words::{
     WordsFault, WorkOptions, begins_with, read_audit_words, read_plan_words, read_run_call,
     read_trial_words,
 };
-use std::alloc::Global;
-use std::test::Fail;
 
 // What a list says as the tables write it: numbers, the flag and then the job in brackets, `ok` for nothing, and `bad`.
 pub fn told(alloc: Global, words: &[&str]) -> Result<String, Fail> {
