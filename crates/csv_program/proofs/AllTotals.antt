@@ -24,8 +24,8 @@ use Rattle.landing.specs.Checks.{checked}
 use Rattle.landing.specs.Landed.{AreChecked, AreRowsOf}
 use Rattle.result_table.specs.Results.{table_of}
 use Rattle.row_filter.specs.Derived.{derived}
-use Rattle.csv_program.specs.Endings.{ending_of_checked, ending_of_totals, ending_with, tables_of, totals_of, wide_among, wide_of}
-use Rattle.csv_program.specs.QueryResults.{dataset_in}
+use Rattle.job_ending.specs.Endings.{ending_of_checked, ending_of_totals, ending_with, tables_of, totals_of, wide_among, wide_of}
+use Rattle.job_ending.specs.Endings.{dataset_in}
 use Rattle.csv_program.proofs.Judged.{length-landed}
 
 -- ---- the queries by their numbers

@@ -1,7 +1,7 @@
 -- What is said of the rows of cached blocks is so, and is said of each where all disks tell.
-use Rattle.std.proofs.Common.{◌≡◌, ◌∙◌, ℕ, zero, suc, ◌+◌, ◌-◌, ◌*◌, ◌≤◌, ◌<◌, ◌%◌, Bool, true, false, List, [], ◌∷◌, Option, Some, None, length, map, take, drop, refl, sym, ap, subst, inl, inr, arith}
+use Rattle.std.proofs.Common.{◌≡◌, ◌∙◌, ℕ, zero, suc, ◌+◌, ◌-◌, ◌*◌, ◌≤◌, ◌<◌, ◌%◌, false, List, [], ◌∷◌, Option, Some, None, length, map, take, drop, refl, sym, ap, subst, inl, inr, arith}
 use Rattle.std.specs.Prelude.{IsSome, is_some, not, slice_get}
-use Rattle.std.specs.List.{AllByRecursion, list_all}
+use Rattle.std.specs.List.{list_all}
 use Rattle.std.specs.Option.{option_and_then, option_map}
 use Rattle.std.proofs.Math.Nat.{mod-lt}
 use Rattle.std.proofs.lemmas.Bool.{cases_Bool}
@@ -11,7 +11,7 @@ use Rattle.run_file.specs.Forms.{HasForm}
 use Rattle.run_file.specs.Runs.{Stands}
 use Rattle.run_file.specs.declared.run.Run.{Run}
 use Rattle.run_file.specs.Several.{run_at}
-use Rattle.row_filter.specs.Chains.{base_of, level_at, links_of}
+use Rattle.row_filter.specs.Chains.{base_of, level_at}
 use Rattle.row_filter.specs.Derived.{derived}
 use Rattle.row_filter.specs.declared.chain.Link.{Link}
 use Rattle.job_plan.specs.Columns.{Fields}
@@ -21,12 +21,12 @@ use Rattle.job_plan.specs.declared.query_plan.Plan.{Plan}
 use Rattle.job_text.specs.declared.job.Dataset.{Dataset}
 use Rattle.job_text.specs.declared.job.Job.{Job}
 use Rattle.landing.specs.Landed.{AreChecked, AreLanded, partition_of}
-use Rattle.lineage.specs.Standing.{HoldsInput, IsSaid, SaysKept}
+use Rattle.lineage.specs.Standing.{HoldsInput, SaysKept}
 use Rattle.csv_program.specs.Basis.{StandAs, rows_on, said_by}
-use Rattle.csv_program.specs.Calls.{keeps_none}
-use Rattle.csv_program.specs.Posts.{AllTell}
+use Rattle.job_ending.specs.Calls.{keeps_none}
+use Rattle.job_ending.specs.Posts.{AllTell}
 use Rattle.csv_program.specs.QueryResults.{SaysParts, lineage_in}
-use Rattle.csv_program.specs.declared.call.RunCall.{RunCall}
+use Rattle.job_ending.specs.declared.call.RunCall.{RunCall}
 use Rattle.csv_program.proofs.ToldTotals.{all_drop, all_take}
 
 -- ---- one partition

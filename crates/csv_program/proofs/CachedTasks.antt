@@ -1,15 +1,13 @@
 -- What the journal tells of cached blocks, pass by pass.
-use Rattle.std.proofs.Common.{◌≡◌, ◌∙◌, ℕ, ◌+◌, ◌*◌, ◌<◌, ◌≤◌, ◌%◌, ◌/◌, ◌++◌, List, Option, Some, None, length, get_or, sym, ap, subst, inl, inr, arith}
+use Rattle.std.proofs.Common.{◌≡◌, ℕ, ◌+◌, ◌*◌, ◌<◌, ◌≤◌, ◌%◌, ◌/◌, ◌++◌, List, Option, Some, None, length, get_or, sym, subst, inl, inr, arith}
 use Rattle.std.specs.Prelude.{IfSome, slice_index_or}
 use Rattle.std.proofs.Math.Nat.{mod-lt}
 use Rattle.std.proofs.lemmas.Bool.{cases_lt}
 use Rattle.pool_ledger.specs.declared.entry.Entry.{Entry}
-use Rattle.turn_lock.specs.Parts.{IsPart}
 use Rattle.turn_lock.specs.Passes.{LockId, PassState}
 use Rattle.memory_lock.specs.Crew.{AreWorkers, HasAll}
 use Rattle.job_plan.specs.Plans.{chain_in, passes_in}
 use Rattle.job_plan.specs.declared.query_plan.Plan.{Plan}
-use Rattle.task_pool.specs.Workers.{SeesMore}
 use Rattle.lineage.specs.LineageViews.{name_for}
 use Rattle.lineage.specs.Telling.{nearest}
 use Rattle.task_runner.specs.Blocks.{TellsBlock, TellsTask}

@@ -3,12 +3,12 @@ use Rattle.std.proofs.Common.{◌≡◌, ◌∙◌, ℕ, Option, None, sym, subs
 use Rattle.std.specs.Prelude.{◌⊎◌, IfSome}
 use Rattle.landing.specs.Landed.{IsOfInput}
 use Rattle.landing.specs.declared.fault.LandFault.{LandFault}
-use Rattle.csv_program.specs.Calls.{Call, ForNoRun, ForRun, IsWhyNot, NoCall, NoHeap, NoJob, Runs, TellsCall}
-use Rattle.csv_program.specs.Endings.{Ending, MayEndAs, status_of}
-use Rattle.csv_program.specs.Statuses.{IsDamaged, IsDamagedOn, IsJudged, IsUnlanded}
-use Rattle.csv_program.specs.declared.call.RunCall.{RunCall}
-use Rattle.csv_program.specs.declared.outcome.Status.{Status}
-use Rattle.csv_program.specs.declared.outcome.Status.TheVariants as status
+use Rattle.job_ending.specs.Calls.{Call, ForNoRun, ForRun, IsWhyNot, NoCall, NoHeap, NoJob, Runs, TellsCall}
+use Rattle.job_ending.specs.Endings.{Ending, MayEndAs, status_of}
+use Rattle.job_ending.specs.Statuses.{IsDamaged, IsDamagedOn, IsJudged, IsUnlanded}
+use Rattle.job_ending.specs.declared.call.RunCall.{RunCall}
+use Rattle.job_ending.specs.declared.status.Status.{Status}
+use Rattle.job_ending.specs.declared.status.Status.TheVariants as status
 use Rattle.csv_program.proofs.Judged.{comes_before, unlanded_refuses_nothing}
 
 -- ---- a call of a run

@@ -15,15 +15,16 @@ use Rattle.pool_ledger.specs.declared.entry.Entry.{Entry}
 use Rattle.pool_ledger.specs.declared.entry.Event.{Event}
 use Rattle.pool_ledger.specs.declared.entry.Event.TheVariants.{Attempt}
 use Rattle.task_account.specs.Attempts.{Answered, last_after, last_attempt}
-use Rattle.csv_program.specs.Calls.{Call, ForRun, Runs}
-use Rattle.csv_program.specs.declared.call.RunCall.{RunCall}
-use Rattle.csv_program.specs.Complete.{FailsNothing, GrantsAll, IsWhole}
-use Rattle.csv_program.specs.Endings.{ComesBefore, EndsAs, Ending, MayEndAs, Prints, ending_of}
-use Rattle.csv_program.specs.Posts.{AllTell, post_files}
-use Rattle.csv_program.specs.Statuses.{IsDiskFault, IsNoRoom, IsOutside}
-use Rattle.csv_program.specs.Tasks.{ShowsShort}
-use Rattle.csv_program.specs.declared.outcome.Status.{Status}
-use Rattle.csv_program.specs.declared.outcome.Status.TheVariants as status
+use Rattle.job_ending.specs.Calls.{Call, ForRun, Runs}
+use Rattle.job_ending.specs.declared.call.RunCall.{RunCall}
+use Rattle.job_ending.specs.Complete.{FailsNothing, GrantsAll, IsWhole}
+use Rattle.job_ending.specs.Endings.{ComesBefore, EndsAs, Ending, MayEndAs, Prints, ending_of}
+use Rattle.job_ending.specs.Posts.{AllTell}
+use Rattle.csv_program.specs.Posts.{post_files}
+use Rattle.job_ending.specs.Statuses.{IsDiskFault, IsNoRoom, IsOutside}
+use Rattle.csv_program.specs.Shortage.{ShowsShort}
+use Rattle.job_ending.specs.declared.status.Status.{Status}
+use Rattle.job_ending.specs.declared.status.Status.TheVariants as status
 use Rattle.csv_program.proofs.Called.{for_run}
 use Rattle.csv_program.proofs.Journals.{all_reverse}
 

@@ -14,24 +14,25 @@ use Rattle.memory_lock.specs.Crew.{AreNew, AreWorkers}
 use Rattle.memory_lock.specs.Workers.{HasNoPin, IsFree, KeepsPin, SeesMore, own_entries, own_of}
 use Rattle.task_runner.specs.AtOnce.{MayDoAll}
 use Rattle.task_runner.specs.PassViews.{PassView, parts_of, task_for}
-use Rattle.task_runner.specs.Workers.{AreTasks, DoesAll, DoesSome, IsCount, part_at}
+use Rattle.task_runner.specs.Workers.{AreTasks, DoesAll, DoesSome, part_at}
 use Rattle.task_runner.specs.Works.{IsTaskOf, MayWork, Works}
 use Rattle.task_pool.proofs.GoingOn.{sees_itself, sees_more}
 use Rattle.csv_program.specs.Doing.{AreBetween, BeginsOwn, Clears, DoesOwn, EachBegins, EachDoes, EachSees, OwnsPass}
-use Rattle.csv_program.specs.Tasks.{owner_of, worker_at}
+use Rattle.job_ending.specs.Tasks.{owner_of, worker_at}
+use Rattle.csv_program.proofs.Owners.{owner_is}
 use Rattle.csv_program.proofs.Deeds.{begins_cleared, begins_final, begins_other, begins_tasks, does_cleared, does_none, does_raise, does_task, does_tasks, fresh_from, worker_of}
 
 -- ---- whose tasks they are
 
 -- those of each pass of a plan
-pub owns_pass : (owner : ℕ → Option ℕ) (workers partitions passes pass : ℕ) → ((task : ℕ) → owner task ≡ owner_of workers partitions passes task) → pass < passes → OwnsPass owner workers partitions (pass * (partitions + 1))
+pub owns_pass : (owner : ℕ → Option ℕ) (workers partitions passes pass : ℕ) → ((task : ℕ) → owner task ≡ owner_of 0 0 workers partitions passes task) → pass < passes → OwnsPass owner workers partitions (pass * (partitions + 1))
 owns_pass owner workers partitions passes pass owns below place within =
     let size = partitions + 1 in
     let task = place + pass * size in
     let most : suc pass * size ≤ passes * size = mul-le-mul_right size below in
     let inside : task < passes * size = omega (arith, most, within) in
     let is : task % size ≡ place = add-mul-mod_self_right place pass size ∙ mod-eq_of_lt (omega (arith, within)) in
-    owns task ∙ ap (λ (b : Bool). if b then Some (worker_at workers partitions (task % size)) else None) (lt-ltb task (passes * size) inside)
+    owns task ∙ owner_is workers partitions passes task ∙ ap (λ (b : Bool). if b then Some (worker_at workers partitions (task % size)) else None) (lt-ltb task (passes * size) inside)
     ∙ ap (λ (n : ℕ). Some (worker_at workers partitions n)) is
 
 own_part : (owner : ℕ → Option ℕ) (workers partitions first part : ℕ) → OwnsPass owner workers partitions first → part < partitions → owner (part + first) ≡ Some (part % workers)
@@ -44,7 +45,7 @@ own_final owner workers partitions first owns =
 
 -- ---- new workers
 
-own_none : (lock : LockId) (workers : ℕ) (olds : List PassState) → AreWorkers lock workers olds → AreNew olds → (w : ℕ) (any : PassState) → w < workers → own_entries (get_or olds w any) ≡ []
+pub own_none : (lock : LockId) (workers : ℕ) (olds : List PassState) → AreWorkers lock workers olds → AreNew olds → (w : ℕ) (any : PassState) → w < workers → own_entries (get_or olds w any) ≡ []
 own_none lock workers olds are new w any below = ap (λ (es : List Entry). entries_of (get_or olds w any).number es) (new w any (omega (arith, below, are.0)))
 
 -- new workers did nothing
@@ -217,7 +218,7 @@ begun_pass owner lock workers partitions first olds mids news owns old mid began
 -- ---- blocks that are removed
 
 -- what the first worker clears between two tasks changes nothing of the others
-cleared_each : (P : ℕ → PassState → Type 0) (datasets : List ℕ) (workers : ℕ) (mids news : List PassState) → ((any : PassState) → Clears datasets (get_or mids 0 any) (get_or news 0 any))
+pub cleared_each : (P : ℕ → PassState → Type 0) (datasets : List ℕ) (workers : ℕ) (mids news : List PassState) → ((any : PassState) → Clears datasets (get_or mids 0 any) (get_or news 0 any))
     → ((w : ℕ) (any : PassState) → w ≢ 0 → get_or news w any ≡ get_or mids w any) → ((before after : PassState) → Clears datasets before after → P 0 before → P 0 after)
     → ((w : ℕ) (any : PassState) → w < workers → P w (get_or mids w any)) → (w : ℕ) (any : PassState) → w < workers → P w (get_or news w any)
 cleared_each P datasets workers mids news clears others stays were zero any below = stays (get_or mids 0 any) (get_or news 0 any) (clears any) (were 0 any below)

@@ -1,6 +1,6 @@
 -- What a worker's own entries tell, where they are those of its tasks.
-use Rattle.std.proofs.Common.{◌≡◌, ◌≢◌, ◌∙◌, ℕ, zero, suc, ◌+◌, ◌-◌, ◌*◌, ◌<◌, ◌≤◌, ◌++◌, ◌%◌, ◌/◌, Bool, false, cond, List, [], ◌∷◌, Option, Some, length, refl, sym, ap, subst, inl, inr, arith, append-nil, append_assoc}
-use Rattle.std.specs.Prelude.{◌==◌, AllPairs, slice_index_or, if◌then◌else◌}
+use Rattle.std.proofs.Common.{◌≡◌, ◌≢◌, ◌∙◌, ℕ, zero, suc, ◌+◌, ◌-◌, ◌*◌, ◌<◌, ◌≤◌, ◌++◌, ◌%◌, ◌/◌, Bool, false, cond, List, [], ◌∷◌, Option, Some, refl, sym, ap, subst, inl, inr, arith, append-nil, append_assoc}
+use Rattle.std.specs.Prelude.{◌==◌, AllPairs}
 use Rattle.std.specs.List.{AllByRecursion, list_any}
 use Rattle.std.proofs.Math.Nat.{mul-lt-mul_of_pos_right, add-mul-mod_self_right, mod-add-div', mod-eq_of_lt}
 use Rattle.std.proofs.lemmas.Bool.{cases_eq, cases_lt, eq-eqb, ne_eqb}
@@ -9,135 +9,16 @@ use Rattle.pool_ledger.specs.History.{History, begin_of, begins, begun, begun_af
 use Rattle.pool_ledger.specs.Journal.{history_of}
 use Rattle.pool_ledger.specs.declared.entry.Entry.{Entry}
 use Rattle.pool_ledger.specs.declared.entry.Event.{Event}
-use Rattle.pool_ledger.specs.declared.entry.Event.TheVariants.{Begin, End}
-use Rattle.pool_laws.specs.Growing.{entry_by}
+use Rattle.pool_ledger.specs.declared.entry.Event.TheVariants.{Begin}
 use Rattle.pool_laws.specs.Owners.{IsByOwner}
 use Rattle.task_pool.proofs.GoingOn.{all_append}
 use Rattle.memory_lock.proofs.Staying.{all_imply}
-use Rattle.task_pool.specs.Asks.{IsOfTask}
 use Rattle.task_runner.specs.Workers.{AreTasks, IsCount, part_at}
-use Rattle.lineage.specs.Entries.{IsRowsWork}
-use Rattle.task_runner.specs.Works.{IsInTask, IsTaskOf}
+use Rattle.task_runner.specs.Works.{IsTaskOf}
 use Rattle.csv_program.specs.Doing.{BeginsOwn, DoesOwn, IsRemovalOf}
-use Rattle.csv_program.specs.Tasks.{begun_by, begun_in}
+use Rattle.job_ending.specs.Tasks.{begun_by, begun_in}
 use Rattle.csv_program.proofs.Journals.{total_append, total_reverse}
-
--- ---- the entries of one task
-
--- an event that begins and ends nothing
-pub record Amid (entry : Entry) : Type 0 where
-  pub begins_none : (task : ℕ) → begin_of task entry.event ≡ 0
-  pub ends_none : (task : ℕ) → end_of task entry.event ≡ 0
-  pub leaves : (later : List ℕ) → begun_by entry.event later ≡ later
-  pub owned : (owner : ℕ → Option ℕ) (worker : ℕ) → IsByOwner owner worker entry.event
-
-asks_amid : (worker task : ℕ) (entry : Entry) → IsOfTask worker task entry → Amid entry
-asks_amid worker task entry is = elim is [
-  | inl attempt ↦ subst Amid (sym attempt.4) (record { begins_none = λ t. refl; ends_none = λ t. refl; leaves = λ later. refl; owned = λ owner w. tt })
-  | inr other ↦ elim other [
-    | inl eviction ↦ subst Amid (sym eviction.4) (record { begins_none = λ t. refl; ends_none = λ t. refl; leaves = λ later. refl; owned = λ owner w. tt })
-    | inr release ↦ subst Amid (sym release.1) (record { begins_none = λ t. refl; ends_none = λ t. refl; leaves = λ later. refl; owned = λ owner w. tt })
-  ]
-]
-
-rows_amid : (worker : ℕ) (entry : Entry) → IsRowsWork worker entry → Amid entry
-rows_amid worker entry is = elim is [
-  | inl pinning ↦ elim pinning [
-    | inl pin ↦ subst Amid (sym pin.3) (record { begins_none = λ t. refl; ends_none = λ t. refl; leaves = λ later. refl; owned = λ owner w. tt })
-    | inr unpin ↦ subst Amid (sym unpin.2) (record { begins_none = λ t. refl; ends_none = λ t. refl; leaves = λ later. refl; owned = λ owner w. tt })
-  ]
-  | inr other ↦ elim other [
-    | inl keeping ↦ elim keeping [
-      | inl admit ↦ subst Amid (sym admit.6) (record { begins_none = λ t. refl; ends_none = λ t. refl; leaves = λ later. refl; owned = λ owner w. tt })
-      | inr refused ↦ subst Amid (sym refused.5) (record { begins_none = λ t. refl; ends_none = λ t. refl; leaves = λ later. refl; owned = λ owner w. tt })
-    ]
-    | inr eviction ↦ subst Amid (sym eviction.4) (record { begins_none = λ t. refl; ends_none = λ t. refl; leaves = λ later. refl; owned = λ owner w. tt })
-  ]
-]
-
-removal_amid : (worker : ℕ) (datasets : List ℕ) (entry : Entry) → IsRemovalOf worker datasets entry → Amid entry
-removal_amid worker datasets entry is = subst Amid (sym is.4) (record { begins_none = λ t. refl; ends_none = λ t. refl; leaves = λ later. refl; owned = λ owner w. tt })
-
-in_task_amid : (worker task : ℕ) (entry : Entry) → IsInTask worker task entry → Amid entry
-in_task_amid worker task entry is = elim is [ inl asks ↦ asks_amid worker task entry asks | inr work ↦ rows_amid worker entry work ]
-
-are_amid : (worker task : ℕ) (entries : List Entry) → AllByRecursion (IsInTask worker task) entries → AllByRecursion Amid entries
-are_amid worker task entries all = all_imply (IsInTask worker task) Amid (in_task_amid worker task) entries all
-
-none_begun : (t : ℕ) (entries : List Entry) → AllByRecursion Amid entries → total (begin_of t) entries ≡ 0
-none_begun t [] all = refl
-none_begun t (x ∷ rest) all = let first = all.0.begins_none t in let more = none_begun t rest all.1 in omega (arith, first, more)
-
-none_ended : (t : ℕ) (entries : List Entry) → AllByRecursion Amid entries → total (end_of t) entries ≡ 0
-none_ended t [] all = refl
-none_ended t (x ∷ rest) all = let first = all.0.ends_none t in let more = none_ended t rest all.1 in omega (arith, first, more)
-
--- 1 for the task
-abbrev mark : ℕ → ℕ → ℕ
-mark task t = if task == t then 1 else 0
-
-task_begins : (worker task t : ℕ) (entries : List Entry) → IsTaskOf worker task entries → total (begin_of t) entries ≡ mark task t
-task_begins worker task t entries is =
-    let last = entry_by worker (End task is.freed) in
-    let whole : total (begin_of t) entries ≡ total (begin_of t) (is.amid ++ last ∷ []) + mark task t = ap (total (begin_of t)) is.are in
-    let split = total_append (begin_of t) is.amid (last ∷ []) in
-    let amid = none_begun t is.amid (are_amid worker task is.amid is.all) in
-    omega (arith, whole, split, amid)
-
-task_ends : (worker task t : ℕ) (entries : List Entry) → IsTaskOf worker task entries → total (end_of t) entries ≡ mark task t
-task_ends worker task t entries is =
-    let last = entry_by worker (End task is.freed) in
-    let whole : total (end_of t) entries ≡ total (end_of t) (is.amid ++ last ∷ []) + 0 = ap (total (end_of t)) is.are in
-    let split : total (end_of t) (is.amid ++ last ∷ []) ≡ total (end_of t) is.amid + (0 + mark task t) = total_append (end_of t) is.amid (last ∷ []) in
-    let amid = none_ended t is.amid (are_amid worker task is.amid is.all) in
-    omega (arith, whole, split, amid)
-
-task_owned : (owner : ℕ → Option ℕ) (worker task : ℕ) (entries : List Entry) → IsTaskOf worker task entries → owner task ≡ Some worker → AllByRecursion (λ entry. IsByOwner owner worker entry.event) entries
-task_owned owner worker task entries is owns =
-    let last = entry_by worker (End task is.freed) in
-    subst (AllByRecursion (λ entry. IsByOwner owner worker entry.event)) (sym is.are) (
-      owns,
-      all_append (λ entry. IsByOwner owner worker entry.event) is.amid (last ∷ [])
-          (all_imply Amid (λ entry. IsByOwner owner worker entry.event) (λ entry amid. amid.owned owner worker) is.amid (are_amid worker task is.amid is.all)) (tt, tt),
-    )
-
-by_append : (event : Event) (xs ys : List ℕ) → begun_by event (xs ++ ys) ≡ begun_by event xs ++ ys
-by_append (Begin task) xs ys = refl
-by_append _ xs ys = refl
-
-begun_append : (xs ys : List Entry) → begun_in (xs ++ ys) ≡ begun_in xs ++ begun_in ys
-unfolding begun_in
-begun_append [] ys = refl
-begun_append (x ∷ xs) ys = ap (begun_by x.event) (begun_append xs ys) ∙ by_append x.event (begun_in xs) (begun_in ys)
-
-amid_begun : (xs ys : List Entry) → AllByRecursion Amid xs → begun_in (xs ++ ys) ≡ begun_in ys
-unfolding begun_in
-amid_begun [] ys all = refl
-amid_begun (x ∷ xs) ys all = all.0.leaves (begun_in (xs ++ ys)) ∙ amid_begun xs ys all.1
-
-task_begun : (worker task : ℕ) (entries : List Entry) → IsTaskOf worker task entries → begun_in entries ≡ task ∷ []
-unfolding begun_in
-task_begun worker task entries is =
-    let last = entry_by worker (End task is.freed) in
-    ap begun_in is.are ∙ ap (λ (ts : List ℕ). task ∷ ts) (amid_begun is.amid (last ∷ []) (are_amid worker task is.amid is.all))
-
-marked : (task : ℕ) → mark task task ≡ 1
-marked task = rw (eq-eqb task task refl) refl
-
--- ---- lists that ascend
-
-every_append : (P : ℕ → Type 0) (xs ys : List ℕ) → AllByRecursion P xs → AllByRecursion P ys → AllByRecursion P (xs ++ ys)
-every_append P [] ys all rest = rest
-every_append P (x ∷ xs) ys all rest = (all.0, every_append P xs ys all.1 rest)
-
-all_raise : (limit higher : ℕ) (xs : List ℕ) → limit ≤ higher → AllByRecursion (λ x. x < limit) xs → AllByRecursion (λ x. x < higher) xs
-all_raise limit higher [] most all = tt
-all_raise limit higher (x ∷ xs) most all = (omega (arith, most, all.0), all_raise limit higher xs most all.1)
-
-at_place : (P : ℕ → Type 0) (xs : List ℕ) (i d : ℕ) → AllByRecursion P xs → i < length xs → P (slice_index_or xs i d)
-at_place P [] i d all within = absurd (omega (arith, within))
-at_place P (x ∷ xs) zero d all within = all.0
-at_place P (x ∷ xs) (suc i) d all within = at_place P xs i d all.1 (omega (arith, within))
+use Rattle.csv_program.proofs.TaskEntries.{Amid, all_raise, amid_begun, at_place, begun_append, every_append, mark, marked, none_begun, none_ended, removal_amid, task_begins, task_begun, task_ends, task_owned}
 
 -- ---- what a worker did
 
@@ -195,7 +76,7 @@ does_cleared owner w limit number datasets entries removed all did =
       ended = λ t. ended_then t entries removed (did.ended t) (none_ended t removed amid ∙ sym (none_begun t removed amid));
     }
 
-parts_rise : (workers w k : ℕ) → 0 < workers → (j : ℕ) → j < k → part_at workers w j < part_at workers w k
+pub parts_rise : (workers w k : ℕ) → 0 < workers → (j : ℕ) → j < k → part_at workers w j < part_at workers w k
 parts_rise workers w k some j below = let less : j * workers < k * workers = mul-lt-mul_of_pos_right below some in omega (arith, less)
 
 -- the first tasks of a pass more, above those that it did

@@ -3,17 +3,17 @@ use Rattle.std.proofs.Common.{◌≡◌, ◌<◌, ◌∙◌, [], ℕ, List, Opti
 use Rattle.std.specs.Prelude.{AllPairs, OnOk}
 use Rattle.pool_ledger.specs.Workers.{entries_of}
 use Rattle.pool_ledger.specs.declared.entry.Entry.{Entry}
-use Rattle.csv_program.specs.Tasks.{FollowsPlan, begun_in}
+use Rattle.job_ending.specs.Tasks.{FollowsPlan, begun_in, owner_of}
 use Rattle.std.specs.Io.KnownBytes.{Appends}
 use Rattle.byte_io.specs.Sinks.{AppendsPrefix}
 use Rattle.task_runner.specs.Workers.{IfSound}
 use Rattle.task_runner.specs.declared.work_fault.WorkFault.{WorkFault}
 use Rattle.task_runner.specs.declared.work_fault.WorkFault.TheVariants.{NoRoom, DiskFault, Damaged, NoMemory}
-use Rattle.csv_program.specs.Endings.{MayEndAs, ending_with}
-use Rattle.csv_program.specs.Statuses.{IsOutside, IsUnprinted}
+use Rattle.job_ending.specs.Endings.{MayEndAs, ending_with}
+use Rattle.job_ending.specs.Statuses.{IsOutside, IsUnprinted}
 use Rattle.csv_program.specs.Telling.{status_of_work}
-use Rattle.csv_program.specs.declared.outcome.Status.{Status}
-use Rattle.csv_program.specs.declared.outcome.Status.TheVariants as status
+use Rattle.job_ending.specs.declared.status.Status.{Status}
+use Rattle.job_ending.specs.declared.status.Status.TheVariants as status
 
 -- what may come before anything is printed may come before the tables are whole
 unprinted_outside : (ended : Status) → IsUnprinted ended → IsOutside ended
@@ -78,8 +78,8 @@ none_ascend : AllPairs (λ (earlier later : ℕ). earlier < later) []
 none_ascend = λ i j d lt within. absurd (omega arith)
 
 -- a journal without an entry has no task
-pub follows_none : (workers partitions passes : ℕ) (journal : List Entry) → journal ≡ [] → FollowsPlan workers partitions passes journal
-follows_none workers partitions passes journal none = subst (FollowsPlan workers partitions passes) (sym none) record {
+pub follows_none : (workers partitions passes : ℕ) (journal : List Entry) → journal ≡ [] → FollowsPlan (owner_of 0 0 workers partitions passes) journal
+follows_none workers partitions passes journal none = subst (FollowsPlan (owner_of 0 0 workers partitions passes)) (sym none) record {
   owned = tt;
   ascend = λ worker. subst (λ (tasks : List ℕ). AllPairs (λ earlier later. earlier < later) tasks) (sym (no_begins worker)) none_ascend;
   ended = λ task. refl;

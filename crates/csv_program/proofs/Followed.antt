@@ -22,8 +22,10 @@ use Rattle.task_runner.specs.Works.{IfNoRoom, ShowsNoRoom}
 use Rattle.task_runner.specs.declared.work_fault.WorkFault.{WorkFault}
 use Rattle.task_runner.specs.declared.work_fault.WorkFault.TheVariants.{NoRoom, DiskFault, Damaged, NoMemory}
 use Rattle.csv_program.specs.Doing.{DoesOwn, EachBegins, EachDoes}
-use Rattle.csv_program.specs.Tasks.{BeginsAll, FollowsPlan, ShowsShort, owner_of, worker_at}
+use Rattle.job_ending.specs.Tasks.{BeginsAll, FollowsPlan, owner_of, worker_at}
+use Rattle.csv_program.specs.Shortage.{ShowsShort}
 use Rattle.csv_program.proofs.Deeds.{none_ascend}
+use Rattle.csv_program.proofs.Owners.{owner_is}
 use Rattle.csv_program.proofs.Journals.{all_known, begun_least, ended_all, none_of, owned_all}
 
 -- a worker's own entries are those that the journal has of it
@@ -37,12 +39,12 @@ by_same owner owner' w same (Begin task) is = sym (same task) ∙ is
 by_same owner owner' w same _ is = tt
 
 -- what each worker did makes a journal of the plan
-pub follows : (setup : Sizes) (lock : LockId) (owner : ℕ → Option ℕ) (workers partitions passes limit : ℕ) (news : List PassState) (journal : List Entry) → workers ≡ setup.workers → ((task : ℕ) → owner task ≡ owner_of workers partitions passes task)
-    → AreWorkers lock workers news → HasAll news journal → IsLegal setup (history_of journal) → EachDoes owner workers limit news → FollowsPlan workers partitions passes journal
+pub follows : (setup : Sizes) (lock : LockId) (owner : ℕ → Option ℕ) (workers partitions passes limit : ℕ) (news : List PassState) (journal : List Entry) → workers ≡ setup.workers → ((task : ℕ) → owner task ≡ owner_of 0 0 workers partitions passes task)
+    → AreWorkers lock workers news → HasAll news journal → IsLegal setup (history_of journal) → EachDoes owner workers limit news → FollowsPlan (owner_of 0 0 workers partitions passes) journal
 follows setup lock owner workers partitions passes limit news journal size owns are whole legal did =
     let known : AllByRecursion (λ entry. entry.worker < workers) journal = subst (λ (n : ℕ). AllByRecursion (λ entry. entry.worker < n) journal) (sym size) (all_known setup journal legal) in
     let any = new_worker lock 0 0 in
-    let plan = owner_of workers partitions passes in
+    let plan = owner_of 0 0 workers partitions passes in
     let done : (w : ℕ) → w < workers → DoesOwn owner w limit (entries_of w journal) = λ w below. subst (DoesOwn owner w limit) (sym (whole_of lock workers news journal are whole w any below)) (did w any below) in
     record {
       owned = owned_all plan workers journal known (λ w below. all_imply (λ entry. IsByOwner owner w entry.event) (λ entry. IsByOwner plan w entry.event) (λ entry is. by_same owner plan w owns entry.event is) (entries_of w journal) (done w below).owned);
@@ -61,17 +63,19 @@ worker_known workers partitions place some = elim (cases_lt place partitions) [
 ]
 
 -- where each worker began all of its own, each task was begun once
-pub begins_all : (setup : Sizes) (lock : LockId) (owner : ℕ → Option ℕ) (workers partitions passes : ℕ) (news : List PassState) (journal : List Entry) → 0 < workers → ((task : ℕ) → owner task ≡ owner_of workers partitions passes task)
-    → AreWorkers lock workers news → HasAll news journal → IsSafeJournal setup journal → EachBegins owner workers (passes * (partitions + 1)) news → BeginsAll partitions passes journal
+pub begins_all : (setup : Sizes) (lock : LockId) (owner : ℕ → Option ℕ) (workers partitions passes : ℕ) (news : List PassState) (journal : List Entry) → 0 < workers → ((task : ℕ) → owner task ≡ owner_of 0 0 workers partitions passes task)
+    → AreWorkers lock workers news → HasAll news journal → IsSafeJournal setup journal → EachBegins owner workers (passes * (partitions + 1)) news → BeginsAll 0 partitions passes journal
 begins_all setup lock owner workers partitions passes news journal some owns are whole safe began task within =
     let w = worker_at workers partitions (task % (partitions + 1)) in
     let known : w < workers = worker_known workers partitions (task % (partitions + 1)) some in
-    let mine : owner task ≡ Some w = owns task ∙ ap (λ (b : Bool). if b then Some w else None) (lt-ltb task (passes * (partitions + 1)) within) in
+    let mine : owner task ≡ Some w = owns task ∙ owner_is workers partitions passes task ∙ ap (λ (b : Bool). if b then Some w else None) (lt-ltb task (passes * (partitions + 1)) within) in
     let any = new_worker lock 0 0 in
     let own : 1 ≤ begins (history_of (entries_of w journal)) task = subst (λ (es : List Entry). 1 ≤ begins (history_of es) task) (sym (whole_of lock workers news journal are whole w any known)) (began w any known task within mine) in
     let least = begun_least w task journal in
     let most = safe.begun_once task in
-    omega (arith, own, least, most)
+    let one : begins (history_of journal) task ≡ 1 = omega (arith, own, least, most) in
+    let same : task + 0 ≡ task = omega arith in
+    subst (λ (t : ℕ). begins (history_of journal) t ≡ 1) (sym same) one
 
 pub on_ok_more : {T : Type 0} (answer : Result T WorkFault) (P Q : Type 0) → (P → Q) → OnOk answer P → OnOk answer Q
 on_ok_more (Ok x) P Q more holds = more holds

@@ -3,10 +3,10 @@ use Rattle.std.proofs.Common.{[], ℕ, Bool, true, false, List, Option, Some, No
 use Rattle.std.specs.Io.KnownBytes.{Appends, Keeps}
 use Rattle.byte_io.specs.Sinks.{AppendsPrefix}
 use Rattle.result_table.proofs.Blocks.{front-done, front-none}
-use Rattle.csv_program.specs.Statuses.{IsOfJournal, IsOfSums, IsOfTables}
-use Rattle.csv_program.specs.Written.{Gains, GainsText, WritesFront, WritesText}
-use Rattle.csv_program.specs.declared.outcome.Status.{Status}
-use Rattle.csv_program.specs.declared.outcome.Status.TheVariants as status
+use Rattle.job_ending.specs.Statuses.{IsOfJournal, IsOfSums, IsOfTables}
+use Rattle.job_ending.specs.Written.{Gains, GainsText, WritesFront, WritesText}
+use Rattle.job_ending.specs.declared.status.Status.{Status}
+use Rattle.job_ending.specs.declared.status.Status.TheVariants as status
 use Rattle.csv_program.specs.Telling.{status_of_work}
 use Rattle.task_runner.specs.declared.work_fault.WorkFault.{WorkFault}
 use Rattle.task_runner.specs.declared.work_fault.WorkFault.TheVariants.{NoRoom, DiskFault, Damaged, NoMemory}

@@ -25,7 +25,8 @@ use Rattle.task_runner.specs.Pass.{KeepsAll}
 use Rattle.task_runner.specs.PassViews.{PassView, pass_with}
 use Rattle.task_runner.specs.Workers.{answer_at, part_at}
 use Rattle.csv_program.specs.Passing.{ArePut, HavePass, IsPutAt}
-use Rattle.csv_program.specs.QueryResults.{HasPasses, HaveResults, HoldsParts, SaysParts, dataset_in, lineage_in, totals_of_parts}
+use Rattle.job_ending.specs.Endings.{dataset_in}
+use Rattle.csv_program.specs.QueryResults.{HasPasses, HaveResults, HoldsParts, SaysParts, lineage_in, totals_of_parts}
 use Rattle.csv_program.proofs.Deeds.{worker_of}
 use Rattle.csv_program.proofs.Served.{dataset_of_pass, place_in_pass, served_by}
 

@@ -13,11 +13,11 @@ use Rattle.spill_disk.specs.Files.{Files}
 use Rattle.run_file.specs.declared.run.Run.{Run}
 use Rattle.landing.specs.declared.fault.LandFault.{LandFault}
 use Rattle.landing.specs.declared.fault.LandFault.TheVariants as fault
-use Rattle.csv_program.specs.Endings.{ComesBefore, EndsAs, Ending, HasTooWide, Prints, Refuses, ending_of, ending_of_checked, MayEndAs, partitions_of_checked, status_of}
-use Rattle.csv_program.specs.Statuses.{IsDamaged, IsJudged, IsOfTasks, IsOutside, IsUnlanded, IsUnprinted}
-use Rattle.csv_program.specs.declared.call.RunCall.{RunCall}
-use Rattle.csv_program.specs.declared.outcome.Status.{Status}
-use Rattle.csv_program.specs.declared.outcome.Status.TheVariants as status
+use Rattle.job_ending.specs.Endings.{ComesBefore, EndsAs, Ending, HasTooWide, Prints, Refuses, ending_of, ending_of_checked, MayEndAs, partitions_of_checked, status_of}
+use Rattle.job_ending.specs.Statuses.{IsDamaged, IsJudged, IsOfTasks, IsOutside, IsUnlanded, IsUnprinted}
+use Rattle.job_ending.specs.declared.call.RunCall.{RunCall}
+use Rattle.job_ending.specs.declared.status.Status.{Status}
+use Rattle.job_ending.specs.declared.status.Status.TheVariants as status
 
 pub length-landed : (places : List ℕ) (n : ℕ) (rows : List Fields) → length (landed_rows places n rows) ≡ length rows
 length-landed places n [] = refl

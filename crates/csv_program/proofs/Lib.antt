@@ -16,6 +16,8 @@ pub mod Printed
 pub mod Gaining
 pub mod Aside
 pub mod Journals
+pub mod Owners
+pub mod TaskEntries
 pub mod Deeds
 pub mod Crews
 pub mod Served
@@ -28,6 +30,7 @@ pub mod RemovedBlocks
 pub mod Leaving
 pub mod Passed
 pub mod Followed
+pub mod RemovedLate
 pub mod Worked
 pub mod Making
 pub mod StillThere

@@ -10,7 +10,7 @@ use Rattle.job_answer.specs.Output.{joined}
 use Rattle.job_plan.specs.Plans.{kept_at, kept_in}
 use Rattle.job_plan.specs.declared.query_plan.Plan.{Plan}
 use Rattle.result_table.specs.Results.{table_of}
-use Rattle.csv_program.specs.Endings.{tables_of, wide_among, wide_of}
+use Rattle.job_ending.specs.Endings.{tables_of, wide_among, wide_of}
 use Rattle.csv_program.specs.Tables.{gap_before, piece_of}
 
 -- ---- pieces

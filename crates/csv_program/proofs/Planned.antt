@@ -16,10 +16,10 @@ use Rattle.landing.specs.Headers.{IsOfHeader, IsPlanOver, checked_header}
 use Rattle.landing.specs.Landed.{IsOfInput}
 use Rattle.landing.specs.declared.fault.LandFault.{LandFault}
 use Rattle.landing.specs.declared.fault.LandFault.TheVariants as fault
-use Rattle.csv_program.specs.Endings.{status_of}
+use Rattle.job_ending.specs.Endings.{status_of}
 use Rattle.csv_program.specs.PlanCalls.{IsOfPlan, IsOfPrint, IsUnread, MayPrint, PrintsPart, PrintsPlan, TellsRefusal, text_over}
-use Rattle.csv_program.specs.declared.outcome.Status.{Status}
-use Rattle.csv_program.specs.declared.outcome.Status.TheVariants as status
+use Rattle.job_ending.specs.declared.status.Status.{Status}
+use Rattle.job_ending.specs.declared.status.Status.TheVariants as status
 
 -- ---- the text
 

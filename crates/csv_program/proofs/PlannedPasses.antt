@@ -6,7 +6,7 @@ use Rattle.job_plan.specs.Plans.{IsPlanOf, passes_in}
 use Rattle.job_plan.specs.declared.query_plan.Plan.{Plan}
 use Rattle.job_text.specs.declared.job.Job.{Job}
 use Rattle.csv_program.specs.QueryResults.{HasPasses}
-use Rattle.csv_program.specs.Tasks.{passes_of}
+use Rattle.job_ending.specs.Tasks.{passes_of}
 
 pub passes_planned : (job : Job) (header : Fields) (plan : Plan) → IsPlanOf job header plan → HasPasses plan
 passes_planned job header plan made = record {

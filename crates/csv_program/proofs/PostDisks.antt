@@ -13,9 +13,9 @@ use Rattle.task_runner.specs.Consumers.{KeepsConsumers}
 use Rattle.task_runner.specs.Pass.{states_at}
 use Rattle.task_runner.specs.declared.post.Post.{Post}
 use Rattle.csv_program.specs.Posts.{post_faults, post_files}
-use Rattle.csv_program.specs.Statuses.{IsDiskFault}
-use Rattle.csv_program.specs.declared.outcome.Status.{Status}
-use Rattle.csv_program.specs.declared.outcome.Status.TheVariants as status
+use Rattle.job_ending.specs.Statuses.{IsDiskFault}
+use Rattle.job_ending.specs.declared.status.Status.{Status}
+use Rattle.job_ending.specs.declared.status.Status.TheVariants as status
 
 module _ {D C : Type 0} (before after : Vec (Post D C)) (same : map (λ post. post.disk) after.items ≡ map (λ post. post.disk) before.items) where
   disk_same : (place : ℕ) → disk_at (λ post. post.disk) after place ≡ disk_at (λ post. post.disk) before place

@@ -13,12 +13,12 @@ use Rattle.job_plan.specs.Plans.{kind_at}
 use Rattle.job_plan.specs.declared.query_plan.Plan.{Plan}
 use Rattle.task_runner.specs.Workers.{answer_at}
 use Rattle.csv_program.specs.QueryResults.{HaveResults}
-use Rattle.csv_program.specs.Statuses.{IsOutside, IsUnprinted}
+use Rattle.job_ending.specs.Statuses.{IsOutside, IsUnprinted}
 use Rattle.run_file.specs.Causes.{NotDamaged}
 use Rattle.run_file.specs.declared.run.RunFault.{RunFault}
 use Rattle.run_file.specs.declared.run.RunFault.TheVariants as run_fault
-use Rattle.csv_program.specs.Telling.{status_of_print, status_of_run}
-use Rattle.csv_program.specs.declared.outcome.Status.{Status}
+use Rattle.job_ending.specs.Telling.{status_of_print, status_of_run}
+use Rattle.job_ending.specs.declared.status.Status.{Status}
 
 outside_print : (fault : PrintFault) → FindsNoDamage (Err fault) → IsOutside (status_of_print fault)
 outside_print WriteFault none = _

@@ -10,7 +10,8 @@ use Rattle.std.proofs.lemmas.List.Sums.{count_by-le-length, length-filter}
 use Rattle.job_plan.specs.Passes.{is_first, pass_datasets, queries_over}
 use Rattle.job_plan.specs.Plans.{datasets_in, kept_in, passes_in, queries_in}
 use Rattle.job_plan.specs.declared.query_plan.Plan.{Plan}
-use Rattle.csv_program.specs.QueryResults.{HasPasses, dataset_in}
+use Rattle.job_ending.specs.Endings.{dataset_in}
+use Rattle.csv_program.specs.QueryResults.{HasPasses}
 
 -- ---- lists
 

@@ -24,10 +24,11 @@ use Rattle.landing.specs.Landed.{AreChecked, partition_of}
 use Rattle.row_filter.specs.Chains.{links_of}
 use Rattle.row_filter.specs.Derived.{derived, passes_own}
 use Rattle.row_filter.specs.Lines.{line}
-use Rattle.csv_program.specs.Endings.{CanBeTold, totals_of}
+use Rattle.job_ending.specs.Endings.{CanBeTold, totals_of}
 use Rattle.csv_program.specs.Basis.{StandAs}
-use Rattle.csv_program.specs.QueryResults.{HoldsParts, dataset_in}
-use Rattle.csv_program.specs.declared.call.RunCall.{RunCall}
+use Rattle.job_ending.specs.Endings.{dataset_in}
+use Rattle.csv_program.specs.QueryResults.{HoldsParts}
+use Rattle.job_ending.specs.declared.call.RunCall.{RunCall}
 use Rattle.csv_program.proofs.Pieces.{each_narrow}
 
 -- how many columns an order tells

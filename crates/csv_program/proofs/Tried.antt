@@ -5,7 +5,7 @@ use Rattle.byte_io.specs.Rows.{rows_of}
 use Rattle.fault_count.specs.Faults.{Rose}
 use Rattle.job_answer.specs.Output.{output, too_wide}
 use Rattle.job_text.specs.declared.job.Job.{Job}
-use Rattle.landing.specs.Checks.{Checked, Rows, checked}
+use Rattle.landing.specs.Checks.{Rows, checked}
 use Rattle.landing.specs.Landed.{IsOfInput}
 use Rattle.landing.specs.declared.fault.LandFault.{LandFault}
 use Rattle.landing.specs.declared.fault.LandFault.TheVariants as fault
@@ -14,13 +14,13 @@ use Rattle.trial_input.specs.FixedJob.{trial_job}
 use Rattle.trial_input.specs.Generator.{heading, trial_rows, trial_text}
 use Rattle.trial_input.specs.Laws.{TrialsAreGood, TrialsFit}
 use Rattle.trial_input.specs.Lines.{trial_output}
-use Rattle.csv_program.specs.Complete.{HasTasks}
-use Rattle.csv_program.specs.Endings.{Ending, MayEndAs, Prints, Refuses, checked_for, ending_of, ending_of_checked, ending_with, status_of}
-use Rattle.csv_program.specs.Statuses.{IsJudged}
+use Rattle.csv_program.specs.Cached.{HasTasks}
+use Rattle.job_ending.specs.Endings.{Ending, MayEndAs, Prints, Refuses, checked_for, ending_of, ending_of_checked, ending_with, status_of}
+use Rattle.job_ending.specs.Statuses.{IsJudged}
 use Rattle.csv_program.specs.Trials.{IsOfTrial, IsOfTrialRun, IsSound, IsTrial}
-use Rattle.csv_program.specs.declared.call.RunCall.{RunCall}
-use Rattle.csv_program.specs.declared.outcome.Status.{Status}
-use Rattle.csv_program.specs.declared.outcome.Status.TheVariants as status
+use Rattle.job_ending.specs.declared.call.RunCall.{RunCall}
+use Rattle.job_ending.specs.declared.status.Status.{Status}
+use Rattle.job_ending.specs.declared.status.Status.TheVariants as status
 
 -- its job takes the text as it is
 pub trial_checked : (asked : RunCall) (bytes : List ℕ) → IsTrial asked → bytes ≡ trial_text asked.max_rows → TrialsAreGood → checked_for asked bytes ≡ Rows heading (trial_rows asked.max_rows)

@@ -16,8 +16,9 @@ use Rattle.landing.specs.Landed.{partition_count, partition_of}
 use Rattle.row_filter.specs.Chains.{links_of}
 use Rattle.row_filter.specs.Derived.{derived, passes_own}
 use Rattle.row_filter.specs.Lines.{line}
-use Rattle.csv_program.specs.Endings.{totals_of}
-use Rattle.csv_program.specs.QueryResults.{dataset_in, entries_over, totals_of_parts}
+use Rattle.job_ending.specs.Endings.{totals_of}
+use Rattle.job_ending.specs.Endings.{dataset_in, entries_over}
+use Rattle.csv_program.specs.QueryResults.{totals_of_parts}
 
 drop_none : {A : Type 0} (n : ℕ) → drop {A = A} n [] ≡ []
 drop_none zero = refl

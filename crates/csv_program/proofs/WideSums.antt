@@ -5,9 +5,9 @@ use Rattle.aggregate.specs.Totals.{Entry}
 use Rattle.job_answer.specs.Laws.{wide_total}
 use Rattle.job_plan.specs.Plans.{kept_at, kept_in}
 use Rattle.job_plan.specs.declared.query_plan.Plan.{Plan}
-use Rattle.csv_program.specs.Endings.{EndsAs, MayEndAs, ending_of_totals, ending_with, tables_of, wide_of}
-use Rattle.csv_program.specs.Statuses.{IsUnprinted, TellsWide}
-use Rattle.csv_program.specs.declared.outcome.Status.{Status}
+use Rattle.job_ending.specs.Endings.{EndsAs, MayEndAs, ending_of_totals, ending_with, tables_of, wide_of}
+use Rattle.job_ending.specs.Statuses.{IsUnprinted, TellsWide}
+use Rattle.job_ending.specs.declared.status.Status.{Status}
 use Rattle.csv_program.proofs.EndedRuns.{may_end}
 use Rattle.csv_program.proofs.Pieces.{first_among}
 

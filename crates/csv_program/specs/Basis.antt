@@ -14,7 +14,7 @@ use Rattle.job_plan.specs.declared.query_plan.Plan.{Plan}
 use Rattle.landing.specs.Landed.{AreChecked, AreLanded}
 use Rattle.memory_core.specs.Caches.{RowsByName}
 use Rattle.lineage.specs.Standing.{SaysKept}
-use Rattle.csv_program.specs.declared.call.RunCall.{RunCall}
+use Rattle.job_ending.specs.declared.call.RunCall.{RunCall}
 
 -- the rows that a run's bytes are, where its disk tells
 abbrev pub rows_on : Option Files → Run → Option (List Fields)

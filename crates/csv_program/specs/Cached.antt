@@ -1,6 +1,6 @@
 -- What the journal of a run tells of cached blocks.
 -- This project's own.
-use Rattle.std.specs.Prelude.{ℕ, ◌+◌, ◌*◌, ◌%◌, ◌<◌, IfSome, List, length, slice_index_or}
+use Rattle.std.specs.Prelude.{◌≡◌, ℕ, ◌+◌, ◌*◌, ◌%◌, ◌<◌, IfSome, List, length, slice_index_or}
 use Rattle.pool_ledger.specs.declared.entry.Entry.{Entry}
 use Rattle.job_plan.specs.Columns.{Fields}
 use Rattle.job_plan.specs.Plans.{IsPlanOf, chain_in, passes_in}
@@ -10,6 +10,10 @@ use Rattle.turn_lock.specs.Passes.{PassState}
 use Rattle.lineage.specs.LineageViews.{name_for}
 use Rattle.lineage.specs.Telling.{nearest}
 use Rattle.task_runner.specs.Blocks.{TellsBlock}
+use Rattle.job_ending.specs.Removals.{RemovesLate}
+use Rattle.job_ending.specs.Tasks.{BeginsAll, FollowsPlan, owner_of, passes_of}
+use Rattle.job_ending.specs.declared.status.Status.{Status}
+use Rattle.job_ending.specs.declared.status.Status.TheVariants as status
 
 -- the task of a partition in a pass of a plan, over so many partitions, has an entry of the block of the nearest kept dataset on the
 -- way from the pass's dataset to the input, if there is one: its pin, its admission or its refusal
@@ -29,9 +33,17 @@ EachTells plan count partitions passes workers =
     (pass part : ℕ) (any : PassState) → pass < passes → part < partitions
     → TellsAt plan count partitions pass part (slice_index_or workers (part % count) any).seen
 
--- the same of a job, by its plan for a header
+-- the same of a job, by its plan for a header; and no block is removed before the last pass that needs its dataset
 pub record HasCached (job : Job) (workers partitions : ℕ) (entries : List Entry) : Type 0 where
   pub header : Fields
   pub plan : Plan
   pub planned : IsPlanOf job header plan
   pub tells : TellsPasses plan workers partitions (length (passes_in plan)) entries
+  pub removes : RemovesLate plan workers partitions entries
+
+-- the journal has the tasks of a job's passes over so many partitions; after `Done` it has all of them, and what they tell of the
+-- blocks of kept datasets
+pub record HasTasks (workers partitions : ℕ) (job : Job) (ended : Status) (journal : List Entry) : Type 0 where
+  pub follows : FollowsPlan (owner_of 0 0 workers partitions (passes_of job)) journal
+  pub all : ended ≡ status.Done → BeginsAll 0 partitions (passes_of job) journal
+  pub cached : ended ≡ status.Done → HasCached job workers partitions journal

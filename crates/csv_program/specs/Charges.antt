@@ -19,7 +19,7 @@ use Rattle.task_runner.specs.Charging.{leasts_in}
 use Rattle.task_runner.specs.Queries.{made_in}
 use Rattle.task_runner.specs.Spilling.{AreAllCharged}
 use Rattle.turn_lock.specs.Passes.{PassState}
-use Rattle.csv_program.specs.declared.call.RunCall.{RunCall}
+use Rattle.job_ending.specs.declared.call.RunCall.{RunCall}
 
 -- the dataset of a pass of a plan, and its queries, by its number
 abbrev pub dataset_at : Plan → ℕ → ℕ

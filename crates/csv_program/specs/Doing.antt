@@ -11,7 +11,8 @@ use Rattle.pool_laws.specs.Owners.{IsByOwner}
 use Rattle.turn_lock.specs.Passes.{LockId, PassState}
 use Rattle.memory_lock.specs.Crew.{AreWorkers}
 use Rattle.memory_lock.specs.Workers.{HasNoPin, IsFree, KeepsPin, KeepsTask, SeesMore, own_entries}
-use Rattle.csv_program.specs.Tasks.{begun_in, worker_at}
+use Rattle.job_ending.specs.Removals.{IfRemoves, RemovesBehind}
+use Rattle.job_ending.specs.Tasks.{begun_in, worker_at}
 
 -- a worker's own entries: each begin is of a task of its own, below a limit; its tasks ascend; and each that was begun
 -- was ended
@@ -37,6 +38,17 @@ abbrev pub EachBegins : (ℕ → Option ℕ) → ℕ → ℕ → List PassState 
 EachBegins owner count limit workers =
     (worker : ℕ) (any : PassState) → worker < count
     → BeginsOwn owner worker limit (own_entries (slice_index_or workers worker any))
+
+-- a worker whose tasks are below a limit removes blocks behind the last of its tasks that may need them, by the number from which
+-- on no task needs a dataset; and none of these numbers passes the limit
+pub record RemovesOwn (first : ℕ → ℕ) (limit : ℕ) (entries : List Entry) : Type 0 where
+  pub behind : RemovesBehind first entries
+  pub free : AllByRecursion (λ entry. IfRemoves entry.event (λ dataset. first dataset ≤ limit)) entries
+
+-- each does so
+abbrev pub EachRemoves : (ℕ → ℕ) → ℕ → ℕ → List PassState → Type 0
+EachRemoves first count limit workers =
+    (worker : ℕ) (any : PassState) → worker < count → RemovesOwn first limit (own_entries (slice_index_or workers worker any))
 
 -- the workers of a manager between two tasks: none has one, or a pin, and each did its own below a limit
 pub record AreBetween (lock : LockId) (owner : ℕ → Option ℕ) (count limit : ℕ) (workers : List PassState) : Type 0 where

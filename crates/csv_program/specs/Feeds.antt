@@ -18,7 +18,7 @@ use Rattle.landing.specs.Landed.{partition_count, partition_of}
 use Rattle.row_filter.specs.Derived.{derived}
 use Rattle.task_runner.specs.Consumers.{fed_after}
 use Rattle.task_runner.specs.Workers.{IsCount, part_at}
-use Rattle.csv_program.specs.declared.call.RunCall.{RunCall}
+use Rattle.job_ending.specs.declared.call.RunCall.{RunCall}
 
 -- the place of the consumer that serves a query of a shape, by the query's place in its pass
 abbrev pub place_of_shape : Shape → ℕ → ℕ

@@ -16,9 +16,9 @@ use Rattle.landing.specs.Headers.{checked_header}
 use Rattle.landing.specs.declared.fault.LandFault.{LandFault}
 use Rattle.words.specs.Calls.{behind_first}
 use Rattle.words.specs.Programs.{plan_words}
-use Rattle.csv_program.specs.Endings.{status_of}
-use Rattle.csv_program.specs.declared.outcome.Status.{Status}
-use Rattle.csv_program.specs.declared.outcome.Status.TheVariants as status
+use Rattle.job_ending.specs.Endings.{status_of}
+use Rattle.job_ending.specs.declared.status.Status.{Status}
+use Rattle.job_ending.specs.declared.status.Status.TheVariants as status
 
 -- a call without words that `plan` takes; one whose text is refused at a place; or one of a job
 pub data PlanCall : Type 0 where

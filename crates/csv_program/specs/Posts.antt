@@ -1,6 +1,6 @@
 -- The posts of a run, and their disks.
 -- This project's own.
-use Rattle.std.specs.Prelude.{◌≡◌, ℕ, ◌<◌, false, Option, Some, None, Result, Ok, Err, IsSome, ⊤}
+use Rattle.std.specs.Prelude.{◌≡◌, ℕ, Option, Some, None, Result, Ok, Err, ⊤}
 use Rattle.std.specs.Global.{Vec}
 use Rattle.spill_disk.specs.Files.{Files}
 use Rattle.spill_disk.specs.Shelves.{disk_at}
@@ -9,8 +9,6 @@ use Rattle.run_file.specs.Shelved.{faults_on, files_on}
 use Rattle.task_runner.specs.declared.post.Post.{Post}
 use Rattle.task_runner.specs.declared.work_fault.WorkFault.{WorkFault}
 use Rattle.task_runner.specs.declared.work_fault.WorkFault.TheVariants.{NoRoom, DiskFault, Damaged, NoMemory}
-use Rattle.csv_program.specs.Calls.{keeps_none}
-use Rattle.csv_program.specs.declared.call.RunCall.{RunCall}
 
 -- the files of a post's disk, where it tells
 abbrev pub post_files : {D C : Type 0} → (D → Option Files) → Vec (Post D C) → ℕ → Option Files
@@ -32,8 +30,3 @@ DamagedOn (Err (NoRoom asked held floor)) P = ⊤
 DamagedOn (Err (DiskFault post)) P = ⊤
 DamagedOn (Err (Damaged damage)) P = P damage.disk
 DamagedOn (Err NoMemory) P = ⊤
-
--- the disks of the workers' posts tell, and so does the store disk, where the job keeps a dataset
-pub record AllTell (asked : RunCall) (files : ℕ → Option Files) (store : Option Files) : Type 0 where
-  pub posts : (place : ℕ) → place < asked.pool.workers → IsSome (files place)
-  pub keeps : keeps_none asked.job ≡ false → IsSome store

@@ -1,23 +1,22 @@
 -- What the answers to the queries of a plan tell, where all partitions' rows are known.
 -- This project's own.
-use Rattle.std.specs.Prelude.{◌≡◌, ℕ, ◌%◌, ◌<◌, List, Option, length, map, slice_index_or}
+use Rattle.std.specs.Prelude.{◌≡◌, ℕ, ◌%◌, ◌<◌, List, Option, length, map}
 use Rattle.std.specs.List.{range_with_len}
 use Rattle.aggregate.specs.Totals.{Entry, total}
 use Rattle.spill_disk.specs.Files.{Files}
 use Rattle.run_file.specs.declared.run.Run.{Run}
 use Rattle.run_file.specs.Several.{concatenated}
 use Rattle.row_filter.specs.Chains.{base_of}
-use Rattle.row_filter.specs.Derived.{derived}
 use Rattle.job_plan.specs.Columns.{Fields}
-use Rattle.job_plan.specs.Entries.{entry_of}
 use Rattle.job_plan.specs.Passes.{pass_datasets, queries_over}
-use Rattle.job_plan.specs.Plans.{chain_in, datasets_in, kept_at, kept_in, kind_at, passes_in, queries_in}
+use Rattle.job_plan.specs.Plans.{chain_in, datasets_in, kept_in, kind_at, passes_in, queries_in}
 use Rattle.job_plan.specs.declared.query_plan.Plan.{Plan}
 use Rattle.result_table.specs.Results.{HasResult}
 use Rattle.memory_core.specs.Caches.{RowsByName}
 use Rattle.lineage.specs.LineageViews.{LineageView}
 use Rattle.lineage.specs.Standing.{HoldsInput, SaysDerived, SaysKept}
 use Rattle.task_runner.specs.Workers.{answer_at}
+use Rattle.job_ending.specs.Endings.{entries_over}
 
 -- the passes of a plan are those of its queries' datasets, each with the queries over its dataset; and blocks name the input by 0
 pub record HasPasses (plan : Plan) : Type 0 where
@@ -40,14 +39,6 @@ HoldsParts files given plan parts part_rows workers rows =
 abbrev pub SaysParts : (ℕ → Option Files) → RowsByName → Plan → List Run → ℕ → ℕ → Type 0
 SaysParts files given plan parts part_rows workers =
     (part : ℕ) → part < length parts → SaysDerived given (files (part % workers)) (lineage_in plan parts part_rows) part
-
--- the dataset that a query is over
-abbrev pub dataset_in : Plan → ℕ → ℕ
-dataset_in plan query = slice_index_or (datasets_in plan) query 0
-
--- the entries that a query makes of landed rows: of those of its dataset, in their order
-abbrev pub entries_over : Plan → ℕ → List Fields → List Entry
-entries_over plan query rows = map (entry_of (kept_at plan query)) (derived (chain_in plan) (dataset_in plan query) rows)
 
 -- what those of so many partitions come to, the partitions in order
 abbrev pub totals_of_parts : Plan → ℕ → (ℕ → List Fields) → ℕ → List Entry

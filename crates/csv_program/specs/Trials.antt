@@ -5,10 +5,10 @@ use Rattle.pool_ledger.specs.Sizes.{smallest_heap}
 use Rattle.trial_input.specs.FixedJob.{trial_job}
 use Rattle.words.specs.Calls.{behind_first}
 use Rattle.words.specs.Programs.{TrialReading, trial_words}
-use Rattle.csv_program.specs.Calls.{Call, NoCall, NoHeap, Runs, pool_of}
-use Rattle.csv_program.specs.declared.call.RunCall.{RunCall}
-use Rattle.csv_program.specs.declared.outcome.Status.{Status}
-use Rattle.csv_program.specs.declared.outcome.Status.TheVariants as status
+use Rattle.job_ending.specs.Calls.{Call, NoCall, NoHeap, Runs, pool_of}
+use Rattle.job_ending.specs.declared.call.RunCall.{RunCall}
+use Rattle.job_ending.specs.declared.status.Status.{Status}
+use Rattle.job_ending.specs.declared.status.Status.TheVariants as status
 
 -- the run of a trial of so many rows: no other rows are there, and its journal isn't written
 abbrev pub trial_run : TrialReading → RunCall

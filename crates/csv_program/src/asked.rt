@@ -7,10 +7,9 @@ ghost use Rattle.pool_ledger.specs.Sizes.{smallest_heap};
 ghost use Rattle.words.specs.Options.{AreInRange};
 ghost use Rattle.words.specs.Texts.{texts};
 ghost use Rattle.words.specs.Views.{run_reading, work_reading};
-ghost use Rattle.csv_program.specs.Calls.{IsRun, IsWhyNot, Runs, call_of, call_with, pool_of};
+ghost use Rattle.job_ending.specs.Calls.{IsRun, IsWhyNot, Runs, call_of, call_with, pool_of};
 
-use crate::call::RunCall;
-use crate::outcome::Status;
+use job_ending::{RunCall, Status};
 use job_text::{JobFault, read};
 use pool_ledger::{HeapTooSmall, Setup};
 use std::alloc::Global;

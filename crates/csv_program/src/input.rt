@@ -8,12 +8,12 @@ ghost use Rattle.landing.specs.Checks.{Refused, checked};
 ghost use Rattle.landing.specs.Landed.{HasCauseAmong, IsOfInput, Lands};
 ghost use Rattle.landing.specs.declared.fault.LandFault.{LandFault};
 ghost use Rattle.task_runner.specs.Pass.{KeepsAll};
-ghost use Rattle.csv_program.specs.Calls.{IsRun};
+ghost use Rattle.job_ending.specs.Calls.{IsRun};
 ghost use Rattle.csv_program.specs.Posts.{post_faults, post_files};
 
-use crate::call::RunCall;
 use byte_io::Source;
 use consumer_trait::Consumer;
+use job_ending::RunCall;
 use landing::{LandFault, Landed, land};
 use spill_disk::Disk;
 use std::alloc::Global;

@@ -2,12 +2,10 @@
 #![tactic(auto)]
 
 mod asked;
-mod call;
 mod clearing;
 mod consumers;
 mod finishing;
 mod input;
-mod outcome;
 mod plan;
 mod pool;
 mod queries;
@@ -22,7 +20,7 @@ mod trial;
 
 use audit_program::{AuditStatus, audit_call};
 use byte_io::{FileSink, StdSink, StdSource};
-use outcome::Status;
+use job_ending::Status;
 use plan::plan_call;
 use spill::prepare;
 use std::alloc::{AllocError, Global};
@@ -85,54 +83,43 @@ fn journal_sink<R: Files + AllocGlobal + Clone + Drop>(rt: &R) -> Result<FileSin
     Ok(FileSink::new(rt.clone()?, path))
 }
 
+// The process' end with a status.
+fn end(rt: &impl Eprint, status: &Status) -> ExitCode {
+    end_with(rt, status.number(), status)
+}
+
 fn main(rt: HostRuntime) -> ExitCode {
     let words = match words_of_call(&rt) {
         Ok(words) => words,
-        Err(status) => return end_with(&rt, status.number(), &status),
+        Err(status) => return end(&rt, &status),
     };
     let Ok(texts) = texts(rt.alloc(), &words) else {
-        let status = Status::NoMemory;
-        return end_with(&rt, status.number(), &status);
+        return end(&rt, &Status::NoMemory);
     };
+    let mut input = StdSource::new(rt.reader());
+    let mut output = StdSink::new(io::writer(&rt));
     if begins_with(&texts, "plan") {
-        let mut input = StdSource::new(rt.reader());
-        let mut output = StdSink::new(io::writer(&rt));
-        let status = plan_call(rt.alloc(), &texts, &mut input, &mut output);
-        return end_with(&rt, status.number(), &status);
+        return end(&rt, &plan_call(rt.alloc(), &texts, &mut input, &mut output));
     }
     if begins_with(&texts, "audit") {
-        let mut input = StdSource::new(rt.reader());
-        let mut output = StdSink::new(io::writer(&rt));
-        let ended = audit_call(rt.alloc(), &texts, &mut input, &mut output);
-        return end_audit(&rt, ended);
+        return end_audit(&rt, audit_call(rt.alloc(), &texts, &mut input, &mut output));
     }
     // The folder is this process' own until its end.
     let (mut posts, store, _lock) = match prepare(&rt, &texts) {
         Ok(made) => made,
         Err(fault) => return end_with(&rt, fault.number(), &fault),
     };
-    let mut output = StdSink::new(io::writer(&rt));
+    let alloc = rt.alloc();
     if begins_with(&texts, "trial") {
-        let status = trial(
-            &rt,
-            rt.alloc(),
-            &texts,
-            &mut output,
-            &mut posts,
-            store,
-            &NoGate,
-        )
-        .status;
-        return end_with(&rt, status.number(), &status);
+        let left = trial(&rt, alloc, &texts, &mut output, &mut posts, store, &NoGate);
+        return end(&rt, &left.status);
     }
-    let mut input = StdSource::new(rt.reader());
     let Ok(mut journal) = journal_sink(&rt) else {
-        let status = Status::NoMemory;
-        return end_with(&rt, status.number(), &status);
+        return end(&rt, &Status::NoMemory);
     };
-    let status = run(
+    let left = run(
         &rt,
-        rt.alloc(),
+        alloc,
         &texts,
         &mut input,
         &mut output,
@@ -140,7 +127,6 @@ fn main(rt: HostRuntime) -> ExitCode {
         &mut posts,
         store,
         &NoGate,
-    )
-    .status;
-    end_with(&rt, status.number(), &status)
+    );
+    end(&rt, &left.status)
 }

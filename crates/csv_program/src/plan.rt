@@ -12,12 +12,12 @@ ghost use Rattle.landing.specs.Headers.{checked_header};
 ghost use Rattle.landing.specs.Landed.{IsOfInput};
 ghost use Rattle.landing.specs.declared.fault.LandFault.{LandFault};
 ghost use Rattle.words.specs.Texts.{texts};
-ghost use Rattle.csv_program.specs.Endings.{status_of};
+ghost use Rattle.job_ending.specs.Endings.{status_of};
 ghost use Rattle.csv_program.specs.PlanCalls.{ForPlan, IsOfPrint, IsWhyNoPlan, MayPrint, Plans, PrintsNothing, PrintsPlan, TellsPlan, TellsRefusal, plan_asked};
 
-use crate::outcome::Status;
 use crate::top::land_status;
 use byte_io::{Sink, SinkError, Source, write_all_counted};
+use job_ending::Status;
 use job_plan::Plan;
 use job_text::{Job, JobFault, read};
 use landing::{LandFault, plan_input};

@@ -20,18 +20,20 @@ ghost use Rattle.task_runner.specs.Works.{IfNoRoom, ShowsNoRoom};
 ghost use Rattle.turn_lock.specs.Passes.{PassState};
 ghost use Rattle.csv_program.specs.Cached.{EachTells, TellsPasses};
 ghost use Rattle.csv_program.specs.Charges.{EachCharges, ChargesPlan};
-ghost use Rattle.csv_program.specs.Doing.{AreBetween, EachBegins, EachSees, OwnsPass};
+ghost use Rattle.csv_program.specs.Doing.{AreBetween, EachBegins, EachRemoves, EachSees, OwnsPass};
 ghost use Rattle.csv_program.specs.Feeds.{FeedsPlan};
 ghost use Rattle.csv_program.specs.Passing.{ArePut, HavePass, LeavesPosts};
 ghost use Rattle.csv_program.specs.Posts.{DamagedOn, post_faults, post_files};
 ghost use Rattle.csv_program.specs.QueryResults.{HasPasses, HaveResults, HoldsParts, SaysParts, totals_of_parts};
-ghost use Rattle.csv_program.specs.Tasks.{BeginsAll, FollowsPlan, ShowsShort, owner_of};
+ghost use Rattle.job_ending.specs.Removals.{RemovesLate, free_from};
+ghost use Rattle.job_ending.specs.Tasks.{BeginsAll, FollowsPlan, owner_of};
+ghost use Rattle.csv_program.specs.Shortage.{ShowsShort};
 
-use crate::call::RunCall;
 use crate::clearing::remove_blocks;
 use crate::finishing::finish;
 use consumer_trait::Consumer;
 use job_answer::parts_tell_all;
+use job_ending::RunCall;
 use job_plan::Plan;
 use memory_lock::{Basis, Manager, Worker};
 use pool_laws::legal_journals_are_safe;
@@ -66,7 +68,7 @@ pub fn run_tasks<
 ) -> (Result<Vec<Option<Run>>, WorkFault>, Option<Journal>)
     requires basis { asked.now.pool ≡ B.sizes }
     requires owner { (task : ℕ)
-        → B.owner task ≡ owner_of asked.now.pool.workers (length parts.now) (length (passes_in plan.now)) task }
+        → B.owner task ≡ owner_of 0 0 asked.now.pool.workers (length parts.now) (length (passes_in plan.now)) task }
     requires rows { is_some (K.files store) ≡ false → (dataset part : ℕ) → B.rows dataset part ≡ None }
     requires said { SaysParts (post_files D.files posts.old) B.rows plan.now parts.now asked.now.part_rows
         asked.now.pool.workers }
@@ -106,15 +108,17 @@ pub fn run_tasks<
     ensures none { IfNone result.1 (result.0 ≡ Err WorkFault.NoMemory) }
     ensures legal { IfSome result.1 (λ journal. IsLegal asked.now.pool (history_of journal)) }
     ensures tasks { IfSome result.1 (λ journal.
-        FollowsPlan asked.now.pool.workers (length parts.now) (length (passes_in plan.now)) journal) }
+        FollowsPlan (owner_of 0 0 asked.now.pool.workers (length parts.now) (length (passes_in plan.now))) journal) }
     ensures all { OnOk result.0 (IfSome result.1 (λ journal.
-        BeginsAll (length parts.now) (length (passes_in plan.now)) journal)) }
+        BeginsAll 0 (length parts.now) (length (passes_in plan.now)) journal)) }
     ensures charged { OnOk result.0 ((rows : ℕ → List (List (List ℕ))) →
         HoldsParts (post_files D.files posts.old) B.rows plan.now parts.now asked.now.part_rows
         asked.now.pool.workers rows → IfSome result.1 (λ journal.
         ChargesPlan (states_at C.state posts.old.items) plan.now (length parts.now) rows asked.now.pool.workers journal)) }
     ensures told { OnOk result.0 (IfSome result.1 (λ journal. TellsPasses plan.now asked.now.pool.workers
         (length parts.now) (length (passes_in plan.now)) journal)) }
+    ensures removes { OnOk result.0 (IfSome result.1
+        (RemovesLate plan.now asked.now.pool.workers (length parts.now))) }
     ensures no_room { IfNoRoom result.0 (λ wanted held floor.
         IfSome result.1 (λ journal. ShowsShort asked.now.pool journal wanted held floor)) }
 {
@@ -162,9 +166,10 @@ fn run_passes<
     gate: &G,
 ) -> Result<Vec<Option<Run>>, WorkFault>
     requires workers { AreBetween executor.now.manager.now B.owner B.sizes.workers 0 workers.old.items }
+    requires new { EachRemoves (free_from plan.now (length parts.now)) B.sizes.workers 0 workers.old.items }
     requires some { 1 ≤ B.sizes.workers }
     requires owner { (task : ℕ)
-        → B.owner task ≡ owner_of B.sizes.workers (length parts.now) (length (passes_in plan.now)) task }
+        → B.owner task ≡ owner_of 0 0 B.sizes.workers (length parts.now) (length (passes_in plan.now)) task }
     requires said { SaysParts (post_files D.files posts.old) B.rows plan.now parts.now part_rows B.sizes.workers }
     requires posts { B.sizes.workers ≤ length posts.old.items }
     requires few_posts { length posts.old.items < 2 ^ 32 - 1 }
@@ -202,6 +207,8 @@ fn run_passes<
         (length (passes_in plan.now)) workers.new.items) }
     ensures told { OnOk result (EachTells plan.now B.sizes.workers (length parts.now) (length (passes_in plan.now))
         workers.new.items) }
+    ensures removes { OnOk result (EachRemoves (free_from plan.now (length parts.now)) B.sizes.workers
+        (length (passes_in plan.now) * (length parts.now + 1)) workers.new.items) }
     ensures no_room { IfNoRoom result (λ asked held floor. (worker task : ℕ) × (worker < B.sizes.workers)
         × ((any : PassState)
         → ShowsNoRoom B.sizes (own_of (slice_index_or workers.new.items worker any)) task asked held floor)) }
@@ -307,6 +314,9 @@ fn work<
         (own_of (slice_index_or workers.new.items (part % B.sizes.workers) any))) }
     ensures told { OnOk result ((part : ℕ) (any : PassState) → part < parts_of pass.now
         → TellsTask pass.now part (slice_index_or workers.new.items (part % B.sizes.workers) any)) }
+    ensures removes { OnOk result ((first : ℕ → ℕ)
+        → EachRemoves first B.sizes.workers pass.now.first workers.old.items
+        → EachRemoves first B.sizes.workers (pass.now.first + parts_of pass.now + 1) workers.new.items) }
     ensures no_room { IfNoRoom result (λ asked held floor. (worker task : ℕ) × (worker < B.sizes.workers)
         × ((any : PassState)
         → ShowsNoRoom B.sizes (own_of (slice_index_or workers.new.items worker any)) task asked held floor)) }

@@ -12,26 +12,27 @@ ghost use Rattle.job_plan.specs.Plans.{first_task_of, form_in, passes_in};
 ghost use Rattle.landing.specs.Landed.{partition_of};
 ghost use Rattle.task_runner.specs.Consumers.{HasConsumers, KeepsConsumers};
 ghost use Rattle.task_runner.specs.Pass.{KeepsAll, states_at};
-ghost use Rattle.csv_program.specs.Endings.{MayEndAs, ending_of_totals, printed_in, totals_of};
+ghost use Rattle.job_ending.specs.Endings.{MayEndAs, ending_of_totals, printed_in, totals_of};
 ghost use Rattle.csv_program.specs.Feeds.{FeedsPlan};
 ghost use Rattle.csv_program.specs.Basis.{StandAs};
 ghost use Rattle.csv_program.specs.Cached.{TellsPasses};
 ghost use Rattle.csv_program.specs.Charges.{ChargesPlan};
 ghost use Rattle.csv_program.specs.Posts.{post_faults, post_files};
 ghost use Rattle.csv_program.specs.QueryResults.{HasPasses, SaysParts};
-ghost use Rattle.csv_program.specs.Statuses.{IsCut, IsDamaged, IsDamagedOn, IsDiskFault, IsNoRoom, IsOfTasks, MakesPool, WritesNothing};
-ghost use Rattle.csv_program.specs.Tasks.{BeginsAll, FollowsPlan, ShowsShort, owner_of};
+ghost use Rattle.job_ending.specs.Statuses.{IsCut, IsDamaged, IsDamagedOn, IsDiskFault, IsNoRoom, IsOfTasks, MakesPool, WritesNothing};
+ghost use Rattle.job_ending.specs.Removals.{RemovesLate};
+ghost use Rattle.job_ending.specs.Tasks.{BeginsAll, FollowsPlan, owner_of};
+ghost use Rattle.csv_program.specs.Shortage.{ShowsShort};
 ghost use Rattle.csv_program.specs.Telling.{status_of_work};
-ghost use Rattle.csv_program.specs.Written.{Gains};
+ghost use Rattle.job_ending.specs.Written.{Gains};
 
-use crate::call::RunCall;
-use crate::outcome::{Outcome, Status, unpooled};
 use crate::pool::run_tasks;
 use crate::record::Record;
 use crate::table::print_answers;
 use byte_io::Sink;
 use consumer_trait::Consumer;
 use job_answer::short_shapes_are_told;
+use job_ending::{Outcome, RunCall, Status, unpooled};
 use job_plan::Plan;
 use memory_lock::Basis;
 use run_file::Run;
@@ -65,7 +66,7 @@ pub fn run_queries<
     gate: &G,
 ) -> Outcome
     requires basis { asked.now.pool ≡ B.sizes }
-    requires owner { (task : ℕ) → B.owner task ≡ owner_of asked.now.pool.workers (length parts.now) (length (passes_in plan.now)) task }
+    requires owner { (task : ℕ) → B.owner task ≡ owner_of 0 0 asked.now.pool.workers (length parts.now) (length (passes_in plan.now)) task }
     requires rows { is_some (K.files store) ≡ false → (dataset part : ℕ) → B.rows dataset part ≡ None }
     requires said { SaysParts (post_files D.files posts.old) B.rows plan.now parts.now asked.now.part_rows
         asked.now.pool.workers }
@@ -110,14 +111,16 @@ pub fn run_queries<
     ensures setup { IfSome result.setup (λ setup. setup ≡ asked.now.pool) }
     ensures none { IfNone result.setup (result.journal ≡ []) }
     ensures legal { IfSome result.setup (λ setup. IsLegal asked.now.pool (history_of result.journal)) }
-    ensures tasks { FollowsPlan asked.now.pool.workers (length parts.now) (length (passes_in plan.now)) result.journal }
+    ensures tasks { FollowsPlan (owner_of 0 0 asked.now.pool.workers (length parts.now) (length (passes_in plan.now))) result.journal }
     ensures told { result.status ≡ Status.Done → TellsPasses plan.now asked.now.pool.workers (length parts.now)
         (length (passes_in plan.now)) result.journal }
+    ensures removes { result.status ≡ Status.Done
+        → RemovesLate plan.now asked.now.pool.workers (length parts.now) result.journal }
     ensures charged { result.status ≡ Status.Done → (rows : List (List (List ℕ))) →
         StandAs B.rows (post_files D.files posts.old) asked.now plan.now parts.now rows →
         ChargesPlan (states_at C.state posts.old.items) plan.now (length parts.now)
         (λ part. partition_of asked.now.part_rows part rows) asked.now.pool.workers result.journal }
-    ensures all { result.status ≡ Status.Done → BeginsAll (length parts.now) (length (passes_in plan.now)) result.journal }
+    ensures all { result.status ≡ Status.Done → BeginsAll 0 (length parts.now) (length (passes_in plan.now)) result.journal }
 
     // The posts.
     ensures fed { result.status ≡ Status.Done → (rows : List (List (List ℕ))) →
@@ -148,11 +151,23 @@ pub fn run_queries<
             };
             print_answers(alloc, posts, plan, &answers, &record, journal, output)
         }
-        Err(fault) => Status::from(fault),
+        Err(fault) => status_of_fault(fault),
     };
     Outcome {
         status,
         setup: Some(pool),
         journal: entries,
+    }
+}
+
+// The status that tells a fault of tasks.
+fn status_of_fault(fault: WorkFault) -> Status
+    ensures { result ≡ status_of_work fault }
+{
+    match fault {
+        WorkFault::NoRoom { asked, held, floor } => Status::NoRoom { asked, held, floor },
+        WorkFault::DiskFault { post } => Status::DiskFault { post },
+        WorkFault::Damaged(damage) => Status::from(damage),
+        WorkFault::NoMemory => Status::NoMemory,
     }
 }

@@ -3,11 +3,11 @@
 ghost use Rattle.std.specs.Prelude.{◌≡◌, ◌≤◌, IfErr, OnErr, OnOk};
 ghost use Rattle.fault_count.specs.Faults.{Rose};
 ghost use Rattle.journal_audit.specs.Text.{text_of};
-ghost use Rattle.csv_program.specs.Statuses.{IsOfJournal};
-ghost use Rattle.csv_program.specs.Written.{WritesFront, WritesText};
+ghost use Rattle.job_ending.specs.Statuses.{IsOfJournal};
+ghost use Rattle.job_ending.specs.Written.{WritesFront, WritesText};
 
-use crate::outcome::Status;
 use byte_io::{Sink, SinkError, write_all_counted};
+use job_ending::Status;
 use journal_audit::journal_text;
 use pool_ledger::{Journal, Setup};
 use std::alloc::Global;

@@ -3,7 +3,7 @@
 ghost use Rattle.std.specs.Prelude.{◌≡◌, All, IfOk, is_some, length, map};
 ghost use Rattle.task_runner.specs.Consumers.{HasConsumers};
 ghost use Rattle.csv_program.specs.QueryConsumers.{state_in};
-ghost use Rattle.csv_program.specs.Statuses.{number_of_spill};
+ghost use Rattle.csv_program.specs.SpillFaults.{number_of_spill};
 ghost use Rattle.csv_program.specs.Words.{may_run};
 
 use crate::consumers::{QueryConsumer, make_consumers};

@@ -9,13 +9,13 @@ ghost use Rattle.result_table.specs.Results.{HasResult, IsDamageOfResult};
 ghost use Rattle.run_file.specs.Causes.{NotDamaged};
 ghost use Rattle.run_file.specs.Shelved.{LeavesFiles, faults_on, files_on};
 ghost use Rattle.run_merge.specs.Causes.{HasCauseAmong};
-ghost use Rattle.csv_program.specs.Endings.{MayEndAs, ending_of_totals, wide_of};
+ghost use Rattle.job_ending.specs.Endings.{MayEndAs, ending_of_totals, wide_of};
 ghost use Rattle.csv_program.specs.Posts.{IsDiskOf};
 ghost use Rattle.csv_program.specs.QueryResults.{HaveResults};
-ghost use Rattle.csv_program.specs.Statuses.{IsDamaged, IsDamagedOn, IsDiskFault, IsOfSums, IsUnprinted, TellsWide};
+ghost use Rattle.job_ending.specs.Statuses.{IsDamaged, IsDamagedOn, IsDiskFault, IsOfSums, IsUnprinted, TellsWide};
 
-use crate::outcome::Status;
 use aggregate::{Key, Kind};
+use job_ending::Status;
 use job_plan::Plan;
 use result_table::too_wide;
 use run_file::{Run, RunFault};

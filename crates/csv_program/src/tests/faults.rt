@@ -1,8 +1,8 @@
 // Each call of the input, of the output and of a disk fails in turn.
-use crate::outcome::Status;
 use crate::tests::running::{
     BOTH, CITIES, Call, Ran, call_of, generated, run_on, run_with, told, words_with,
 };
+use job_ending::Status;
 use std::alloc::{AllocError, Global};
 use std::sync::Wait;
 use std::test::Fail;

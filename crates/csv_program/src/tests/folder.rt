@@ -19,6 +19,8 @@ fn told<R: Files<File = File> + AllocGlobal + Clone + Drop>(rt: &R) -> Result<St
 
 #[test]
 fn a_folder_that_cannot_be_had_is_named_with_the_reason(rt: HostRuntime) -> Result<(), Fail> {
+    // A run of the program in this folder may have left its own.
+    let _ = fs::remove_dir_all(&rt, "spill");
     fs::write(&rt, "spill", b"a file".as_slice())?;
     let of_a_file = told(&rt)?;
     fs::remove_file(&rt, "spill")?;

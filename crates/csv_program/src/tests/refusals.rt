@@ -1,6 +1,6 @@
 // Inputs, words, jobs and pools that end a run before its table.
-use crate::outcome::Status;
 use crate::tests::running::{BOTH, CITIES, call_of, run_on, run_with, told, words_with};
+use job_ending::Status;
 use std::alloc::{AllocError, Global};
 use std::sync::Wait;
 use std::test::Fail;

@@ -4,9 +4,9 @@ ghost use Rattle.task_runner.specs.Consumers.{HasConsumers};
 ghost use Rattle.csv_program.specs.QueryConsumers.{state_in};
 
 use crate::consumers::{QueryConsumer, make_consumers};
-use crate::outcome::{Outcome, Status};
 use crate::top::run;
 use byte_io::{MemorySink, MemorySource};
+use job_ending::{Outcome, Status};
 use spill_disk::MemoryDisk;
 use std::alloc::{AllocError, Global};
 use std::sync::Wait;

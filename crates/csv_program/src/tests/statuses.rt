@@ -1,8 +1,8 @@
 // The numbers and texts of statuses.
-use crate::outcome::Status;
 use crate::tests::running::told;
 use aggregate::Key;
 use item_lists::Name;
+use job_ending::Status;
 use std::test::Fail;
 
 #[test]

@@ -1,8 +1,8 @@
 // Trials: their lines in large and small pools, on disks that fail, and what words are refused.
-use crate::outcome::Outcome;
 use crate::tests::running::{posts_of, told};
 use crate::trial::trial;
 use byte_io::MemorySink;
+use job_ending::Outcome;
 use pool_ledger::{Event, Fate};
 use spill_disk::MemoryDisk;
 use std::alloc::{AllocError, Global};

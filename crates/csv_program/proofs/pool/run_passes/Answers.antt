@@ -7,7 +7,8 @@ use Rattle.task_runner.specs.Pass.{states_at}
 use Rattle.task_runner.specs.PassViews.{pass_with}
 use Rattle.csv_program.specs.Cached.{EachTells}
 use Rattle.csv_program.specs.Charges.{EachCharges}
-use Rattle.csv_program.specs.Doing.{AreBetween, EachBegins, OwnsPass}
+use Rattle.job_ending.specs.Removals.{free_from}
+use Rattle.csv_program.specs.Doing.{AreBetween, EachBegins, EachRemoves, OwnsPass}
 use Rattle.csv_program.specs.Passing.{ArePut, HavePass}
 use Rattle.csv_program.specs.Posts.{post_files}
 use Rattle.csv_program.specs.QueryResults.{HaveResults, totals_of_parts}
@@ -16,6 +17,7 @@ use Rattle.csv_program.proofs.Crews.{begun_cleared, between_cleared, between_mor
 use Rattle.csv_program.proofs.FedByPasses.{FeedsUpTo, feeds_all, feeds_none}
 use Rattle.csv_program.proofs.Gathered.{HaveUpTo, all_put, have_all, have_none, parts_kept, says_kept}
 use Rattle.csv_program.proofs.ChargedPasses.{each_charges_later, each_charges_more}
+use Rattle.csv_program.proofs.RemovedLate.{free_behind, removes_behind}
 use Rattle.csv_program.proofs.Leaving.{leaves_same, leaves_then, serve_still}
 use Rattle.csv_program.proofs.Passed.{feeds_step, first_is, have_step, is_pass, next_is, next_least, sound_fault}
 use Rattle.csv_program.proofs.pool.run_passes.Goals as goal
@@ -36,6 +38,9 @@ loop-number-init g c = record {
   workers = between_more g.B.Basis.owner c.args.executor.now.manager.now g.B.Basis.sizes.workers 0 (0 * (length c.args.parts.now + 1)) c.args.workers.now.items (omega arith) c.requires.workers;
   charged = λ rows holds pass part any below within. absurd (omega (arith, below));
   told = λ pass part any below within. absurd (omega (arith, below));
+  removes =
+      let none : 0 ≡ 0 * (length c.args.parts.now + 1) = omega arith in
+      subst (λ (limit : ℕ). EachRemoves (free_from c.args.plan.now (length c.args.parts.now)) g.B.Basis.sizes.workers limit c.args.workers.now.items) none c.requires.new;
   begun = λ w any below task low own. absurd (omega (arith, low));
 }
 
@@ -148,6 +153,11 @@ loop-number-preserved g c =
       told = each_later plan workers (length parts) (number + 1) mids news c.requires.some (sees_cleared c.removed.result.now workers mids news clears others)
           (each_more plan (pass_with plan c.dataset.result c.queries-queries.result.now parts c.args.part_rows c.task.result) c.args.executor.now.manager.now workers number c.loop-number.workers.items mids c.requires.some
           refl c.dataset.ensures.is first c.work.ensures.workers.workers_are c.work.ensures.sees c.in-Ok-work.ensures.told held.told);
+      removes = removes_behind (free_from plan (length parts)) workers ((number + 1) * (length parts + 1)) c.removed.result.now mids news
+          (free_behind plan (length parts) number c.removed.result.now c.removed.ensures) clears others
+          (subst (λ (limit : ℕ). EachRemoves (free_from plan (length parts)) workers limit mids) next
+          (c.in-Ok-work.ensures.removes (free_from plan (length parts))
+          (subst (λ (limit : ℕ). EachRemoves (free_from plan (length parts)) workers limit c.loop-number.workers.items) (sym first) held.removes)));
       begun = begun_cleared g.B.Basis.owner workers ((number + 1) * (length parts + 1)) c.removed.result.now mids news clears others
           (subst (λ (limit : ℕ). EachBegins g.B.Basis.owner workers limit mids) next c.in-Ok-work.ensures.begun);
     }
@@ -185,3 +195,8 @@ pub returns-clause-told : goal.returns-clause-told
 returns-clause-told g c =
     let all : c.loop-number.number ≡ length (passes_in c.args.plan.now) = omega (arith, c.loop-number-test.false, c.loop-number.auto.number-end, c.passes-number-end.ensures.count) in
     subst (λ (passes : ℕ). EachTells c.args.plan.now g.B.Basis.sizes.workers (length c.args.parts.now) passes c.loop-number.workers.items) all c.loop-number.invariant.told
+
+pub returns-clause-removes : goal.returns-clause-removes
+returns-clause-removes g c =
+    let all : c.loop-number.number ≡ length (passes_in c.args.plan.now) = omega (arith, c.loop-number-test.false, c.loop-number.auto.number-end, c.passes-number-end.ensures.count) in
+    subst (λ (passes : ℕ). EachRemoves (free_from c.args.plan.now (length c.args.parts.now)) g.B.Basis.sizes.workers (passes * (length c.args.parts.now + 1)) c.loop-number.workers.items) all c.loop-number.invariant.removes

@@ -4,7 +4,8 @@ use Rattle.job_plan.specs.Plans.{kept_in}
 use Rattle.task_runner.specs.Pass.{states_at}
 use Rattle.csv_program.specs.Cached.{EachTells}
 use Rattle.csv_program.specs.Charges.{EachCharges}
-use Rattle.csv_program.specs.Doing.{AreBetween, EachBegins}
+use Rattle.job_ending.specs.Removals.{free_from}
+use Rattle.csv_program.specs.Doing.{AreBetween, EachBegins, EachRemoves}
 use Rattle.csv_program.specs.Passing.{LeavesPosts}
 use Rattle.csv_program.specs.Posts.{post_files}
 use Rattle.csv_program.specs.QueryResults.{HoldsParts, totals_of_parts}
@@ -26,5 +27,6 @@ invariant-loop-number g l = record {
   charged : (rows : ℕ → List (List (List ℕ))) → HoldsParts (post_files g.D.Disk.files l.initial.posts) g.B.Basis.rows l.plan l.parts l.part_rows g.B.Basis.sizes.workers rows
       → EachCharges (states_at g.C.Consumer.state l.initial.posts.items) l.plan (length l.parts) rows g.B.Basis.sizes.workers l.number l.workers.items;
   told : EachTells l.plan g.B.Basis.sizes.workers (length l.parts) l.number l.workers.items;
+  removes : EachRemoves (free_from l.plan (length l.parts)) g.B.Basis.sizes.workers (l.number * (length l.parts + 1)) l.workers.items;
   begun : EachBegins g.B.Basis.owner g.B.Basis.sizes.workers (l.number * (length l.parts + 1)) l.workers.items;
 }

@@ -9,15 +9,18 @@ use Rattle.task_runner.specs.Pass.{states_at}
 use Rattle.task_runner.specs.Works.{ShowsNoRoom}
 use Rattle.csv_program.specs.Cached.{EachTells, TellsPasses}
 use Rattle.csv_program.specs.Charges.{EachCharges, ChargesPlan}
-use Rattle.csv_program.specs.Doing.{EachBegins}
+use Rattle.csv_program.specs.Doing.{EachBegins, EachRemoves}
 use Rattle.csv_program.specs.Feeds.{FeedsPlan}
 use Rattle.csv_program.specs.Posts.{post_files}
 use Rattle.csv_program.specs.QueryResults.{HoldsParts, SaysParts}
-use Rattle.csv_program.specs.Tasks.{BeginsAll, FollowsPlan, ShowsShort, owner_of}
+use Rattle.job_ending.specs.Removals.{RemovesLate, free_from}
+use Rattle.job_ending.specs.Tasks.{BeginsAll, FollowsPlan, owner_of}
+use Rattle.csv_program.specs.Shortage.{ShowsShort}
 use Rattle.csv_program.proofs.CachedTasks.{journal_tells}
 use Rattle.csv_program.proofs.Crews.{new_between}
 use Rattle.csv_program.proofs.Followed.{begins_all, follows, on_ok_more, room_more, shows_short}
 use Rattle.csv_program.proofs.ChargedPasses.{journal_charges}
+use Rattle.csv_program.proofs.RemovedLate.{removes_late, removes_new}
 use Rattle.csv_program.proofs.pool.run_tasks.Goals as goal
 
 pub run_passes-answers-requires-clause-workers : goal.run_passes-answers-requires-clause-workers
@@ -41,6 +44,23 @@ returns-clause-told g c =
     (journal_tells c.args.plan.now g.B.Basis.sizes.workers partitions passes c.in-Ok.manager c.run_passes-answers.new.workers.items (new_worker c.in-Ok.manager 0 0) c.close-journal.result.0
     some c.run_passes-answers.ensures.workers.workers_are c.close-journal.ensures.whole told))
     c.run_passes-answers.ensures.told
+
+pub run_passes-answers-requires-clause-new : goal.run_passes-answers-requires-clause-new
+run_passes-answers-requires-clause-new g c κs within =
+    removes_new (free_from c.args.plan.now (length c.args.parts.now)) c.in-Ok.manager g.B.Basis.sizes.workers 0 c.in-Ok.workers.items c.in-Ok.ensures.workers c.in-Ok.ensures.fresh
+
+pub returns-clause-removes : goal.returns-clause-removes
+returns-clause-removes g c =
+    let partitions = length c.args.parts.now in
+    let passes = length (passes_in c.args.plan.now) in
+    let size : c.args.asked.now.pool.workers ≡ g.B.Basis.sizes.workers = ap (λ (s : Sizes). s.workers) c.requires.basis in
+    on_ok_more c.run_passes-answers.result
+    (EachRemoves (free_from c.args.plan.now partitions) g.B.Basis.sizes.workers (passes * (partitions + 1)) c.run_passes-answers.new.workers.items)
+    (RemovesLate c.args.plan.now c.args.asked.now.pool.workers partitions c.close-journal.result.0)
+    (λ did. subst (λ (n : ℕ). RemovesLate c.args.plan.now n partitions c.close-journal.result.0) (sym size)
+    (removes_late c.args.plan.now c.in-Ok.manager g.B.Basis.sizes.workers partitions (passes * (partitions + 1)) c.run_passes-answers.new.workers.items (new_worker c.in-Ok.manager 0 0) c.close-journal.result.0
+    c.run_passes-answers.ensures.workers.workers_are c.close-journal.ensures.whole did))
+    c.run_passes-answers.ensures.removes
 
 pub returns-clause-charged : goal.returns-clause-charged
 returns-clause-charged g c =
@@ -81,11 +101,11 @@ returns-clause-tasks g c =
     let partitions = length c.args.parts.now in
     let passes = length (passes_in c.args.plan.now) in
     let size : c.args.asked.now.pool.workers ≡ g.B.Basis.sizes.workers = ap (λ (s : Sizes). s.workers) c.requires.basis in
-    let owns : (task : ℕ) → g.B.Basis.owner task ≡ owner_of g.B.Basis.sizes.workers partitions passes task = subst (λ (n : ℕ). (task : ℕ) → g.B.Basis.owner task ≡ owner_of n partitions passes task) size c.requires.owner in
+    let owns : (task : ℕ) → g.B.Basis.owner task ≡ owner_of 0 0 g.B.Basis.sizes.workers partitions passes task = subst (λ (n : ℕ). (task : ℕ) → g.B.Basis.owner task ≡ owner_of 0 0 n partitions passes task) size c.requires.owner in
     let did = c.run_passes-answers.ensures.workers in
     let plan = follows g.B.Basis.sizes c.in-Ok.manager g.B.Basis.owner g.B.Basis.sizes.workers partitions passes (passes * (partitions + 1)) c.run_passes-answers.new.workers.items c.close-journal.result.0
     refl owns did.workers_are c.close-journal.ensures.whole c.close-journal.ensures.legal did.does in
-    subst (λ (n : ℕ). FollowsPlan n partitions passes c.close-journal.result.0) (sym size) plan
+    subst (λ (n : ℕ). FollowsPlan (owner_of 0 0 n partitions passes) c.close-journal.result.0) (sym size) plan
 
 pub returns-clause-all : goal.returns-clause-all
 returns-clause-all g c =
@@ -93,10 +113,10 @@ returns-clause-all g c =
     let passes = length (passes_in c.args.plan.now) in
     let size : c.args.asked.now.pool.workers ≡ g.B.Basis.sizes.workers = ap (λ (s : Sizes). s.workers) c.requires.basis in
     let some : 0 < g.B.Basis.sizes.workers = let range = c.max-range.ensures.range in omega (arith, size, range.some_worker) in
-    let owns : (task : ℕ) → g.B.Basis.owner task ≡ owner_of g.B.Basis.sizes.workers partitions passes task = subst (λ (n : ℕ). (task : ℕ) → g.B.Basis.owner task ≡ owner_of n partitions passes task) size c.requires.owner in
+    let owns : (task : ℕ) → g.B.Basis.owner task ≡ owner_of 0 0 g.B.Basis.sizes.workers partitions passes task = subst (λ (n : ℕ). (task : ℕ) → g.B.Basis.owner task ≡ owner_of 0 0 n partitions passes task) size c.requires.owner in
     on_ok_more c.run_passes-answers.result
     (EachBegins g.B.Basis.owner g.B.Basis.sizes.workers (passes * (partitions + 1)) c.run_passes-answers.new.workers.items)
-    (BeginsAll partitions passes c.close-journal.result.0)
+    (BeginsAll 0 partitions passes c.close-journal.result.0)
     (begins_all g.B.Basis.sizes c.in-Ok.manager g.B.Basis.owner g.B.Basis.sizes.workers partitions passes c.run_passes-answers.new.workers.items c.close-journal.result.0
     some owns c.run_passes-answers.ensures.workers.workers_are c.close-journal.ensures.whole
     (c.legal_journals_are_safe.ensures g.B.Basis.sizes c.close-journal.result.0

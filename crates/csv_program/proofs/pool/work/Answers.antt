@@ -19,6 +19,7 @@ use Rattle.csv_program.proofs.CachedTasks.{by_part, parts_later}
 use Rattle.csv_program.proofs.Crews.{begun_pass, between_more, between_passes, between_ran, fresh_each, may_do, own_final, sees_first, sees_then}
 use Rattle.csv_program.proofs.Followed.{on_ok_more, room_more}
 use Rattle.csv_program.proofs.ChargedPasses.{charged_by_part, charged_later}
+use Rattle.csv_program.proofs.RemovedLate.{removes_pass}
 use Rattle.csv_program.proofs.Worked.{fault_sound, first_tells, leaves_merged, leaves_rest, on_more, on_ok_all, result_none, result_of, states_alike, there_of}
 use Rattle.csv_program.proofs.pool.work.Goals as goal
 
@@ -303,3 +304,21 @@ returns-clause-told g c =
     let news = c.finish-2.new.workers.items in
     on_ok_all c.finish-2.result
     (parts_later c.args.pass.now count mids news c.requires.some (sees_first count mids news c.finish-2.ensures.sees c.finish-2.ensures.others) (by_part c.args.pass.now count mids c.requires.some told_by))
+
+pub returns-in-Ok-finish-clause-removes : goal.returns-in-Ok-finish-clause-removes
+returns-in-Ok-finish-clause-removes g c =
+    λ first did.
+    removes_pass first c.args.executor.now.manager.now g.B.Basis.sizes.workers (parts_of c.args.pass.now) c.args.pass.now.first c.args.workers.now.items c.run_workers.new.workers.items c.finish.new.workers.items
+    (omega (arith, c.requires.some)) c.requires.workers.workers_are
+    (between_ran g.B.Basis.owner c.args.executor.now.manager.now g.B.Basis.sizes.workers (parts_of c.args.pass.now) c.args.pass.now.first c.args.workers.now.items c.run_workers.new.workers.items (omega (arith, c.requires.some)) c.requires.owner c.requires.workers
+    c.run_workers.ensures.workers c.run_workers.ensures.rests c.run_workers.ensures.sees c.run_workers.ensures.may_work c.run_workers.ensures.free c.run_workers.ensures.pins).workers_are
+    c.run_workers.ensures.may_work c.finish.ensures.may_work c.finish.ensures.others did
+
+pub returns-clause-removes : goal.returns-clause-removes
+returns-clause-removes g c =
+    on_ok_all c.finish-2.result (λ first did.
+    removes_pass first c.args.executor.now.manager.now g.B.Basis.sizes.workers (parts_of c.args.pass.now) c.args.pass.now.first c.args.workers.now.items c.run_workers.new.workers.items c.finish-2.new.workers.items
+    (omega (arith, c.requires.some)) c.requires.workers.workers_are
+    (between_ran g.B.Basis.owner c.args.executor.now.manager.now g.B.Basis.sizes.workers (parts_of c.args.pass.now) c.args.pass.now.first c.args.workers.now.items c.run_workers.new.workers.items (omega (arith, c.requires.some)) c.requires.owner c.requires.workers
+    c.run_workers.ensures.workers c.run_workers.ensures.rests c.run_workers.ensures.sees c.run_workers.ensures.may_work c.run_workers.ensures.free c.run_workers.ensures.pins).workers_are
+    c.run_workers.ensures.may_work c.finish-2.ensures.may_work c.finish-2.ensures.others did)

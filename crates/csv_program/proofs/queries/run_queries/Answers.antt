@@ -1,4 +1,4 @@
-use Rattle.std.proofs.Common.{◌≤◌, ◌≡◌, ◌∙◌, ℕ, List, Option, Ok, length, ap, subst, sym}
+use Rattle.std.proofs.Common.{◌≡◌, ◌∙◌, ℕ, List, Option, Ok, length, ap, subst, sym}
 use Rattle.std.specs.Prelude.{IfSome, OnOk}
 use Rattle.std.specs.Global.{Vec}
 use Rattle.std.specs.Io.KnownBytes.{Appends}
@@ -15,18 +15,19 @@ use Rattle.task_runner.specs.Consumers.{KeepsConsumers}
 use Rattle.task_runner.specs.Pass.{states_at}
 use Rattle.task_runner.specs.Workers.{IfSound, answer_at}
 use Rattle.task_runner.specs.declared.post.Post.{Post}
-use Rattle.csv_program.specs.Endings.{MayEndAs, ending_of_totals, printed_in, totals_of, wide_of}
+use Rattle.job_ending.specs.Endings.{MayEndAs, ending_of_totals, printed_in, totals_of, wide_of}
 use Rattle.csv_program.specs.Feeds.{FeedsPlan}
 use Rattle.csv_program.specs.Basis.{StandAs}
 use Rattle.csv_program.specs.Cached.{TellsPasses}
 use Rattle.csv_program.specs.Charges.{ChargesPlan}
 use Rattle.csv_program.specs.Posts.{post_files}
 use Rattle.csv_program.specs.QueryResults.{HaveResults, HoldsParts, totals_of_parts}
-use Rattle.csv_program.specs.Statuses.{IsCut}
-use Rattle.csv_program.specs.Tasks.{BeginsAll}
+use Rattle.job_ending.specs.Statuses.{IsCut}
+use Rattle.job_ending.specs.Removals.{RemovesLate}
+use Rattle.job_ending.specs.Tasks.{BeginsAll}
 use Rattle.csv_program.specs.Telling.{status_of_work}
-use Rattle.csv_program.specs.Written.{Gains}
-use Rattle.csv_program.specs.declared.outcome.Status.{Status}
+use Rattle.job_ending.specs.Written.{Gains}
+use Rattle.job_ending.specs.declared.status.Status.{Status}
 use Rattle.csv_program.proofs.EndedRuns.{fault_not_done, follows_none, may_end, ok_holds, unprinted_work, prefix_of_nothing, sound_more, sound_ok}
 use Rattle.csv_program.proofs.Gaining.{fault_gains}
 use Rattle.csv_program.proofs.PostDisks.{states_same}
@@ -72,7 +73,7 @@ returns-clause-ending g c rows stand =
           subst (λ (ended : Status). MayEndAs (ending_of_totals plan (totals_of plan rows)) ended) (sym w.status-is)
           (w.print_answers-status.ensures.ending (totals_of plan rows) (printed g c rows w.in-Ok.answers _ w.in-Ok.is w.deref.ensures.value known) (told_plan plan rows c.short_shapes_are_told.ensures stand.checked))
       | in-Err w ↦ may_end _ (wide_of plan (totals_of plan rows)) c.match-told-2.status
-          (unprinted_work says c.run_tasks-told.result.0 w.in-Err.fault c.match-told-2.status w.in-Err.is known (w.status-is ∙ w.from-status.ensures))
+          (unprinted_work says c.run_tasks-told.result.0 w.in-Err.fault c.match-told-2.status w.in-Err.is known (w.status-is ∙ w.status_of_fault-status.ensures))
     ]
 
 pub returns-clause-done : goal.returns-clause-done
@@ -83,7 +84,7 @@ returns-clause-done g c rows stand done =
       | in-Ok w ↦
           subst (λ (output : g.row.W.Denot). Appends (g.W.Sink.written c.args.output.now) (g.W.Sink.written output) (printed_in (ending_of_totals plan (totals_of plan rows)))) (sym w.output-is)
           (w.print_answers-status.ensures.done (totals_of plan rows) (printed g c rows w.in-Ok.answers _ w.in-Ok.is w.deref.ensures.value known) (sym w.status-is ∙ done))
-      | in-Err w ↦ absurd (fault_not_done w.in-Err.fault c.match-told-2.status (w.status-is ∙ w.from-status.ensures) done)
+      | in-Err w ↦ absurd (fault_not_done w.in-Err.fault c.match-told-2.status (w.status-is ∙ w.status_of_fault-status.ensures) done)
     ]
 
 pub returns-clause-prefix : goal.returns-clause-prefix
@@ -99,8 +100,8 @@ returns-clause-prefix g c rows stand cut =
 
 pub returns-clause-all : goal.returns-clause-all
 returns-clause-all g c done = elim c.match-told-2.branch [
-  | in-Ok w ↦ ok_holds c.run_tasks-told.result.0 w.in-Ok.answers w.in-Ok.is (subst (λ (journal : Option (List JournalEntry)). OnOk c.run_tasks-told.result.0 (IfSome journal (BeginsAll (length c.args.parts.now) (length (passes_in c.args.plan.now))))) c.in-Some.is c.run_tasks-told.ensures.all)
-  | in-Err w ↦ absurd (fault_not_done w.in-Err.fault c.match-told-2.status (w.status-is ∙ w.from-status.ensures) done)
+  | in-Ok w ↦ ok_holds c.run_tasks-told.result.0 w.in-Ok.answers w.in-Ok.is (subst (λ (journal : Option (List JournalEntry)). OnOk c.run_tasks-told.result.0 (IfSome journal (BeginsAll 0 (length c.args.parts.now) (length (passes_in c.args.plan.now))))) c.in-Some.is c.run_tasks-told.ensures.all)
+  | in-Err w ↦ absurd (fault_not_done w.in-Err.fault c.match-told-2.status (w.status-is ∙ w.status_of_fault-status.ensures) done)
 ]
 
 pub returns-clause-told : goal.returns-clause-told
@@ -110,7 +111,15 @@ returns-clause-told g c done = elim c.match-told-2.branch [
       let passes = length (passes_in c.args.plan.now) in
       ok_holds c.run_tasks-told.result.0 w.in-Ok.answers w.in-Ok.is
       (subst (λ (journal : Option (List JournalEntry)). OnOk c.run_tasks-told.result.0 (IfSome journal (TellsPasses c.args.plan.now c.args.asked.now.pool.workers partitions passes))) c.in-Some.is c.run_tasks-told.ensures.told)
-  | in-Err w ↦ absurd (fault_not_done w.in-Err.fault c.match-told-2.status (w.status-is ∙ w.from-status.ensures) done)
+  | in-Err w ↦ absurd (fault_not_done w.in-Err.fault c.match-told-2.status (w.status-is ∙ w.status_of_fault-status.ensures) done)
+]
+
+pub returns-clause-removes : goal.returns-clause-removes
+returns-clause-removes g c done = elim c.match-told-2.branch [
+  | in-Ok w ↦
+      ok_holds c.run_tasks-told.result.0 w.in-Ok.answers w.in-Ok.is
+      (subst (λ (journal : Option (List JournalEntry)). OnOk c.run_tasks-told.result.0 (IfSome journal (RemovesLate c.args.plan.now c.args.asked.now.pool.workers (length c.args.parts.now)))) c.in-Some.is c.run_tasks-told.ensures.removes)
+  | in-Err w ↦ absurd (fault_not_done w.in-Err.fault c.match-told-2.status (w.status-is ∙ w.status_of_fault-status.ensures) done)
 ]
 
 pub returns-clause-charged : goal.returns-clause-charged
@@ -125,7 +134,7 @@ returns-clause-charged g c done rows stand = elim c.match-told-2.branch [
       (subst (λ (journal : Option (List JournalEntry)). OnOk c.run_tasks-told.result.0 ((rows : ℕ → List (List (List ℕ))) → HoldsParts files g.B.Basis.rows plan parts asked.part_rows asked.pool.workers rows
       → IfSome journal (ChargesPlan states plan (length parts) rows asked.pool.workers))) c.in-Some.is c.run_tasks-told.ensures.charged)
       (λ part. partition_of asked.part_rows part rows) (holds_parts g.B.Basis.rows files asked plan parts rows c.requires.some stand)
-  | in-Err w ↦ absurd (fault_not_done w.in-Err.fault c.match-told-2.status (w.status-is ∙ w.from-status.ensures) done)
+  | in-Err w ↦ absurd (fault_not_done w.in-Err.fault c.match-told-2.status (w.status-is ∙ w.status_of_fault-status.ensures) done)
 ]
 
 -- printing leaves the consumers
@@ -143,7 +152,7 @@ returns-clause-fed g c done rows stand worker below = elim c.match-told-2.branch
       subst (λ (states : List State). FeedsPlan (states_at g.C.Consumer.state c.args.posts.now.items worker) states c.args.plan.now (length c.args.parts.now) (λ part. partition_of c.args.asked.now.part_rows part rows) c.args.asked.now.pool.workers worker) (sym (states_stay g c worker))
       (ok_holds c.run_tasks-told.result.0 w.in-Ok.answers w.in-Ok.is c.run_tasks-told.ensures.fed (λ part. partition_of c.args.asked.now.part_rows part rows)
       (holds_parts g.B.Basis.rows (post_files g.D.Disk.files c.args.posts.now) c.args.asked.now c.args.plan.now c.args.parts.now rows c.requires.some stand) worker below)
-  | in-Err w ↦ absurd (fault_not_done w.in-Err.fault c.match-told-2.status (w.status-is ∙ w.from-status.ensures) done)
+  | in-Err w ↦ absurd (fault_not_done w.in-Err.fault c.match-told-2.status (w.status-is ∙ w.status_of_fault-status.ensures) done)
 ]
 
 pub returns-clause-others : goal.returns-clause-others
@@ -176,6 +185,6 @@ returns-clause-gains g c =
           subst (λ (ended : Status). Gains asked ended text before (g.J.Sink.written c.match-told-2.journal)) (sym w.status-is)
           (subst (λ (sink : g.row.J.Denot). Gains asked w.print_answers-status.result text before (g.J.Sink.written sink)) (sym w.journal-is) w.print_answers-status.ensures.gains)
       | in-Err w ↦
-          subst (λ (ended : Status). Gains asked ended text before (g.J.Sink.written c.match-told-2.journal)) (sym (w.status-is ∙ w.from-status.ensures))
+          subst (λ (ended : Status). Gains asked ended text before (g.J.Sink.written c.match-told-2.journal)) (sym (w.status-is ∙ w.status_of_fault-status.ensures))
           (subst (λ (sink : g.row.J.Denot). Gains asked (status_of_work w.in-Err.fault) text before (g.J.Sink.written sink)) (sym w.journal-is) (fault_gains asked w.in-Err.fault text before))
     ]

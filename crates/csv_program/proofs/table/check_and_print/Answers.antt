@@ -1,7 +1,7 @@
 use Rattle.std.proofs.Common.{◌≡◌, ℕ, List, Option, None, sym, subst, inl}
 use Rattle.byte_io.specs.Sinks.{AppendsPrefix}
 use Rattle.run_file.specs.Shelved.{files_on}
-use Rattle.csv_program.specs.Endings.{MayEndAs, ending_with, printed_in, tables_of, wide_of}
+use Rattle.job_ending.specs.Endings.{MayEndAs, ending_with, printed_in, tables_of, wide_of}
 use Rattle.csv_program.proofs.Gaining.{printed_gains}
 use Rattle.csv_program.proofs.Printed.{results_kept}
 use Rattle.csv_program.proofs.table.check_and_print.Goals as goal

@@ -11,7 +11,7 @@ use Rattle.result_table.specs.Results.{HasResult}
 use Rattle.run_file.specs.Shelved.{files_on}
 use Rattle.run_file.specs.declared.run.Run.{Run}
 use Rattle.task_runner.specs.Workers.{answer_at}
-use Rattle.csv_program.specs.Endings.{tables_of}
+use Rattle.job_ending.specs.Endings.{tables_of}
 use Rattle.csv_program.specs.Tables.{piece_of}
 use Rattle.csv_program.proofs.Pieces.{pieces_all, pieces_in, pieces_more, pieces_split}
 use Rattle.csv_program.proofs.Printed.{result_kept}

@@ -1,7 +1,7 @@
 use Rattle.std.proofs.Common.{◌≡◌, ℕ, arith, inr, length, sym, subst, refl}
 use Rattle.words.specs.Texts.{texts}
-use Rattle.csv_program.specs.Calls.{IsWhyNot, Runs, call_of}
-use Rattle.csv_program.specs.Endings.{ending_of, printed_in}
+use Rattle.job_ending.specs.Calls.{IsWhyNot, Runs, call_of}
+use Rattle.job_ending.specs.Endings.{ending_of, printed_in}
 use Rattle.csv_program.specs.Posts.{post_faults}
 use Rattle.csv_program.proofs.Called.{for_no_run, for_none, for_run, no_run_not, none_has, tells_run, tells_why, wanting_before, wanting_calls_nothing, wanting_not_done, wanting_refused, wanting_undamaged, wanting_undamaged_on}
 use Rattle.csv_program.proofs.Completed.{completes_call}

@@ -10,10 +10,10 @@ use Rattle.run_file.specs.declared.run.Run.{Run}
 use Rattle.task_runner.specs.Consumers.{HasConsumers, KeepsConsumers}
 use Rattle.task_runner.specs.Pass.{states_at}
 use Rattle.csv_program.specs.Charges.{ChargesRun}
-use Rattle.csv_program.specs.Endings.{Ending, MayEndAs, ending_of, ending_of_totals, printed_in, totals_of}
+use Rattle.job_ending.specs.Endings.{Ending, MayEndAs, ending_of, ending_of_totals, printed_in, totals_of}
 use Rattle.csv_program.specs.Feeds.{FeedsJob, FeedsRun}
 use Rattle.csv_program.specs.Posts.{post_files}
-use Rattle.csv_program.specs.Tasks.{BeginsAll, FollowsPlan}
+use Rattle.job_ending.specs.Tasks.{BeginsAll, FollowsPlan, owner_of}
 use Rattle.csv_program.proofs.Based.{none_said, says_parts, stand_as}
 use Rattle.csv_program.proofs.AllTotals.{ending_is}
 use Rattle.csv_program.proofs.EndedRuns.{prefix_of_nothing}
@@ -118,9 +118,9 @@ returns-in-Ok-clause-tasks g c =
     some_always c.run_queries.result.setup (
       length c.deref.result.now,
       record {
-        follows = subst (λ (n : ℕ). FollowsPlan c.args.asked.now.pool.workers (length c.deref.result.now) n c.run_queries.result.journal) (passes_are c.args.asked.now.job l.header c.in-Ok.landed.plan l.planned) c.run_queries.ensures.tasks;
-        all = λ done. subst (λ (n : ℕ). BeginsAll (length c.deref.result.now) n c.run_queries.result.journal) (passes_are c.args.asked.now.job l.header c.in-Ok.landed.plan l.planned) (c.run_queries.ensures.all done);
-        cached = λ done. record { header = l.header; plan = c.in-Ok.landed.plan; planned = l.planned; tells = c.run_queries.ensures.told done };
+        follows = subst (λ (n : ℕ). FollowsPlan (owner_of 0 0 c.args.asked.now.pool.workers (length c.deref.result.now) n) c.run_queries.result.journal) (passes_are c.args.asked.now.job l.header c.in-Ok.landed.plan l.planned) c.run_queries.ensures.tasks;
+        all = λ done. subst (λ (n : ℕ). BeginsAll 0 (length c.deref.result.now) n c.run_queries.result.journal) (passes_are c.args.asked.now.job l.header c.in-Ok.landed.plan l.planned) (c.run_queries.ensures.all done);
+        cached = λ done. record { header = l.header; plan = c.in-Ok.landed.plan; planned = l.planned; tells = c.run_queries.ensures.told done; removes = c.run_queries.ensures.removes done };
       },
       if_each (g.S.Source.left c.args.input.now) _ (λ bytes is.
           let known = subst (λ (o : Option (List ℕ)). IfSome (option_map rows_of o) (AreRowsOf c.args.asked.now.job c.args.asked.now.max_rows c.in-Ok.landed.plan l.rows)) is l.are_known in

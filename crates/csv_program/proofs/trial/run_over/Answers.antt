@@ -5,8 +5,8 @@ use Rattle.task_runner.specs.Pass.{states_at}
 use Rattle.trial_input.specs.Lines.{trial_output}
 use Rattle.trial_input.specs.Sources.{text_left}
 use Rattle.csv_program.specs.Charges.{ChargesRun}
-use Rattle.csv_program.specs.Complete.{HasTasks}
-use Rattle.csv_program.specs.Endings.{ending_of, partitions_of}
+use Rattle.csv_program.specs.Cached.{HasTasks}
+use Rattle.job_ending.specs.Endings.{ending_of, partitions_of}
 use Rattle.csv_program.proofs.Tried.{of_trial_run, trial_checked, trial_ending}
 use Rattle.csv_program.proofs.trial.run_over.Goals as goal
 

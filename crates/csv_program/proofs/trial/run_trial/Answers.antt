@@ -1,7 +1,7 @@
 use Rattle.std.proofs.Common.{◌∙◌, refl, subst, sym}
 use Rattle.trial_input.specs.Generator.{trial_text}
 use Rattle.trial_input.specs.Lines.{trial_lines, trial_output}
-use Rattle.csv_program.specs.Endings.{Prints, partitions_of}
+use Rattle.job_ending.specs.Endings.{Prints, partitions_of}
 use Rattle.csv_program.specs.Posts.{post_faults}
 use Rattle.csv_program.specs.Trials.{IsOfTrialRun}
 use Rattle.csv_program.proofs.Completed.{completes}

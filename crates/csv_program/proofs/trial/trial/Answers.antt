@@ -1,8 +1,7 @@
 use Rattle.std.proofs.Common.{◌≡◌, ℕ, arith, inr, length, sym, subst, refl}
 use Rattle.words.specs.Texts.{texts}
 use Rattle.trial_input.specs.Lines.{trial_lines}
-use Rattle.csv_program.specs.Calls.{IsWhyNot, Runs}
-use Rattle.csv_program.specs.Posts.{post_faults}
+use Rattle.job_ending.specs.Calls.{IsWhyNot, Runs}
 use Rattle.csv_program.specs.Trials.{IsOfTrial, IsSound, trial_of}
 use Rattle.csv_program.proofs.Called.{for_no_run, for_none, for_run, no_run_not, none_has, tells_run, tells_why, wanting_not_done, wanting_undamaged_on}
 use Rattle.csv_program.proofs.EndedRuns.{prefix_of_nothing}

@@ -1,14 +1,16 @@
 -- How a run ends where nothing outside fails, and there is room and memory.
 -- This project's own.
-use Rattle.std.specs.Prelude.{◌≡◌, ◌⊎◌, ℕ, ◌<◌, All, List, [], ◌∷◌, Option, Some, None, length, map, option_map}
+use Rattle.std.specs.Prelude.{◌≡◌, ◌⊎◌, ℕ, ◌<◌, All, List, [], ◌∷◌, Option, Some, None, length, map, option_map, slice_index_or}
 use Rattle.std.specs.List.{range_with_len}
 use Rattle.std.specs.Option.{option_or}
 use Rattle.aggregate.specs.Totals.{Entry, total}
 use Rattle.byte_io.specs.Rows.{rows_of}
 use Rattle.job_answer.specs.Laws.{wide_total}
 use Rattle.job_answer.specs.Output.{joined, output, too_wide}
+use Rattle.row_filter.specs.Derived.{derived}
 use Rattle.job_plan.specs.Columns.{Fields}
-use Rattle.job_plan.specs.Plans.{kept_at, kept_in, kind_at}
+use Rattle.job_plan.specs.Entries.{entry_of}
+use Rattle.job_plan.specs.Plans.{chain_in, datasets_in, kept_at, kept_in, kind_at}
 use Rattle.job_plan.specs.Telling.{IsTold}
 use Rattle.job_plan.specs.declared.query_plan.Plan.{Plan}
 use Rattle.job_text.specs.declared.job.Job.{Job}
@@ -17,11 +19,10 @@ use Rattle.landing.specs.Landed.{partition_count}
 use Rattle.landing.specs.declared.fault.LandFault.{LandFault}
 use Rattle.landing.specs.declared.fault.LandFault.TheVariants as fault
 use Rattle.result_table.specs.Results.{table_of}
-use Rattle.csv_program.specs.QueryResults.{entries_over}
-use Rattle.csv_program.specs.Statuses.{IsOutside, IsUnlanded, IsUnprinted}
-use Rattle.csv_program.specs.declared.call.RunCall.{RunCall}
-use Rattle.csv_program.specs.declared.outcome.Status.{Status}
-use Rattle.csv_program.specs.declared.outcome.Status.TheVariants as status
+use Rattle.job_ending.specs.Statuses.{IsOutside, IsUnlanded, IsUnprinted}
+use Rattle.job_ending.specs.declared.call.RunCall.{RunCall}
+use Rattle.job_ending.specs.declared.status.Status.{Status}
+use Rattle.job_ending.specs.declared.status.Status.TheVariants as status
 
 -- the input is refused; a sum of a query is too wide, for this key; or tables are printed
 pub data Ending : Type 0 where
@@ -61,6 +62,14 @@ abbrev pub checked_for : RunCall → List ℕ → Checked
 checked_for asked bytes = checked asked.job asked.max_rows (rows_of bytes)
 
 -- ---- the same by what the entries of the queries come to
+
+-- the dataset that a query is over
+abbrev pub dataset_in : Plan → ℕ → ℕ
+dataset_in plan query = slice_index_or (datasets_in plan) query 0
+
+-- the entries that a query makes of landed rows: of those of its dataset, in their order
+abbrev pub entries_over : Plan → ℕ → List Fields → List Entry
+entries_over plan query rows = map (entry_of (kept_at plan query)) (derived (chain_in plan) (dataset_in plan query) rows)
 
 -- what the entries of a query come to, over landed rows
 abbrev pub totals_of : Plan → List Fields → ℕ → List Entry

@@ -3,8 +3,8 @@
 use Rattle.std.specs.Prelude.{Bool, true, false, List, ℕ, Option}
 use Rattle.std.specs.Io.KnownBytes.{Appends, Keeps}
 use Rattle.byte_io.specs.Sinks.{AppendsPrefix}
-use Rattle.csv_program.specs.declared.outcome.Status.{Status}
-use Rattle.csv_program.specs.declared.outcome.Status.TheVariants as status
+use Rattle.job_ending.specs.declared.status.Status.{Status}
+use Rattle.job_ending.specs.declared.status.Status.TheVariants as status
 
 -- all of a text after `Done`, a front of it after what may come behind the check of the sums, and else nothing
 abbrev pub GainsText : Status → List ℕ → Option (List ℕ) → Option (List ℕ) → Type 0

@@ -2,10 +2,8 @@
 -- This project's own.
 use Rattle.std.specs.Prelude.{◌≡◌, ℕ, Option, Some, None, ⊤}
 use Rattle.aggregate.specs.Totals.{Entry}
-use Rattle.csv_program.specs.declared.outcome.Status.{Status}
-use Rattle.csv_program.specs.declared.outcome.Status.TheVariants as status
-use Rattle.csv_program.specs.declared.spill.SpillFault.{SpillFault}
-use Rattle.csv_program.specs.declared.spill.SpillFault.TheVariants as spill_fault
+use Rattle.job_ending.specs.declared.status.Status.{Status}
+use Rattle.job_ending.specs.declared.status.Status.TheVariants as status
 
 -- the number that a process ends with
 abbrev pub number_of : Status → ℕ
@@ -144,9 +142,3 @@ MakesPool status.WriteFault = ⊤
 MakesPool status.JournalFault = ⊤
 MakesPool (status.Damaged post file kept found) = ⊤
 MakesPool _ = ⊥
-
--- the number that a process ends with where it can't use the folder `spill/`
-abbrev pub number_of_spill : SpillFault → ℕ
-number_of_spill spill_fault.InUse = 16
-number_of_spill (spill_fault.Failed path reason) = 16
-number_of_spill spill_fault.NoMemory = 18

@@ -9,10 +9,10 @@ use Rattle.job_text.specs.declared.job.Job.{Job}
 use Rattle.words.specs.Calls.{run_call}
 use Rattle.words.specs.Options.{WorkReading}
 use Rattle.words.specs.Programs.{RunReading}
-use Rattle.csv_program.specs.Statuses.{IsJudged}
-use Rattle.csv_program.specs.declared.call.RunCall.{RunCall}
-use Rattle.csv_program.specs.declared.outcome.Status.{Status}
-use Rattle.csv_program.specs.declared.outcome.Status.TheVariants as status
+use Rattle.job_ending.specs.Statuses.{IsJudged}
+use Rattle.job_ending.specs.declared.call.RunCall.{RunCall}
+use Rattle.job_ending.specs.declared.status.Status.{Status}
+use Rattle.job_ending.specs.declared.status.Status.TheVariants as status
 
 -- whether none of a job's datasets has a level
 abbrev pub keeps_none : Job → Bool

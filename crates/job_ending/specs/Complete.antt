@@ -1,16 +1,11 @@
 -- When a run prints its table: the input is valid, nothing outside fails, and no attempt is granted short.
 -- This project's own.
-use Rattle.std.specs.Prelude.{◌≡◌, ℕ, ◌≤◌, List, unwrap_or, ⊤}
+use Rattle.std.specs.Prelude.{ℕ, ◌≤◌, List, unwrap_or, ⊤}
 use Rattle.std.specs.List.{AllByRecursion}
 use Rattle.fault_count.specs.Faults.{Rose}
 use Rattle.pool_ledger.specs.declared.entry.Entry.{Entry}
 use Rattle.pool_ledger.specs.declared.entry.Event.{Event}
 use Rattle.pool_ledger.specs.declared.entry.Event.TheVariants.{Attempt}
-use Rattle.job_text.specs.declared.job.Job.{Job}
-use Rattle.csv_program.specs.Cached.{HasCached}
-use Rattle.csv_program.specs.Tasks.{BeginsAll, FollowsPlan, passes_of}
-use Rattle.csv_program.specs.declared.outcome.Status.{Status}
-use Rattle.csv_program.specs.declared.outcome.Status.TheVariants as status
 
 -- no count of faults rose: neither the input's nor the output's, nor that of the journal's sink or of a post's disk
 pub record FailsNothing (input input' output output' journal journal' : ℕ) (posts posts' : ℕ → ℕ) : Type 0 where
@@ -27,10 +22,3 @@ IsWhole _ = ⊤
 -- each attempt is
 abbrev pub GrantsAll : List Entry → Type 0
 GrantsAll journal = AllByRecursion (λ entry. IsWhole entry.event) journal
-
--- the journal has the tasks of a job's passes over so many partitions; after `Done` it has all of them, and what they tell of the
--- blocks of kept datasets
-pub record HasTasks (workers partitions : ℕ) (job : Job) (ended : Status) (journal : List Entry) : Type 0 where
-  pub follows : FollowsPlan workers partitions (passes_of job) journal
-  pub all : ended ≡ status.Done → BeginsAll partitions (passes_of job) journal
-  pub cached : ended ≡ status.Done → HasCached job workers partitions journal

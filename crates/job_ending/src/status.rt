@@ -1,16 +1,13 @@
-//! How a run ended, and what it leaves.
+//! How a call on a job ended.
 
-ghost use Rattle.std.specs.Prelude.{◌≡◌, [], None};
-ghost use Rattle.csv_program.specs.Statuses.{number_of};
-ghost use Rattle.csv_program.specs.Telling.{status_of_damage, status_of_print, status_of_run, status_of_work};
+ghost use Rattle.std.specs.Prelude.{◌≡◌};
+ghost use Rattle.job_ending.specs.Statuses.{number_of};
+ghost use Rattle.job_ending.specs.Telling.{status_of_damage, status_of_print, status_of_run};
 
 use aggregate::Key;
 use item_lists::Name;
-use pool_ledger::{Journal, Setup};
 use result_table::PrintFault;
 use run_file::{Damage, RunFault};
-use std::alloc::Global;
-use task_runner::WorkFault;
 use thiserror::Error;
 
 /// How a run ended. The texts are those on standard error; after `Done` there is none. Rows are numbered from 1, and the header
@@ -99,17 +96,6 @@ pub enum Status {
     NoMemory,
 }
 
-/// What a run leaves.
-#[derive(Drop)]
-pub struct Outcome {
-    /// How it ended.
-    pub status: Status,
-    /// The pool that was made, if one was.
-    pub setup: Option<Setup>,
-    /// Every event of that pool, in order. It is empty where no pool was made.
-    pub journal: Journal,
-}
-
 impl Status {
     /// The number that the process ends with.
     pub fn number(&self) -> u8
@@ -173,31 +159,5 @@ impl From<PrintFault> for Status {
             PrintFault::Damaged(damage) => Status::from(damage),
             PrintFault::NoMemory => Status::NoMemory,
         }
-    }
-}
-
-impl From<WorkFault> for Status {
-    ghost from_gives = { λ fault status. status ≡ status_of_work fault };
-
-    fn from(fault: WorkFault) -> Status {
-        match fault {
-            WorkFault::NoRoom { asked, held, floor } => Status::NoRoom { asked, held, floor },
-            WorkFault::DiskFault { post } => Status::DiskFault { post },
-            WorkFault::Damaged(damage) => Status::from(damage),
-            WorkFault::NoMemory => Status::NoMemory,
-        }
-    }
-}
-
-/// What a run leaves where no pool was made.
-pub fn unpooled(alloc: Global, status: Status) -> Outcome
-    ensures status { result.status ≡ status }
-    ensures setup { result.setup ≡ None }
-    ensures journal { result.journal ≡ [] }
-{
-    Outcome {
-        status,
-        setup: None,
-        journal: Journal::new(alloc),
     }
 }

@@ -1,0 +1,9 @@
+pub mod Statuses
+pub mod Telling
+pub mod Calls
+pub mod Posts
+pub mod Endings
+pub mod Tasks
+pub mod Complete
+pub mod Removals
+pub mod Written
