@@ -1,5 +1,4 @@
 pub mod PlaceFields
-pub mod ShortRecords
 pub mod Keeping
 pub mod Following
 pub mod Shelves

@@ -28,11 +28,6 @@ pub(crate) fn is_long(row: &ByteRecord) -> bool
     if row.len() > MAX_FIELDS {
         return true;
     }
-    // No field is longer than the record's text.
-    let bytes = row.as_slice().len();
-    if bytes <= MAX_BYTES && row.len() * bytes <= MAX_BYTES {
-        return false;
-    }
     let mut left = MAX_BYTES;
     for i in 0..row.len() {
         let size = field_len(row, i);
