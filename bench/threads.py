@@ -4,11 +4,11 @@
     bench/threads.py [--rows N] [--workers N ...] [--reps N] [--jobs NAME ...] [--rust FOLDER]
 
 The jobs and inputs are those of jobs.py. A run's parts are told by the files that it makes: the kernel notes each one's
-making (inotify). A partition's landed file is made when its first page is full or its last row is there, and the file of its
-task's run when that spills or ends. So landing ends, to a task or less, where the first file is made behind a post's landed
-ones, and the tasks where each post has as many again. What is left is the final task and printing. The first byte of the
-output tells where printing begins, with its check of sums before it. Of --reps runs in turn the one with the least wall clock
-is printed. `--rust` is a folder with `spec_shape`, which is run with as many threads beside it.
+making (inotify). A partition's landed file is made where the partition begins, and the file of its task's run where its rows
+were fed: the heap is so large that no task spills before. So landing ends, to a task, where the first file is made behind a
+post's landed ones, and the tasks where each post has as many again. What is left is the final task and printing. The first
+byte of the output tells where printing begins, with the check of sums before it. Of --reps runs in turn the one with the least
+wall clock is printed. `--rust` is a folder with `spec_shape`, which is run with as many threads beside it.
 """
 
 import argparse

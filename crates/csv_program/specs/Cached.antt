@@ -33,7 +33,7 @@ EachTells plan count partitions passes workers =
     (pass part : ℕ) (any : PassState) → pass < passes → part < partitions
     → TellsAt plan count partitions pass part (slice_index_or workers (part % count) any).seen
 
--- the same of a job, by its plan for a header; and no block is removed before the last pass that needs its dataset
+-- the same of a job, by its plan for a header; and a worker that has removed a block begins no task that needs its dataset
 pub record HasCached (job : Job) (workers partitions : ℕ) (entries : List Entry) : Type 0 where
   pub header : Fields
   pub plan : Plan
