@@ -1,6 +1,7 @@
 //! Rows as lists of fields in one encoding, and pages that lend them as slices of their bytes.
 #![tactic(auto)]
 
+mod byte_buf;
 mod laws;
 mod page;
 mod piece;
@@ -12,6 +13,3 @@ pub use page::{Page, PageFault};
 pub use piece::split_piece;
 pub use row_buf::RowBuf;
 pub use row_view::RowView;
-
-#[cfg(test)]
-mod tests;

@@ -9,9 +9,8 @@ ghost use Rattle.row_page.specs.Spelling.{with_length, page_bytes, page_length, 
 ghost use Rattle.row_page.specs.Views.{fields_in};
 
 use crate::RowView;
-use crate::piece::{
-    LENGTH_BYTES, append_pair, append_piece, are_pieces, first_piece, put_piece, split_piece,
-};
+use crate::byte_buf::ByteBuf;
+use crate::piece::{LENGTH_BYTES, are_pieces, first_piece, split_piece};
 use std::alloc::{AllocError, Global};
 use std::marker::Model;
 use thiserror::Error;
@@ -37,7 +36,7 @@ impl From<AllocError> for PageFault {
 /// block's content. Contracts see the list of its rows, each the list of its fields, and its room.
 #[derive(Debug, Drop)]
 pub struct Page {
-    bytes: Vec<u8>,
+    bytes: ByteBuf,
     starts: Vec<usize>,
     room: u64,
 }
@@ -48,10 +47,10 @@ impl Model for Page {
 
     ghost Value = { PageView };
 
-    ghost view = { λ page. record { rows = rows_of page.bytes.items; room = page.room } };
+    ghost view = { λ page. record { rows = rows_of page.bytes; room = page.room } };
 
-    ghost invariant = { λ page. IsSound page.starts.items page.bytes.items page.room
-        (rows_of page.bytes.items) };
+    ghost invariant = { λ page. IsSound page.starts.items page.bytes page.room
+        (rows_of page.bytes) };
 }
 
 impl Page {
@@ -61,7 +60,7 @@ impl Page {
         ensures { result ≡ record { rows = []; room = room } }
     {
         Page {
-            bytes: Vec::new(alloc),
+            bytes: ByteBuf::new(alloc),
             starts: Vec::new(alloc),
             room,
         }
@@ -83,7 +82,7 @@ impl Page {
             return Ok(None);
         };
         Ok(Some(Page {
-            bytes,
+            bytes: ByteBuf::of(bytes),
             starts,
             room,
         }))
@@ -104,7 +103,7 @@ impl Page {
     {
         let starts = known_places(alloc, &bytes, count)?;
         Ok(Page {
-            bytes,
+            bytes: ByteBuf::of(bytes),
             starts,
             room,
         })
@@ -132,7 +131,7 @@ impl Page {
         ensures fits { page_length self.now.rows ≤ self.now.room }
         ensures small { self.now.room ≤ 2 ^ 40 }
     {
-        &self.bytes
+        self.bytes.as_slice()
     }
 
     /// The row at this place, from 0, as a slice of the page's bytes.
@@ -142,7 +141,7 @@ impl Page {
         ensures { fields_in result ≡ slice_index_or self.now.rows i [] }
     {
         let start = self.starts[i];
-        RowView::of_known(first_piece(&self.bytes[start..]).0)
+        RowView::of_known(first_piece(&self.bytes.as_slice()[start..]).0)
     }
 
     /// Puts a row behind the others. `Full` comes exactly where the page's bytes with this row pass the
@@ -193,43 +192,17 @@ impl Page {
 
 /// Puts a piece behind the bytes, and its place behind the places.
 #[inline(always)]
-fn add_piece(starts: &mut Vec<usize>, bytes: &mut Vec<u8>, piece: &[u8]) -> Result<(), AllocError>
+fn add_piece(starts: &mut Vec<usize>, bytes: &mut ByteBuf, piece: &[u8]) -> Result<(), AllocError>
     requires { length piece.now < 2 ^ 32 }
-    ensures bytes { OnOk result (bytes.new.items ≡ bytes.old.items ++ with_length piece.now) }
-    ensures starts { OnOk result
-        (starts.new.items ≡ starts.old.items ++ length bytes.old.items ∷ []) }
-    ensures bytes_err { OnErr result (bytes.new.items ≡ bytes.old.items) }
+    ensures bytes { OnOk result (bytes.new ≡ bytes.old ++ with_length piece.now) }
+    ensures starts { OnOk result (starts.new.items ≡ starts.old.items ++ length bytes.old ∷ []) }
+    ensures bytes_err { OnErr result (bytes.new ≡ bytes.old) }
     ensures starts_err { OnErr result (starts.new.items ≡ starts.old.items) }
 {
-    if starts.len() < starts.capacity()
-        && LENGTH_BYTES + piece.len() <= bytes.capacity() - bytes.len()
-    {
-        starts.push_reserved(bytes.len());
-        put_piece(bytes, piece);
-        return Ok(());
-    }
-    add_with_room(starts, bytes, piece)
-}
-
-/// The same, where there may be no room in memory yet.
-#[cold]
-#[inline(never)]
-fn add_with_room(
-    starts: &mut Vec<usize>,
-    bytes: &mut Vec<u8>,
-    piece: &[u8],
-) -> Result<(), AllocError>
-    requires { length piece.now < 2 ^ 32 }
-    ensures bytes { OnOk result (bytes.new.items ≡ bytes.old.items ++ with_length piece.now) }
-    ensures starts { OnOk result
-        (starts.new.items ≡ starts.old.items ++ length bytes.old.items ∷ []) }
-    ensures bytes_err { OnErr result (bytes.new.items ≡ bytes.old.items) }
-    ensures starts_err { OnErr result (starts.new.items ≡ starts.old.items) }
-{
-    let count = starts.len();
+    let places = starts.len();
     starts.push(bytes.len())?;
-    if let Err(refused) = append_piece(bytes, piece) {
-        starts.truncate(count);
+    if let Err(refused) = bytes.append_piece(piece) {
+        starts.truncate(places);
         return Err(refused);
     }
     Ok(())
@@ -238,21 +211,19 @@ fn add_with_room(
 /// Puts the row of two fields behind the bytes, and its place behind the places.
 fn add_pair(
     starts: &mut Vec<usize>,
-    bytes: &mut Vec<u8>,
+    bytes: &mut ByteBuf,
     first: &[u8],
     second: &[u8],
 ) -> Result<(), AllocError>
     requires { row_length (first.now ∷ second.now ∷ []) < 2 ^ 32 }
-    ensures bytes { OnOk result (bytes.new.items
-        ≡ bytes.old.items ++ with_length (row_bytes (first.now ∷ second.now ∷ []))) }
-    ensures starts { OnOk result
-        (starts.new.items ≡ starts.old.items ++ length bytes.old.items ∷ []) }
-    ensures bytes_err { OnErr result (bytes.new.items ≡ bytes.old.items) }
+    ensures bytes { OnOk result (bytes.new ≡ bytes.old ++ with_length (row_bytes (first.now ∷ second.now ∷ []))) }
+    ensures starts { OnOk result (starts.new.items ≡ starts.old.items ++ length bytes.old ∷ []) }
+    ensures bytes_err { OnErr result (bytes.new ≡ bytes.old) }
     ensures starts_err { OnErr result (starts.new.items ≡ starts.old.items) }
 {
     let places = starts.len();
     starts.push(bytes.len())?;
-    if let Err(refused) = append_pair(bytes, first, second) {
+    if let Err(refused) = bytes.append_pair(first, second) {
         starts.truncate(places);
         return Err(refused);
     }

@@ -1,10 +1,7 @@
 //! Pieces of bytes, each behind its length.
 
-ghost use Rattle.std.specs.Prelude.{◌≡◌, ◌+◌, ◌<◌, ◌≤◌, ◌^◌, ◌++◌, ◌∷◌, ◌↔◌, [], List, ℕ, length, IsTrue, IfSome, IfNone, OnOk, OnErr, vec_capacity};
+ghost use Rattle.std.specs.Prelude.{◌<◌, ◌↔◌, List, ℕ, length, IsTrue, IfSome, IfNone};
 ghost use Rattle.row_page.specs.Grammar.{HasPieces, IsPieceThen};
-ghost use Rattle.row_page.specs.Spelling.{length_bytes, row_bytes, row_length, with_length};
-
-use std::alloc::AllocError;
 
 /// How many bytes a length has.
 pub(crate) const LENGTH_BYTES: usize = 4;
@@ -52,81 +49,4 @@ pub(crate) fn are_pieces(bytes: &[u8]) -> bool
         rest = behind;
     }
     true
-}
-
-/// Puts a piece with its length at the end. After an `Err` nothing changed.
-#[inline(always)]
-pub(crate) fn append_piece(out: &mut Vec<u8>, piece: &[u8]) -> Result<(), AllocError>
-    requires { length piece.now < 2 ^ 32 }
-    ensures ok { OnOk result (out.new.items ≡ out.old.items ++ with_length piece.now) }
-    ensures err { OnErr result (out.new.items ≡ out.old.items) }
-{
-    out.reserve(LENGTH_BYTES + piece.len())?;
-    put_piece(out, piece);
-    Ok(())
-}
-
-/// Puts a piece with its length at the end, where room was made for both.
-#[inline(always)]
-pub(crate) fn put_piece(out: &mut Vec<u8>, piece: &[u8])
-    requires short { length piece.now < 2 ^ 32 }
-    requires room { length out.old.items + (4 + length piece.now) ≤ vec_capacity out.old }
-    ensures { out.new.items ≡ out.old.items ++ with_length piece.now }
-{
-    put_length(out, piece.len());
-    put(out, piece);
-}
-
-/// Puts the row of two fields with its length at the end. After an `Err` nothing changed.
-pub(crate) fn append_pair(out: &mut Vec<u8>, first: &[u8], second: &[u8]) -> Result<(), AllocError>
-    requires { row_length (first.now ∷ second.now ∷ []) < 2 ^ 32 }
-    ensures ok { OnOk result (out.new.items
-        ≡ out.old.items ++ with_length (row_bytes (first.now ∷ second.now ∷ []))) }
-    ensures err { OnErr result (out.new.items ≡ out.old.items) }
-{
-    let row = LENGTH_BYTES + first.len() + LENGTH_BYTES + second.len();
-    out.reserve(LENGTH_BYTES + row)?;
-    put_length(out, row);
-    put_length(out, first.len());
-    put(out, first);
-    put_length(out, second.len());
-    put(out, second);
-    Ok(())
-}
-
-/// Puts a length as its bytes at the end, where room was made for them.
-#[inline(always)]
-fn put_length(out: &mut Vec<u8>, size: usize)
-    requires short { size < 2 ^ 32 }
-    requires room { length out.old.items + 4 ≤ vec_capacity out.old }
-    ensures items { out.new.items ≡ out.old.items ++ length_bytes size }
-    ensures more { length out.new.items ≡ length out.old.items + 4 }
-    ensures capacity { vec_capacity out.new ≡ vec_capacity out.old }
-{
-    let bytes = spelled_length(size);
-    out.push_reserved(bytes[0]);
-    out.push_reserved(bytes[1]);
-    out.push_reserved(bytes[2]);
-    out.push_reserved(bytes[3]);
-}
-
-/// A length as its bytes.
-#[tactic(auto, unfolding(crate::specs::Spelling::length_bytes))]
-fn spelled_length(length: usize) -> [u8; LENGTH_BYTES]
-    requires { length < 2 ^ 32 }
-    ensures { result ≡ length_bytes length }
-{
-    (length as u32).to_be_bytes()
-}
-
-/// Puts bytes at the end, where room was made for them.
-#[inline(always)]
-fn put(out: &mut Vec<u8>, bytes: &[u8])
-    requires room { length out.old.items + length bytes.now ≤ vec_capacity out.old }
-    ensures items { out.new.items ≡ out.old.items ++ bytes.now }
-    ensures capacity { vec_capacity out.old ≤ vec_capacity out.new }
-{
-    let Ok(()) = out.extend_from_slice(bytes) else {
-        unreachable!()
-    };
 }

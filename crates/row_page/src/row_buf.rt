@@ -5,7 +5,7 @@ ghost use Rattle.row_page.specs.Spelling.{row_length};
 ghost use Rattle.row_page.specs.Views.{fields_in};
 
 use crate::RowView;
-use crate::piece::append_piece;
+use crate::byte_buf::ByteBuf;
 use std::alloc::{AllocError, Global};
 use std::marker::Model;
 
@@ -13,7 +13,7 @@ use std::marker::Model;
 /// Contracts see the list of its fields.
 #[derive(Debug, Drop)]
 pub struct RowBuf {
-    bytes: Vec<u8>,
+    bytes: ByteBuf,
 }
 
 impl Model for RowBuf {
@@ -23,9 +23,9 @@ impl Model for RowBuf {
 
     ghost Value = { List (List ℕ) };
 
-    ghost view = { λ row. fields_of row.bytes.items };
+    ghost view = { λ row. fields_of row.bytes };
 
-    ghost invariant = { λ row. IsRow row.bytes.items (fields_of row.bytes.items) };
+    ghost invariant = { λ row. IsRow row.bytes (fields_of row.bytes) };
 }
 
 impl RowBuf {
@@ -34,7 +34,7 @@ impl RowBuf {
         ensures { result ≡ [] }
     {
         RowBuf {
-            bytes: Vec::new(alloc),
+            bytes: ByteBuf::new(alloc),
         }
     }
 
@@ -45,7 +45,7 @@ impl RowBuf {
         ensures ok { OnOk result (self.new ≡ self.old ++ field.now ∷ []) }
         ensures err { OnErr result (self.new ≡ self.old) }
     {
-        append_piece(&mut self.bytes, field)
+        self.bytes.append_piece(field)
     }
 
     /// Takes all fields away, and keeps the memory for the next row.
@@ -60,6 +60,6 @@ impl RowBuf {
     pub fn view(&self) -> RowView<'_>
         ensures { fields_in result ≡ self.now }
     {
-        RowView::of_known(&self.bytes)
+        RowView::of_known(self.bytes.as_slice())
     }
 }

@@ -3,10 +3,10 @@ use Rattle.row_page.proofs.PageRows.{rows_spell, length_page}
 use Rattle.row_page.proofs.page.Page.bytes.Goals as goal
 
 pub returns-clause-spelling : goal.returns-clause-spelling
-returns-clause-spelling c = rw (← c.self.view_is, c.deref.ensures.value) (rows_spell _ _ c.self.invariant.grammar)
+returns-clause-spelling c = rw (← c.self.view_is, c.as_slice.ensures) (rows_spell _ _ c.self.invariant.grammar)
 
 pub returns-clause-length : goal.returns-clause-length
-returns-clause-length c = rw (← c.self.view_is, c.deref.ensures.value) (length_page _ _ c.self.invariant.grammar)
+returns-clause-length c = rw (← c.self.view_is, c.as_slice.ensures) (length_page _ _ c.self.invariant.grammar)
 
 pub returns-clause-fits : goal.returns-clause-fits
 returns-clause-fits c =

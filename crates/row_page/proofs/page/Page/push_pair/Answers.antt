@@ -10,13 +10,13 @@ use Rattle.row_page.proofs.page.Page.push_pair.Goals as goal
 
 pub returns-then-self-len-clause-full : goal.returns-then-self-len-clause-full
 returns-then-self-len-clause-full c =
-    let used = bytes_by_rows c.self.inside.bytes.items c.args.self.now.rows c.self.invariant.grammar (ap (λ (v : PageView). v.rows) c.self.view_is) in
+    let used = bytes_by_rows c.self.inside.bytes c.args.self.now.rows c.self.invariant.grammar (ap (λ (v : PageView). v.rows) c.self.view_is) in
     let room = ap (λ (v : PageView). v.room) c.self.view_is in
     (λ _. omega (arith, used, room, c.len.ensures, c.if-self-len.true), λ _. refl)
 
 pub returns-in_err-add_pair-clause-full : goal.returns-in_err-add_pair-clause-full
 returns-in_err-add_pair-clause-full c =
-    let used = bytes_by_rows c.self.inside.bytes.items c.args.self.now.rows c.self.invariant.grammar (ap (λ (v : PageView). v.rows) c.self.view_is) in
+    let used = bytes_by_rows c.self.inside.bytes c.args.self.now.rows c.self.invariant.grammar (ap (λ (v : PageView). v.rows) c.self.view_is) in
     let room = ap (λ (v : PageView). v.room) c.self.view_is in
     let p = err_from_is_err_and c.from_residual.result c.from_residual.ensures.1 in
     (λ full. let e = p.1 in let f = p.2 in absurd cc, λ past. absurd (omega (arith, used, room, c.len.ensures, c.if-self-len.false, past)))
@@ -24,17 +24,17 @@ returns-in_err-add_pair-clause-full c =
 pub invariant_of-self-2 : goal.invariant_of-self-2
 invariant_of-self-2 c =
     let row = c.args.first.now ∷ c.args.second.now ∷ [] in
-    (page_grown c.self.inside.starts.items c.self.inside.bytes.items c.add_pair.new.starts.items c.add_pair.new.bytes.items c.self.inside.room c.args.self.now.rows (row_bytes row) row c.self.invariant (ap (λ (v : PageView). v.rows) c.self.view_is) (row_of_fields row c.requires.short) (omega (arith, length-row_bytes row, c.len.ensures, c.if-self-len.false)) c.in_ok-add_pair.ensures.starts c.in_ok-add_pair.ensures.bytes).0
+    (page_grown c.self.inside.starts.items c.self.inside.bytes c.add_pair.new.starts.items c.add_pair.new.bytes c.self.inside.room c.args.self.now.rows (row_bytes row) row c.self.invariant (ap (λ (v : PageView). v.rows) c.self.view_is) (row_of_fields row c.requires.short) (omega (arith, length-row_bytes row, c.len.ensures, c.if-self-len.false)) c.in_ok-add_pair.ensures.starts c.in_ok-add_pair.ensures.bytes).0
 
 pub returns-clause-ok : goal.returns-clause-ok
 returns-clause-ok c =
     let row = c.args.first.now ∷ c.args.second.now ∷ [] in
-    let grown = (page_grown c.self.inside.starts.items c.self.inside.bytes.items c.add_pair.new.starts.items c.add_pair.new.bytes.items c.self.inside.room c.args.self.now.rows (row_bytes row) row c.self.invariant (ap (λ (v : PageView). v.rows) c.self.view_is) (row_of_fields row c.requires.short) (omega (arith, length-row_bytes row, c.len.ensures, c.if-self-len.false)) c.in_ok-add_pair.ensures.starts c.in_ok-add_pair.ensures.bytes).1 in
+    let grown = (page_grown c.self.inside.starts.items c.self.inside.bytes c.add_pair.new.starts.items c.add_pair.new.bytes c.self.inside.room c.args.self.now.rows (row_bytes row) row c.self.invariant (ap (λ (v : PageView). v.rows) c.self.view_is) (row_of_fields row c.requires.short) (omega (arith, length-row_bytes row, c.len.ensures, c.if-self-len.false)) c.in_ok-add_pair.ensures.starts c.in_ok-add_pair.ensures.bytes).1 in
     let room = ap (λ (v : PageView). v.room) c.self.view_is in
     cc
 
 pub returns-clause-full : goal.returns-clause-full
 returns-clause-full c =
-    let used = bytes_by_rows c.self.inside.bytes.items c.args.self.now.rows c.self.invariant.grammar (ap (λ (v : PageView). v.rows) c.self.view_is) in
+    let used = bytes_by_rows c.self.inside.bytes c.args.self.now.rows c.self.invariant.grammar (ap (λ (v : PageView). v.rows) c.self.view_is) in
     let room = ap (λ (v : PageView). v.room) c.self.view_is in
     (λ full. absurd cc, λ past. absurd (omega (arith, used, room, c.len.ensures, c.if-self-len.false, past)))
