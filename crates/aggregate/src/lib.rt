@@ -9,8 +9,6 @@ mod kind;
 mod name;
 mod number_key;
 mod partial;
-#[cfg(test)]
-mod tests;
 mod total;
 
 pub use agg_list::{Agg, AggList};

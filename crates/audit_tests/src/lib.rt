@@ -8,6 +8,8 @@ mod cut;
 #[cfg(test)]
 mod drawn;
 #[cfg(test)]
+mod lines;
+#[cfg(test)]
 mod telling;
 #[cfg(test)]
 mod worked;

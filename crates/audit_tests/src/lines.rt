@@ -1,5 +1,5 @@
 // Texts of journals that were written by hand, read and written again.
-use crate::{journal_text, take_entry, take_setup};
+use journal_audit::{journal_text, take_entry, take_setup};
 use pool_ledger::Journal;
 use std::alloc::{AllocError, Global};
 use std::test::Fail;

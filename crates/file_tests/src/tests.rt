@@ -1,4 +1,5 @@
-// Disks, runs, and runs that are merged.
+// Rows, aggregates, disks, runs, and runs that are merged.
+mod aggregates;
 mod calls;
 mod disks;
 mod entries;
@@ -10,6 +11,7 @@ mod merges;
 mod merging;
 mod owner;
 mod reading;
+mod rows;
 mod runs;
 mod scripts;
 mod told;

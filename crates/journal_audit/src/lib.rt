@@ -9,8 +9,6 @@ mod rules;
 mod text;
 mod widths;
 mod words;
-#[cfg(test)]
-mod worked;
 mod writing;
 
 pub use laws::{one_journal_for_a_text, rules_are_those_of_legal_journals};

@@ -6,8 +6,6 @@ mod holding;
 mod journal;
 mod ledger;
 mod setup;
-#[cfg(test)]
-mod tests;
 
 pub use entry::{Entry, Event, Fate, Level};
 pub use journal::Journal;

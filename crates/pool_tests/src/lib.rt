@@ -1,4 +1,4 @@
-//! Tests of `block_store` and `memory_core`, apart from them so that neither is proved a second time.
+//! Tests of `pool_ledger`, `block_store` and `memory_core`, apart from them so that none is proved a second time.
 #![tactic(auto)]
 
 #[cfg(test)]

@@ -3,6 +3,7 @@ mod copies;
 mod entries;
 mod faults;
 mod game;
+mod ledgers;
 mod memory;
 mod pages;
 mod replay;

@@ -1,4 +1,5 @@
-//! Tests of `part_spiller`, `task_account` and `task_memory`, apart from them so that none is proved a second time.
+//! Tests of `part_spiller`, `task_account`, `task_memory` and `worker_threads`, apart from them so that none is proved
+//! a second time.
 #![tactic(auto)]
 
 #[cfg(test)]

@@ -1,6 +1,8 @@
-//! Spillers that are fed and spilled by hand, an account of a task, and a task's memory, by scripts of what is called.
+//! Spillers that are fed and spilled by hand, an account of a task, workers at once, and a task's memory, by scripts of
+//! what is called.
 
 mod accounts;
+mod at_once;
 mod choice_scripts;
 mod lives;
 mod memories;

@@ -1,8 +1,6 @@
 //! Workers on threads: one for each place of two lists, joined, with what each call did and answered.
 #![tactic(auto)]
 
-#[cfg(test)]
-mod tests;
 mod threads;
 
 pub use threads::each_place;

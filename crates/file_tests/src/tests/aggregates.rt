@@ -1,5 +1,5 @@
 // Spellings and partial values against bytes that were written by hand from the format.
-use crate::{
+use aggregate::{
     Agg, AggList, Key, Kind, Name, combine, finish, put_field, put_number, put_partial, take_field,
 };
 use std::alloc::Global;

@@ -1,4 +1,4 @@
-use super::*;
+use row_page::{Page, PageFault, RowBuf, RowView, split_piece};
 use std::test::Fail;
 
 const ROW: [u8; 10] = [0, 0, 0, 2, b'a', b'b', 0, 0, 0, 0];

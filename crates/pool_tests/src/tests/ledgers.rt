@@ -1,7 +1,7 @@
 ghost use Rattle.std.specs.Prelude.{◌≡◌, ◌≤◌, []};
 ghost use Rattle.pool_ledger.specs.Sizes.{sizes_of};
 
-use crate::{Entry, Event, HeapTooSmall, Journal, Ledger, Setup};
+use pool_ledger::{Entry, Event, HeapTooSmall, Journal, Ledger, Setup};
 use std::string::ToString;
 use std::test::*;
 

@@ -1,8 +1,8 @@
 // All workers at once: each waits at a barrier for all of them.
 
-use crate::threads::each_place;
 use std::sync::Barrier;
 use std::test::*;
+use worker_threads::each_place;
 
 #[test]
 fn four_workers_run_at_the_same_time(rt: HostRuntime) -> Result<(), Fail> {
