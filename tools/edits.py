@@ -57,6 +57,7 @@ class Edit:
         self.crate, self.path, self.is_gated = crate, path, is_gated
         self.name = os.path.basename(path)[:-len('.edit')]
         self.texts, self.fault = rt.read_edit(path, crate.folder)
+        self.fault = self.fault or unread_line(path)
         self.place = None if self.fault else place_of(crate, self.texts)
         self.refused, self.said = False, NOT_TRIED
 
@@ -67,6 +68,15 @@ class Edit:
 
     def folder(self):
         return 'must-fail' if self.is_gated else 'tools/edits'
+
+
+def unread_line(path):
+    """What is wrong with an edit that has a line which nobody reads, or None."""
+    with open(path, encoding='utf-8') as file:
+        for number, line in enumerate(file, 1):
+            if line.strip() and not line.startswith(('file:', 'old:', 'new:')):
+                return f'line {number} is none that is read: each text stands on one line'
+    return None
 
 
 def place_of(crate, texts):
