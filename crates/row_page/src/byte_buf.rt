@@ -10,8 +10,8 @@ use std::marker::Model;
 /// The least room that is made.
 const LEAST_ROOM: usize = 64;
 
-/// Bytes that grow at their end. The room behind them is bytes too, so that what comes next is stored there: a vector that is
-/// appended to would look for room and set its length for each part. Contracts see the bytes.
+/// Bytes that grow at their end. The room behind them is bytes too, so that what comes next is stored there: a vector
+/// that is appended to would look for room and set its length for each part. Contracts see the bytes.
 #[derive(Debug, Drop)]
 pub(crate) struct ByteBuf {
     bytes: Vec<u8>,
@@ -115,9 +115,6 @@ fn make_room(bytes: &mut Vec<u8>, used: usize, size: usize) -> Result<(), AllocE
     let Some(least) = used.checked_add(size) else {
         return Err(AllocError);
     };
-    if least <= bytes.len() {
-        return Ok(());
-    }
     let twice = bytes.len().saturating_mul(2);
     bytes.resize(least.max(twice).max(LEAST_ROOM), 0)
 }
