@@ -32,6 +32,7 @@ joined Sum a b = int_wrap w128 (a +ℤ b)
 joined Min a b = int_min a b
 joined Max a b = int_max a b
 
+-- the same of the numbers in the first 16 bytes of two lists, again as 16 bytes
 abbrev pub joined_bytes : Agg → List ℕ → List ℕ → List ℕ
 joined_bytes agg a b = partial_of (joined agg (number a) (number b))
 

@@ -16,7 +16,7 @@ use Rattle.spill_disk.specs.Files.{Files}
 use Rattle.block_store.specs.declared.block_copy.BlockCopy.{BlockCopy}
 use Rattle.block_store.specs.Stores.{Rows}
 use Rattle.block_store.specs.Copies.{is_copy, copy_at, has_copy, has_file, copy_rows, HasPage, IsStored, AreStored}
-use Rattle.block_store.specs.Evictions.{file_at, Writes, SameBelow, IsFront, is_name, KeepsOthers}
+use Rattle.block_store.specs.Evictions.{file_at, WritesCopy, SameBelow, IsFront, is_name, KeepsOthers}
 use Rattle.block_store.proofs.Places.{any_parts, find_none}
 
 -- the files of these copies are as before
@@ -114,14 +114,14 @@ stored_end files next (c ∷ cs) copy h below small stored name file =
           | inr differ ↦ differ
         ]
 
-is_stored_written : (before after : Option Files) (copy : BlockCopy) (bytes : List ℕ) → is_some after ≡ is_some before → Writes before after copy.file bytes → HasRows bytes → length bytes ≡ copy.bytes → IsStored after copy
+is_stored_written : (before after : Option Files) (copy : BlockCopy) (bytes : List ℕ) → is_some after ≡ is_some before → WritesCopy before after copy.file bytes → HasRows bytes → length bytes ≡ copy.bytes → IsStored after copy
 is_stored_written before None copy bytes tells written rows count = tt
 is_stored_written None (Some a) copy bytes tells written rows count = absurd (true≢false tells)
 is_stored_written (Some b) (Some a) copy bytes tells written rows count =
     subst (λ (o : Option (List ℕ)). HasPage o copy.bytes) (sym written.0) (count, ∣ rows ∣₁)
 
 -- the copies with the one that was written
-pub stored_more : (before after : Option Files) (next later : ℕ) (copies : List BlockCopy) (copy : BlockCopy) (bytes : List ℕ) → AreStored before next copies → SameBelow next before after → is_some after ≡ is_some before → next ≤ later → next ≤ copy.file → copy.file < later → Writes before after copy.file bytes → HasRows bytes → length bytes ≡ copy.bytes → copy.bytes ≤ 2 ^ 40 → has_copy copies copy.dataset copy.part ≡ false → AreStored after later (copies ++ copy ∷ [])
+pub stored_more : (before after : Option Files) (next later : ℕ) (copies : List BlockCopy) (copy : BlockCopy) (bytes : List ℕ) → AreStored before next copies → SameBelow next before after → is_some after ≡ is_some before → next ≤ later → next ≤ copy.file → copy.file < later → WritesCopy before after copy.file bytes → HasRows bytes → length bytes ≡ copy.bytes → copy.bytes ≤ 2 ^ 40 → has_copy copies copy.dataset copy.part ≡ false → AreStored after later (copies ++ copy ∷ [])
 stored_more before after next later copies copy bytes h same tells le fresh below written rows count small name =
     stored_end after later copies copy (stored_same before after next later copies tells (same_on before after next copies h same) le h) below small (is_stored_written before after copy bytes tells written rows count) name (fresh_file before next copies copy.file h fresh)
 
@@ -132,7 +132,7 @@ copy_at_end copies copy none =
     ∙ ap (λ t. cond t (Some copy) None) (and_from (eqb copy.dataset copy.dataset) (eqb copy.part copy.part) (eq-eqb copy.dataset copy.dataset refl) (eq-eqb copy.part copy.part refl))
 
 -- the copy that was written has the rows of its bytes
-pub rows_written : (before after : Option Files) (copies : List BlockCopy) (copy : BlockCopy) (bytes : List ℕ) (rows : Rows) → has_copy copies copy.dataset copy.part ≡ false → Writes before after copy.file bytes → IsPage bytes rows → is_some before ≡ true → copy_rows after (copies ++ copy ∷ []) copy.dataset copy.part ≡ Some rows
+pub rows_written : (before after : Option Files) (copies : List BlockCopy) (copy : BlockCopy) (bytes : List ℕ) (rows : Rows) → has_copy copies copy.dataset copy.part ≡ false → WritesCopy before after copy.file bytes → IsPage bytes rows → is_some before ≡ true → copy_rows after (copies ++ copy ∷ []) copy.dataset copy.part ≡ Some rows
 rows_written None after copies copy bytes rows none written page tells = absurd (false≢true tells)
 rows_written (Some b) None copies copy bytes rows none written page tells = absurd written
 rows_written (Some b) (Some a) copies copy bytes rows none written page tells =

@@ -7,7 +7,7 @@ use Rattle.std.specs.FinMap.{get-insert, get-remove}
 use Rattle.std.proofs.lemmas.Cmp.{nat_cmp_total}
 use Rattle.std.proofs.lemmas.Bool.{eq-eqb, ne_eqb, true≢false, false≢true}
 use Rattle.spill_disk.specs.Files.{Files, bytes_of, Creates, Appends, Removes}
-use Rattle.block_store.specs.Evictions.{file_at, OnlyFile, Writes, BeginsAtMost, SameBelow}
+use Rattle.block_store.specs.Evictions.{file_at, OnlyFile, WritesCopy, BeginsAtMost, SameBelow}
 
 get_put : (m : Files) (k : ℕ) (v : List ℕ) (q : ℕ) → map.get (map.insert m k v) q ≡ cond (eqb q k) (Some v) (map.get m q)
 get_put m k v q = get-insert nat_cmp_total m k v q ∙ ap (λ b. cond b (Some v) (map.get m q)) (unsigned_tied q k)
@@ -25,7 +25,7 @@ taken_other : (m : Files) (k q : ℕ) → (q ≡ k → ⊥) → map.get (map.rem
 taken_other m k q other = get_taken m k q ∙ ap (λ b. cond b None (map.get m q)) (ne_eqb q k other)
 
 -- a file that was made and appended to has what was appended
-pub written : (before mid after : Option Files) (file : ℕ) (bytes : List ℕ) → Creates before mid file → Appends mid after file bytes → Writes before after file bytes
+pub written : (before mid after : Option Files) (file : ℕ) (bytes : List ℕ) → Creates before mid file → Appends mid after file bytes → WritesCopy before after file bytes
 written None mid after file bytes made grown = tt
 written (Some b) None after file bytes made grown = absurd made
 written (Some b) (Some m) None file bytes made grown = absurd grown
@@ -41,7 +41,7 @@ DiffersAt (Some before) (Some after) file = OnlyFile before after file
 DiffersAt None after file = ⊤
 DiffersAt (Some before) None file = ⊥
 
-pub differs_written : (before after : Option Files) (file : ℕ) (bytes : List ℕ) → Writes before after file bytes → DiffersAt before after file
+pub differs_written : (before after : Option Files) (file : ℕ) (bytes : List ℕ) → WritesCopy before after file bytes → DiffersAt before after file
 differs_written None after file bytes h = tt
 differs_written (Some b) None file bytes h = h
 differs_written (Some b) (Some a) file bytes h = h.1

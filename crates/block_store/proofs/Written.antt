@@ -12,22 +12,22 @@ use Rattle.std.proofs.lemmas.Option.{none-some, same_Some}
 use Rattle.lru.specs.LruCache.{LruCache, lru_cache, promoted}
 use Rattle.block_store.specs.declared.block.Block.{Block}
 use Rattle.block_store.specs.declared.resident.Resident.{Resident}
-use Rattle.block_store.specs.Stores.{Held, held_of, is_held, held_at, pins_at, without, unpinned, AreApart}
-use Rattle.block_store.specs.Slots.{Numbered, MemoryView, held_in, with_pins, followed_by, blocks_in, slots_of, AreBelow, AreKept, HasBlock}
+use Rattle.block_store.specs.Stores.{HeldBlock, held_of, is_held, held_at, pins_at, without, unpinned, AreApart}
+use Rattle.block_store.specs.Slots.{NumberedSlot, MemoryView, held_in, with_pins, followed_by, blocks_in, slots_of, AreBelow, AreSlots, HasBlock}
 use Rattle.block_store.proofs.Places.{none_find}
 use Rattle.block_store.proofs.Walks.{followed-append, append-nothing, below_set, below_removed}
 use Rattle.block_store.proofs.UseOrder.{IsAmong, same_test, any_joined, among, found_among, without_among, unpinned_among, apart_more, apart_unpinned}
 
 -- a slot that a look-up finds, among the others
-record StandsIn (number : ℕ) (resident : Resident) (slots : List Numbered) : Type 0 where
-  before : List Held
-  after : List Held
+record StandsIn (number : ℕ) (resident : Resident) (slots : List NumberedSlot) : Type 0 where
+  before : List HeldBlock
+  after : List HeldBlock
   all : blocks_in slots ≡ before ++ held_in resident ∷ after
   written : (other : Resident) → blocks_in (set_value (nat_eq number) slots (Some other)) ≡ before ++ held_in other ∷ after
   emptied : blocks_in (set_value (nat_eq number) slots None) ≡ before ++ after
   removed : blocks_in (remove_entry (nat_eq number) slots) ≡ before ++ after
 
-stands_in : (number : ℕ) (resident : Resident) (slots : List Numbered) → lookup (nat_eq number) slots ≡ Some (Some resident) → StandsIn number resident slots
+stands_in : (number : ℕ) (resident : Resident) (slots : List NumberedSlot) → lookup (nat_eq number) slots ≡ Some (Some resident) → StandsIn number resident slots
 stands_in number resident [] e = absurd (none-some (Some resident) e)
 stands_in number resident (s ∷ ss) e =
     elim (cases_Bool (nat_eq number s.0)) [
@@ -46,15 +46,15 @@ stands_in number resident (s ∷ ss) e =
           record {
             before = rest.before;
             after = followed_by rest.after s.1;
-            all = ap (λ (l : List Held). followed_by l s.1) rest.all ∙ followed-append rest.before (held_in resident ∷ rest.after) s.1 ∙ ap (λ (l : List Held). rest.before ++ l) (followed-append (held_in resident ∷ []) rest.after s.1);
-            written = λ other. ap (λ t. blocks_in (cond t ((s.0, Some other) ∷ ss) (s ∷ set_value (nat_eq number) ss (Some other)))) later ∙ ap (λ (l : List Held). followed_by l s.1) (rest.written other) ∙ followed-append rest.before (held_in other ∷ rest.after) s.1 ∙ ap (λ (l : List Held). rest.before ++ l) (followed-append (held_in other ∷ []) rest.after s.1);
-            emptied = ap (λ t. blocks_in (cond t ((s.0, None) ∷ ss) (s ∷ set_value (nat_eq number) ss None))) later ∙ ap (λ (l : List Held). followed_by l s.1) rest.emptied ∙ followed-append rest.before rest.after s.1;
-            removed = ap (λ t. blocks_in (cond t ss (s ∷ remove_entry (nat_eq number) ss))) later ∙ ap (λ (l : List Held). followed_by l s.1) rest.removed ∙ followed-append rest.before rest.after s.1;
+            all = ap (λ (l : List HeldBlock). followed_by l s.1) rest.all ∙ followed-append rest.before (held_in resident ∷ rest.after) s.1 ∙ ap (λ (l : List HeldBlock). rest.before ++ l) (followed-append (held_in resident ∷ []) rest.after s.1);
+            written = λ other. ap (λ t. blocks_in (cond t ((s.0, Some other) ∷ ss) (s ∷ set_value (nat_eq number) ss (Some other)))) later ∙ ap (λ (l : List HeldBlock). followed_by l s.1) (rest.written other) ∙ followed-append rest.before (held_in other ∷ rest.after) s.1 ∙ ap (λ (l : List HeldBlock). rest.before ++ l) (followed-append (held_in other ∷ []) rest.after s.1);
+            emptied = ap (λ t. blocks_in (cond t ((s.0, None) ∷ ss) (s ∷ set_value (nat_eq number) ss None))) later ∙ ap (λ (l : List HeldBlock). followed_by l s.1) rest.emptied ∙ followed-append rest.before rest.after s.1;
+            removed = ap (λ t. blocks_in (cond t ss (s ∷ remove_entry (nat_eq number) ss))) later ∙ ap (λ (l : List HeldBlock). followed_by l s.1) rest.removed ∙ followed-append rest.before rest.after s.1;
           }
     ]
 
 -- without an empty slot the blocks are the same
-empty_removed : (number : ℕ) (slots : List Numbered) → lookup (nat_eq number) slots ≡ Some None → blocks_in (remove_entry (nat_eq number) slots) ≡ blocks_in slots
+empty_removed : (number : ℕ) (slots : List NumberedSlot) → lookup (nat_eq number) slots ≡ Some None → blocks_in (remove_entry (nat_eq number) slots) ≡ blocks_in slots
 empty_removed number [] e = absurd (none-some None e)
 empty_removed number (s ∷ ss) e =
     elim (cases_Bool (nat_eq number s.0)) [
@@ -62,18 +62,18 @@ empty_removed number (s ∷ ss) e =
           let has : s.1 ≡ None = same_Some s.1 None (sym (ap (λ t. cond t (Some s.1) (lookup (nat_eq number) ss)) here) ∙ e) in
           ap (λ t. blocks_in (cond t ss (s ∷ remove_entry (nat_eq number) ss))) here ∙ sym (ap (followed_by (blocks_in ss)) has)
       | inr later ↦
-          ap (λ t. blocks_in (cond t ss (s ∷ remove_entry (nat_eq number) ss))) later ∙ ap (λ (l : List Held). followed_by l s.1) (empty_removed number ss (sym (ap (λ t. cond t (Some s.1) (lookup (nat_eq number) ss)) later) ∙ e))
+          ap (λ t. blocks_in (cond t ss (s ∷ remove_entry (nat_eq number) ss))) later ∙ ap (λ (l : List HeldBlock). followed_by l s.1) (empty_removed number ss (sym (ap (λ t. cond t (Some s.1) (lookup (nat_eq number) ss)) later) ∙ e))
     ]
 
 -- a slot that is found and written to comes first
-record ComesFirst (number : ℕ) (slot : Option Resident) (slots : List Numbered) : Type 0 where
+record ComesFirst (number : ℕ) (slot : Option Resident) (slots : List NumberedSlot) : Type 0 where
   own : ℕ
   all : set_value (nat_eq number) (promoted (nat_eq number) slots) slot ≡ (own, slot) ∷ remove_entry (nat_eq number) slots
   below : (count : ℕ) → AreBelow count slots → own < count
   length_is : suc (length (remove_entry (nat_eq number) slots)) ≡ length slots
 
 -- what is found of the number
-entry_of : (number : ℕ) (slots : List Numbered) (slot : Option Resident) → lookup (nat_eq number) slots ≡ Some slot → (entry : Numbered) × (lookup_entry (nat_eq number) slots ≡ Some entry) × (nat_eq number entry.0 ≡ true) × ((count : ℕ) → AreBelow count slots → entry.0 < count) × (suc (length (remove_entry (nat_eq number) slots)) ≡ length slots)
+entry_of : (number : ℕ) (slots : List NumberedSlot) (slot : Option Resident) → lookup (nat_eq number) slots ≡ Some slot → (entry : NumberedSlot) × (lookup_entry (nat_eq number) slots ≡ Some entry) × (nat_eq number entry.0 ≡ true) × ((count : ℕ) → AreBelow count slots → entry.0 < count) × (suc (length (remove_entry (nat_eq number) slots)) ≡ length slots)
 entry_of number [] slot e = absurd (none-some slot e)
 entry_of number (s ∷ ss) slot e =
     elim (cases_Bool (nat_eq number s.0)) [
@@ -94,24 +94,24 @@ entry_of number (s ∷ ss) slot e =
           )
     ]
 
-comes_first : (number : ℕ) (was slot : Option Resident) (slots : List Numbered) → lookup (nat_eq number) slots ≡ Some was → ComesFirst number slot slots
+comes_first : (number : ℕ) (was slot : Option Resident) (slots : List NumberedSlot) → lookup (nat_eq number) slots ≡ Some was → ComesFirst number slot slots
 comes_first number was slot slots e =
     let entry = entry_of number slots was e in
     record {
       own = entry.0.0;
       all =
-          ap (λ (o : Option Numbered). set_value (nat_eq number) (option_map_or (λ x. x ∷ remove_entry (nat_eq number) slots) o slots) slot) entry.1
+          ap (λ (o : Option NumberedSlot). set_value (nat_eq number) (option_map_or (λ x. x ∷ remove_entry (nat_eq number) slots) o slots) slot) entry.1
           ∙ ap (λ t. cond t ((entry.0.0, slot) ∷ remove_entry (nat_eq number) slots) (entry.0 ∷ set_value (nat_eq number) (remove_entry (nat_eq number) slots) slot)) entry.2;
       below = entry.3;
       length_is = entry.4;
     }
 
 -- what a call leaves in the slots: so many blocks, and room for so many
-abbrev pub Leaves : LruCache ℕ (Option Resident) → ℕ → ℕ → List Held → Type 0
-Leaves cache count room blocks = AreKept (Some cache) count room × (blocks_in cache.entries ≡ blocks)
+abbrev pub Leaves : LruCache ℕ (Option Resident) → ℕ → ℕ → List HeldBlock → Type 0
+Leaves cache count room blocks = AreSlots (Some cache) count room × (blocks_in cache.entries ≡ blocks)
 
-module _ (cache : LruCache ℕ (Option Resident)) (count room : ℕ) (kept : AreKept (Some cache) count room) where
-  abbrev blocks : List Held
+module _ (cache : LruCache ℕ (Option Resident)) (count room : ℕ) (kept : AreSlots (Some cache) count room) where
+  abbrev blocks : List HeldBlock
   blocks = blocks_in cache.entries
 
   abbrev first : ℕ → Option Resident → LruCache ℕ (Option Resident)
@@ -136,7 +136,7 @@ module _ (cache : LruCache ℕ (Option Resident)) (count room : ℕ) (kept : Are
   kept_admitted : (number : ℕ) (resident : Resident) → 0 < room → lookup (nat_eq number) cache.entries ≡ Some None → held_at blocks (held_in resident).dataset (held_in resident).part ≡ None → Leaves (first number (Some resident)) (count + 1) (room - 1) (blocks ++ held_in resident ∷ [])
   kept_admitted number resident some e absent =
       let c = comes_first number None (Some resident) cache.entries e in
-      let all : blocks_in (first number (Some resident)).entries ≡ blocks ++ held_in resident ∷ [] = ap blocks_in c.all ∙ ap (λ (l : List Held). l ++ held_in resident ∷ []) (empty_removed number cache.entries e) in
+      let all : blocks_in (first number (Some resident)).entries ≡ blocks ++ held_in resident ∷ [] = ap blocks_in c.all ∙ ap (λ (l : List HeldBlock). l ++ held_in resident ∷ []) (empty_removed number cache.entries e) in
       let below = first_below number None (Some resident) e in (
         record {
           apart = subst AreApart (sym all) (apart_more blocks (held_in resident) kept.apart (none_find (is_held (held_in resident).dataset (held_in resident).part) blocks absent));
@@ -157,7 +157,7 @@ module _ (cache : LruCache ℕ (Option Resident)) (count room : ℕ) (kept : Are
 
     -- the block is in memory
     held_found : held_at blocks d p ≡ Some (held_in resident)
-    held_found = ap (λ (l : List Held). held_at l d p) stands.all ∙ found_among d p stands.before stands.after (held_in resident) is_among has.named
+    held_found = ap (λ (l : List HeldBlock). held_at l d p) stands.all ∙ found_among d p stands.before stands.after (held_in resident) is_among has.named
 
     left_is : without d p blocks ≡ stands.before ++ stands.after
     left_is = ap (without d p) stands.all ∙ without_among d p stands.before stands.after (held_in resident) is_among has.named
@@ -170,9 +170,9 @@ module _ (cache : LruCache ℕ (Option Resident)) (count room : ℕ) (kept : Are
     kept_pinned pins =
         let now : Resident = with_pins pins resident in
         let c = comes_first number (Some resident) (Some now) cache.entries has.here in
-        let all : blocks_in (first number (Some now)).entries ≡ (stands.before ++ stands.after) ++ held_in now ∷ [] = ap blocks_in c.all ∙ ap (λ (l : List Held). l ++ held_in now ∷ []) stands.removed in
+        let all : blocks_in (first number (Some now)).entries ≡ (stands.before ++ stands.after) ++ held_in now ∷ [] = ap blocks_in c.all ∙ ap (λ (l : List HeldBlock). l ++ held_in now ∷ []) stands.removed in
         let below = first_below number (Some resident) (Some now) has.here in
-        let none : list_any (is_held (held_in now).dataset (held_in now).part) (stands.before ++ stands.after) ≡ false = ap (λ (t : Held → Bool). list_any t (stands.before ++ stands.after)) (same_test d p (held_in resident) has.named) ∙ any_joined (is_held d p) stands.before stands.after is_among.no_earlier is_among.no_later in (
+        let none : list_any (is_held (held_in now).dataset (held_in now).part) (stands.before ++ stands.after) ≡ false = ap (λ (t : HeldBlock → Bool). list_any t (stands.before ++ stands.after)) (same_test d p (held_in resident) has.named) ∙ any_joined (is_held d p) stands.before stands.after is_among.no_earlier is_among.no_later in (
           record {
             apart = subst AreApart (sym all) (apart_more (stands.before ++ stands.after) (held_in now) is_among.apart none);
             counted = omega (arith, kept.counted, counts, ap length all, length-append (stands.before ++ stands.after) (held_in now ∷ []));
@@ -180,7 +180,7 @@ module _ (cache : LruCache ℕ (Option Resident)) (count room : ℕ) (kept : Are
             numbers = below.1;
             unbounded = kept.unbounded;
           },
-          all ∙ ap (λ (l : List Held). l ++ held_in now ∷ []) (sym left_is),
+          all ∙ ap (λ (l : List HeldBlock). l ++ held_in now ∷ []) (sym left_is),
         )
 
     -- a pin is given back
@@ -217,14 +217,14 @@ module _ (cache : LruCache ℕ (Option Resident)) (count room : ℕ) (kept : Are
 
 -- the slots behind what contracts see
 pub record IsOpen (cache : LruCache ℕ (Option Resident)) (count room : ℕ) (view : MemoryView) : Type 0 where
-  pub kept : AreKept (Some cache) count room
+  pub kept : AreSlots (Some cache) count room
   pub blocks : blocks_in cache.entries ≡ view.blocks
   pub room_is : room ≡ view.room
 
-pub opened : (slots : Option (LruCache ℕ (Option Resident))) (cache : LruCache ℕ (Option Resident)) (count room : ℕ) (view : MemoryView) → AreKept slots count room → record { blocks = blocks_in (slots_of slots); room = room } ≡ view → slots ≡ Some cache → IsOpen cache count room view
+pub opened : (slots : Option (LruCache ℕ (Option Resident))) (cache : LruCache ℕ (Option Resident)) (count room : ℕ) (view : MemoryView) → AreSlots slots count room → record { blocks = blocks_in (slots_of slots); room = room } ≡ view → slots ≡ Some cache → IsOpen cache count room view
 opened slots cache count room view kept shown is =
     record {
-      kept = subst (λ (o : Option (LruCache ℕ (Option Resident))). AreKept o count room) is kept;
+      kept = subst (λ (o : Option (LruCache ℕ (Option Resident))). AreSlots o count room) is kept;
       blocks = ap (λ (o : Option (LruCache ℕ (Option Resident))). blocks_in (slots_of o)) (sym is) ∙ ap (λ (v : MemoryView). v.blocks) shown;
       room_is = ap (λ (v : MemoryView). v.room) shown;
     }
@@ -233,20 +233,20 @@ module _ (cache : LruCache ℕ (Option Resident)) (count room : ℕ) (view : Mem
   pub admitted : (number : ℕ) (resident : Resident) → 0 < view.room → lookup (nat_eq number) cache.entries ≡ Some None → held_at view.blocks (held_in resident).dataset (held_in resident).part ≡ None → Leaves (lru_cache (set_value (nat_eq number) (promoted (nat_eq number) cache.entries) (Some resident)) cache.cap) (count + 1) (room - 1) (view.blocks ++ held_in resident ∷ [])
   admitted number resident some e absent =
       let own : 0 < room = omega (arith, some, shown.room_is) in
-      let left = kept_admitted cache count room shown.kept number resident own e (ap (λ (l : List Held). held_at l (held_in resident).dataset (held_in resident).part) shown.blocks ∙ absent) in
-      (left.0, left.1 ∙ ap (λ (l : List Held). l ++ held_in resident ∷ []) shown.blocks)
+      let left = kept_admitted cache count room shown.kept number resident own e (ap (λ (l : List HeldBlock). held_at l (held_in resident).dataset (held_in resident).part) shown.blocks ∙ absent) in
+      (left.0, left.1 ∙ ap (λ (l : List HeldBlock). l ++ held_in resident ∷ []) shown.blocks)
 
   -- a call that keeps the number of blocks
-  pub same_count : (other : LruCache ℕ (Option Resident)) → AreKept (Some other) count room → length (blocks_in other.entries) ≡ length view.blocks
+  pub same_count : (other : LruCache ℕ (Option Resident)) → AreSlots (Some other) count room → length (blocks_in other.entries) ≡ length view.blocks
   same_count other kept = sym kept.counted ∙ shown.kept.counted ∙ ap length shown.blocks
 
   module _ (d p number : ℕ) (resident : Resident) (has : HasBlock d p number resident cache.entries) where
     pub is_found : held_at view.blocks d p ≡ Some (held_in resident)
-    is_found = ap (λ (l : List Held). held_at l d p) (sym shown.blocks) ∙ held_found cache count room shown.kept d p number resident has
+    is_found = ap (λ (l : List HeldBlock). held_at l d p) (sym shown.blocks) ∙ held_found cache count room shown.kept d p number resident has
 
     -- its pins, and the block itself
     pub pins_found : pins_at view.blocks d p ≡ resident.pins
-    pins_found = ap (λ (o : Option Held). option_map_or (λ held. held.pins) o 0) is_found
+    pins_found = ap (λ (o : Option HeldBlock). option_map_or (λ held. held.pins) o 0) is_found
 
     pub is_known : (block : Block) → block ≡ arc_value resident.block → held_at view.blocks d p ≡ Some (held_of (pins_at view.blocks d p) block)
     is_known block same = is_found ∙ ap (λ (n : ℕ). Some (held_of n (arc_value resident.block))) (sym pins_found) ∙ ap (λ (b : Block). Some (held_of (pins_at view.blocks d p) b)) (sym same)
@@ -270,7 +270,7 @@ module _ (cache : LruCache ℕ (Option Resident)) (count room : ℕ) (view : Mem
         let one : pins ≡ pins_at view.blocks d p + 1 = omega (arith, more, pins_found) in (
           left.0,
           left.1
-              ∙ ap (λ (l : List Held). without d p l ++ held_of pins (arc_value resident.block) ∷ []) shown.blocks
+              ∙ ap (λ (l : List HeldBlock). without d p l ++ held_of pins (arc_value resident.block) ∷ []) shown.blocks
               ∙ ap (λ (n : ℕ). without d p view.blocks ++ held_of n (arc_value resident.block) ∷ []) one
               ∙ ap (λ (b : Block). without d p view.blocks ++ held_of (pins_at view.blocks d p + 1) b ∷ []) (sym same),
         )
@@ -286,4 +286,4 @@ module _ (cache : LruCache ℕ (Option Resident)) (count room : ℕ) (view : Mem
         (left.0, left.1 ∙ ap (without d p) shown.blocks)
 
     pub one_less : length (without d p view.blocks) + 1 ≡ length view.blocks
-    one_less = omega (arith, ap (λ (l : List Held). length (without d p l)) shown.blocks, ap length shown.blocks, counts cache count room shown.kept d p number resident has, ap length (left_is cache count room shown.kept d p number resident has))
+    one_less = omega (arith, ap (λ (l : List HeldBlock). length (without d p l)) shown.blocks, ap length shown.blocks, counts cache count room shown.kept d p number resident has, ap length (left_is cache count room shown.kept d p number resident has))

@@ -19,15 +19,15 @@ OnlyFile before after file =
     (map.get before file ≡ None) × ((other : ℕ) → (other ≡ file → ⊥) → map.get after other ≡ map.get before other)
 
 -- one file was made and has these bytes, and all others are as before
-abbrev pub Writes : Option Files → Option Files → ℕ → List ℕ → Type 0
-Writes (Some before) (Some after) file bytes = (map.get after file ≡ Some bytes) × OnlyFile before after file
-Writes None after file bytes = ⊤
-Writes (Some before) None file bytes = ⊥
+abbrev pub WritesCopy : Option Files → Option Files → ℕ → List ℕ → Type 0
+WritesCopy (Some before) (Some after) file bytes = (map.get after file ≡ Some bytes) × OnlyFile before after file
+WritesCopy None after file bytes = ⊤
+WritesCopy (Some before) None file bytes = ⊥
 
 -- one file was made and has the page's bytes of these rows, and all others are as before
 abbrev pub WritesRows : Option Files → Option Files → Option Rows → Type 0
 WritesRows before after None = ⊥
-WritesRows before after (Some rows) = (file : ℕ) × Writes before after file (page_bytes rows)
+WritesRows before after (Some rows) = (file : ℕ) × WritesCopy before after file (page_bytes rows)
 
 -- all files are as before, but for at most one that was begun
 abbrev pub BeginsAtMost : Option Files → Option Files → Type 0

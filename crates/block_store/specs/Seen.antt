@@ -3,10 +3,10 @@
 use Rattle.std.specs.Prelude.{ℕ, List}
 use Rattle.block_store.specs.declared.store.Store.{Store}
 use Rattle.block_store.specs.declared.block_copy.BlockCopy.{BlockCopy}
-use Rattle.block_store.specs.Stores.{Held}
+use Rattle.block_store.specs.Stores.{HeldBlock}
 
 -- the blocks in memory, the least recently used first
-abbrev pub blocks_of : {K : Type 0} {g : _} → Store K g → List Held
+abbrev pub blocks_of : {K : Type 0} {g : _} → Store K g → List HeldBlock
 blocks_of store = store.memory.blocks
 
 -- for how many more blocks there is room

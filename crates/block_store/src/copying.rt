@@ -8,7 +8,7 @@ ghost use Rattle.row_page.specs.Reading.{rows_of};
 ghost use Rattle.spill_disk.specs.declared.disk.DiskError.TheVariants.{Failed, NoMemory};
 ghost use Rattle.fault_count.specs.Faults.{Rose, HasCauseAt};
 ghost use Rattle.block_store.specs.Copies.{AreStored, IsStored, has_copy, has_file, copy_rows, of_others, only_of};
-ghost use Rattle.block_store.specs.Evictions.{Writes, BeginsAtMost, SameBelow, IsFront, KeepsOthers, file_at};
+ghost use Rattle.block_store.specs.Evictions.{WritesCopy, BeginsAtMost, SameBelow, IsFront, KeepsOthers, file_at};
 
 use crate::Block;
 use crate::block_copy::BlockCopy;
@@ -32,7 +32,7 @@ pub(crate) fn write_copy<K: Disk>(
     requires uncopied { has_copy copies.old.list dataset part ≡ false }
     requires room { 0 < copies.old.room }
     ensures written { result ≡ Fate.Disk → (file : ℕ)
-        × Writes (K.files disk.old) (K.files disk.new) file (page_bytes page.now.rows) }
+        × WritesCopy (K.files disk.old) (K.files disk.new) file (page_bytes page.now.rows) }
     ensures copy { result ≡ Fate.Disk → has_copy copies.new.list dataset part ≡ true }
     ensures rows { result ≡ Fate.Disk → is_some (K.files disk.old) ≡ true →
         copy_rows (K.files disk.new) copies.new.list dataset part ≡ Some page.now.rows }
@@ -64,7 +64,7 @@ pub(crate) fn write_copy<K: Disk>(
 
 /// Writes bytes to a new file. After an `Err` the file is removed, if the disk does so.
 fn write_file<K: Disk>(disk: &mut K, bytes: &[u8]) -> Result<u64, DiskError>
-    ensures ok { IfOk result (λ file. Writes (K.files disk.old) (K.files disk.new) file bytes.now) }
+    ensures ok { IfOk result (λ file. WritesCopy (K.files disk.old) (K.files disk.new) file bytes.now) }
     ensures fresh { IfOk result (λ file. K.next_number disk.old ≤ file) }
     ensures given { IfOk result (λ file. file < K.next_number disk.new) }
     ensures err { OnErr result (BeginsAtMost (K.files disk.old) (K.files disk.new)) }

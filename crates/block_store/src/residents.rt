@@ -24,13 +24,13 @@ pub(crate) struct Residents {
 }
 
 impl Model for Residents {
-    ghost use Rattle.block_store.specs.Slots.{MemoryView, AreKept, slots_of, blocks_in};
+    ghost use Rattle.block_store.specs.Slots.{MemoryView, AreSlots, slots_of, blocks_in};
 
     ghost Value = { MemoryView };
 
     ghost view = { λ it. record { blocks = blocks_in (slots_of it.slots); room = it.room } };
 
-    ghost invariant = { λ it. AreKept it.slots it.count it.room };
+    ghost invariant = { λ it. AreSlots it.slots it.count it.room };
 }
 
 impl Residents {

@@ -46,6 +46,7 @@ pub record Needs (old new : State) (entry : Entry) (must wish : ℕ) : Type 0 wh
   pub wished : wish ≡ max must 16384
   pub covered : costs old.entries ≤ old.used
 
+-- what the call with an entry did to the consumer: it was taken, or needs more room; a fault changes nothing
 abbrev pub Feeds : {E : Type 0} → State → State → Entry → Result Fed E → Type 0
 Feeds old new entry (Ok Taken) = Takes old new entry
 Feeds old new entry (Ok (Need must wish)) = Needs old new entry must wish

@@ -55,6 +55,7 @@ abbrev pub progress_at : State → Stage → Progress
 progress_at state Rest = record { asked = false; wrote = false; freed = false; mark = room state; left = [] }
 progress_at state (Spill progress) = progress
 
+-- how far the spill has come that the consumer is in, or would begin
 abbrev pub current : State → Progress
 current state = progress_at state state.stage
 

@@ -2,6 +2,7 @@
 
 ghost use Rattle.std.specs.Prelude.{◌≡◌, ◌+◌, ◌≤◌, ◌^◌, ◌↔◌, [], true, IsTrue, IsSome, OnOk, OnErr, Some};
 ghost use Rattle.aggregate.specs.Totals.{costs};
+ghost use Rattle.row_page.specs.Pages.{empty_page};
 ghost use Rattle.consumer_trait.specs.States.{State, Rest, IsEntryBy, as_reset};
 ghost use Rattle.consumer_trait.specs.Calls.{Feeds, Turns};
 
@@ -60,7 +61,7 @@ pub trait Consumer: Drop {
     /// One turn of a spill. At rest it begins one. After an `Err`, which is want of memory, it is only reset.
     fn spill_turn(&mut self, out: &mut Page) -> Result<Turn, AllocError>
         requires kind { IsSome (state self.old).kind }
-        requires page { out.old ≡ record { rows = []; room = 262144 } }
+        requires page { out.old ≡ empty_page }
         ensures { Turns (state self.old) (state self.new) out.old out.new result };
 
     /// Forgets all but how often it was fed. It takes no memory.

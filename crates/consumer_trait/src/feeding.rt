@@ -2,6 +2,7 @@
 
 ghost use Rattle.std.specs.Prelude.{◌≡◌, ◌≢◌, ◌≤◌, ◌++◌, ◌∷◌, [], max, length, Err, OnOk, OnErr};
 ghost use Rattle.aggregate.specs.Totals.{cost};
+ghost use Rattle.row_page.specs.Pages.{page_room};
 ghost use Rattle.row_page.specs.declared.page.PageFault.TheVariants.{Full};
 ghost use Rattle.consumer_trait.specs.declared.answers.Fed.TheVariants.{Need};
 ghost use Rattle.consumer_trait.specs.Usages.{fields_of_entry};
@@ -33,7 +34,7 @@ pub fn need_of(must: u64) -> Fed
 pub fn put_entry(key: &[u8], value: &[u8], out: &mut Page) -> Result<(), PageFault>
     requires key_fits { length key.now ≤ 131152 }
     requires value_fits { length value.now ≤ 65568 }
-    requires room { out.old.room ≡ 262144 }
+    requires room { out.old.room ≡ page_room }
     ensures ok { OnOk result (out.new ≡ record out.old {
       rows = out.old.rows ++ fields_of_entry (record { key = key.now; value = value.now }) ∷ [];
     }) }

@@ -2,6 +2,7 @@
 
 ghost use Rattle.std.specs.Prelude.{◌≡◌, ◌+◌, ◌≤◌, ◌<◌, ◌^◌, ◌↔◌, [], length, map, true, slice_set, IsTrue, IsSome, Some, OnOk, OnErr};
 ghost use Rattle.aggregate.specs.Totals.{costs};
+ghost use Rattle.row_page.specs.Pages.{empty_page};
 ghost use Rattle.consumer_trait.specs.States.{Rest, IsEntryBy, as_reset};
 ghost use Rattle.consumer_trait.specs.Calls.{Feeds, Turns};
 ghost use Rattle.consumer_trait.specs.Members.{state_at, OnlyAt};
@@ -92,7 +93,7 @@ pub fn grant_at<C: Consumer>(members: &mut [C], i: usize, bytes: u64)
 pub fn turn_at<C: Consumer>(members: &mut [C], i: usize, out: &mut Page) -> Result<Turn, AllocError>
     requires within { i < length members.old }
     requires kind { IsSome (state_at (map C.state members.old) i).kind }
-    requires page { out.old ≡ record { rows = []; room = 262144 } }
+    requires page { out.old ≡ empty_page }
     ensures turns { Turns (state_at (map C.state members.old) i) (state_at (map C.state members.new) i)
         out.old out.new result }
     ensures others { OnlyAt (map C.state members.old) (map C.state members.new) i }

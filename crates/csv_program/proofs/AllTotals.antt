@@ -8,7 +8,7 @@ use Rattle.std.proofs.lemmas.List.{length-map}
 use Rattle.aggregate.specs.Totals.{Entry, total}
 use Rattle.job_answer.specs.Laws.{IsOverInput, TellsAnswer, TotalsTellQueries, input_of, query_at, totals_each, wide_total}
 use Rattle.job_answer.specs.Numbered.{landed_each, numbered}
-use Rattle.job_answer.specs.Output.{joined, output, table_rows, text_of, too_wide, wide_from, wide_key}
+use Rattle.job_answer.specs.Output.{tables_text, output, table_rows, text_of, too_wide, wide_from, wide_key}
 use Rattle.job_answer.specs.Planned.{PlansDeriveRows}
 use Rattle.job_answer.proofs.NumberedRows.{landed-numbered}
 use Rattle.job_plan.specs.Columns.{Fields}
@@ -21,7 +21,7 @@ use Rattle.job_text.specs.declared.job.Job.{Job}
 use Rattle.job_text.specs.declared.job.Query.{Query}
 use Rattle.job_text.specs.declared.job.Shape.{Shape}
 use Rattle.landing.specs.Checks.{checked}
-use Rattle.landing.specs.Landed.{AreChecked, AreRowsOf}
+use Rattle.landing.specs.Landed.{AreChecked, PassChecks}
 use Rattle.result_table.specs.Results.{table_of}
 use Rattle.row_filter.specs.Derived.{derived}
 use Rattle.job_ending.specs.Endings.{ending_of_checked, ending_of_totals, ending_with, tables_of, totals_of, wide_among, wide_of}
@@ -86,7 +86,7 @@ totals_are job header plan rows query law whole made =
 
 -- ---- the ending
 
-output_is : (job : Job) (header : Fields) (rows : List Fields) → output job header rows ≡ joined (map (λ query. text_of (table_rows job header rows query)) job.queries)
+output_is : (job : Job) (header : Fields) (rows : List Fields) → output job header rows ≡ tables_text (map (λ query. text_of (table_rows job header rows query)) job.queries)
 unfolding output
 output_is job header rows = refl
 
@@ -96,7 +96,7 @@ count_is job header plan made = ap (λ (shapes : List Shape). length shapes) mad
 
 -- what the totals end as is how the job ends
 pub ending_is : (job : Job) (max_rows : ℕ) (plan : Plan) (landed records : List Fields) → max_rows ≤ 10000000 → TotalsTellQueries → PlansDeriveRows → IsJob job
-    → AreRowsOf job max_rows plan landed records → AreChecked (form_in plan) landed → length landed ≤ max_rows
+    → PassChecks job max_rows plan landed records → AreChecked (form_in plan) landed → length landed ≤ max_rows
     → ending_of_totals plan (totals_of plan landed) ≡ ending_of_checked job (checked job max_rows records)
 ending_is job max_rows plan landed records most tell derive whole are formed few =
     let header = are.header in
@@ -116,8 +116,8 @@ ending_is job max_rows plan landed records most tell derive whole are formed few
     let tells : (query : ℕ) → query < length job.queries → TellsAnswer job header plan rows query (totals query) = λ query below.
     subst (TellsAnswer job header plan rows query) (sym (totals_are job header plan rows query derive whole made)) (tell job header plan rows query over (omega (arith, below, several))) in
     let text : tables_of plan totals ≡ output job header rows =
-    ap (λ (n : ℕ). joined (map (λ query. table_of plan query (totals query)) (range_with_len 0 n))) several
-    ∙ ap joined (tables_are (λ query. table_of plan query (totals query)) (λ query. text_of (table_rows job header rows query)) 0 job.queries (λ k below. ap (λ (query : ℕ). table_of plan query (totals query)) (from_none k) ∙ ap text_of (tells k below).table))
+    ap (λ (n : ℕ). tables_text (map (λ query. table_of plan query (totals query)) (range_with_len 0 n))) several
+    ∙ ap tables_text (tables_are (λ query. table_of plan query (totals query)) (λ query. text_of (table_rows job header rows query)) 0 job.queries (λ k below. ap (λ (query : ℕ). table_of plan query (totals query)) (from_none k) ∙ ap text_of (tells k below).table))
     ∙ sym (output_is job header rows) in
     let wide : wide_of plan totals ≡ too_wide job header rows =
     ap (λ (n : ℕ). wide_among plan totals (range_with_len 0 n)) several ∙ wide_are job header rows plan totals 0 job.queries

@@ -7,7 +7,7 @@ use Rattle.std.proofs.Math.Nat.{mod-lt}
 use Rattle.std.proofs.lemmas.Bool.{cases_Bool}
 use Rattle.row_page.proofs.Shown.{rows_shown}
 use Rattle.spill_disk.specs.Files.{Files, bytes_of}
-use Rattle.run_file.specs.Forms.{HasForm}
+use Rattle.row_form.specs.Forms.{HasForm}
 use Rattle.run_file.specs.Runs.{Stands}
 use Rattle.run_file.specs.declared.run.Run.{Run}
 use Rattle.run_file.specs.Several.{run_at}

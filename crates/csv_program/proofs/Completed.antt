@@ -17,8 +17,8 @@ use Rattle.pool_ledger.specs.declared.entry.Event.TheVariants.{Attempt}
 use Rattle.task_account.specs.Attempts.{Answered, last_after, last_attempt}
 use Rattle.job_ending.specs.Calls.{Call, ForRun, Runs}
 use Rattle.job_ending.specs.declared.call.RunCall.{RunCall}
-use Rattle.job_ending.specs.Complete.{FailsNothing, GrantsAll, IsWhole}
-use Rattle.job_ending.specs.Endings.{ComesBefore, EndsAs, Ending, MayEndAs, Prints, ending_of}
+use Rattle.job_ending.specs.Complete.{FailsNothing, GrantsAll, IsGrantedWhole}
+use Rattle.job_ending.specs.Endings.{TellsEarlier, EndsAs, Ending, MayEndAs, Prints, ending_of}
 use Rattle.job_ending.specs.Posts.{AllTell}
 use Rattle.csv_program.specs.Posts.{post_files}
 use Rattle.job_ending.specs.Statuses.{IsDiskFault, IsNoRoom, IsOutside}
@@ -37,20 +37,20 @@ own_whole worker (entry ∷ journal) all = elim (cases_Bool (entry.worker == wor
   | inr other ↦ rw other (own_whole worker journal all.1)
 ]
 
-after_whole : (task : ℕ) (event : Event) (was : Answered) → IsWhole event → was.asked ≤ unwrap_or was.got 0 → (last_after task event was).asked ≤ unwrap_or (last_after task event was).got 0
+after_whole : (task : ℕ) (event : Event) (was : Answered) → IsGrantedWhole event → was.asked ≤ unwrap_or was.got 0 → (last_after task event was).asked ≤ unwrap_or (last_after task event was).got 0
 after_whole task (Attempt t asked moved evictions got) was whole before = elim (cases_Bool (t == task)) [
   | inl same ↦ rw same whole
   | inr other ↦ rw other before
 ]
 after_whole task _ was whole before = before
 
-last_whole : (task : ℕ) (history : History) → AllByRecursion (λ entry. IsWhole entry.event) history → (last_attempt history task).asked ≤ unwrap_or (last_attempt history task).got 0
+last_whole : (task : ℕ) (history : History) → AllByRecursion (λ entry. IsGrantedWhole entry.event) history → (last_attempt history task).asked ≤ unwrap_or (last_attempt history task).got 0
 last_whole task [] all = omega arith
 last_whole task (entry ∷ before) all = after_whole task entry.event (last_attempt before task) all.0 (last_whole task before all.1)
 
 not_short : (pool : Sizes) (journal : List Entry) (asked held floor : ℕ) → GrantsAll journal → ShowsShort pool journal asked held floor → ⊥
 not_short pool journal asked held floor all shows =
-    let whole = last_whole shows.task (history_of (entries_of shows.worker journal)) (all_reverse (λ entry. IsWhole entry.event) (entries_of shows.worker journal) (own_whole shows.worker journal all)) in
+    let whole = last_whole shows.task (history_of (entries_of shows.worker journal)) (all_reverse (λ entry. IsGrantedWhole entry.event) (entries_of shows.worker journal) (own_whole shows.worker journal all)) in
     let short = shows.shows.short in
     let granted : unwrap_or (last_attempt (history_of (entries_of shows.worker journal)) shows.task).got 0 ≡ shows.shows.granted = ap (λ (got : Option ℕ). unwrap_or got 0) shows.shows.got in
     absurd (omega (arith, whole, short, granted))
@@ -79,7 +79,7 @@ pub completes : (ended : Status) (ending : Ending) (text : List ℕ) (pool : Siz
     → IsDiskFault ended (λ post. Rose (posts post) (posts' post)) → IsNoRoom ended (ShowsShort pool journal) → MayEndAs ending ended → (ended ≡ status.Done) ⊎ (ended ≡ status.NoMemory)
 completes ended ending text pool journal input input' output output' sink sink' posts posts' prints nothing all read write records disk no_room (inl outside) =
     inr (by_status ended pool journal (Rose input input') (Rose output output') (Rose sink sink') (λ post. Rose (posts post) (posts' post)) nothing.reads nothing.writes nothing.records nothing.disks all
-    (record { read = read; write = write; record_is = records; disk = disk }) no_room (subst (λ (e : Ending). ComesBefore e ended) prints outside))
+    (record { read = read; write = write; record_is = records; disk = disk }) no_room (subst (λ (e : Ending). TellsEarlier e ended) prints outside))
 completes ended ending text pool journal input input' output output' sink sink' posts posts' prints nothing all read write records disk no_room (inr ends) =
     inl (subst (λ (e : Ending). EndsAs e ended) prints ends)
 

@@ -3,8 +3,8 @@ use Rattle.std.proofs.Common.{[], ℕ, Bool, true, false, List, Option, Some, No
 use Rattle.std.specs.Io.KnownBytes.{Appends, Keeps}
 use Rattle.byte_io.specs.Sinks.{AppendsPrefix}
 use Rattle.result_table.proofs.Blocks.{front-done, front-none}
-use Rattle.job_ending.specs.Statuses.{IsOfJournal, IsOfSums, IsOfTables}
-use Rattle.job_ending.specs.Written.{Gains, GainsText, WritesFront, WritesText}
+use Rattle.job_ending.specs.Statuses.{IsJournalFault, IsOfSums, IsOfTables}
+use Rattle.job_ending.specs.Written.{GainsIfAsked, GainsText, WritesFront, WritesText}
 use Rattle.job_ending.specs.declared.status.Status.{Status}
 use Rattle.job_ending.specs.declared.status.Status.TheVariants as status
 use Rattle.csv_program.specs.Telling.{status_of_work}
@@ -27,17 +27,17 @@ sums_gain status.NoMemory text bytes is = front-none bytes text
 sums_gain _ text bytes is = absurd is
 
 -- a check of the sums that fails writes nothing
-pub checked_gains : (asked : Bool) (ended : Status) (text : List ℕ) (bytes : Option (List ℕ)) → IsOfSums ended → Gains asked ended text bytes bytes
+pub checked_gains : (asked : Bool) (ended : Status) (text : List ℕ) (bytes : Option (List ℕ)) → IsOfSums ended → GainsIfAsked asked ended text bytes bytes
 checked_gains true ended text bytes is = sums_gain ended text bytes is
 checked_gains false ended text bytes is = keeps_self bytes
 
-journal_gains : (ended : Status) (text : List ℕ) (before after : Option (List ℕ)) → IsOfJournal ended → AppendsPrefix before after text → GainsText ended text before after
+journal_gains : (ended : Status) (text : List ℕ) (before after : Option (List ℕ)) → IsJournalFault ended → AppendsPrefix before after text → GainsText ended text before after
 journal_gains status.JournalFault text before after is front = front
 journal_gains status.NoMemory text before after is front = front
 journal_gains _ text before after is front = absurd is
 
 -- a journal that can't be written whole is written in part
-pub recorded_gains : (asked : Bool) (ended : Status) (text : List ℕ) (before after : Option (List ℕ)) → IsOfJournal ended → WritesFront asked text before after → Gains asked ended text before after
+pub recorded_gains : (asked : Bool) (ended : Status) (text : List ℕ) (before after : Option (List ℕ)) → IsJournalFault ended → WritesFront asked text before after → GainsIfAsked asked ended text before after
 recorded_gains true ended text before after is front = journal_gains ended text before after is front
 recorded_gains false ended text before after is kept = kept
 
@@ -49,17 +49,17 @@ tables_gain status.NoMemory text before after is whole = whole_front text before
 tables_gain _ text before after is whole = absurd is
 
 -- tables that can't be printed stand behind a whole journal
-pub printed_gains : (asked : Bool) (ended : Status) (text : List ℕ) (before after : Option (List ℕ)) → IsOfTables ended → WritesText asked text before after → Gains asked ended text before after
+pub printed_gains : (asked : Bool) (ended : Status) (text : List ℕ) (before after : Option (List ℕ)) → IsOfTables ended → WritesText asked text before after → GainsIfAsked asked ended text before after
 printed_gains true ended text before after is whole = tables_gain ended text before after is whole
 printed_gains false ended text before after is kept = kept
 
 -- and so do tables that are whole
-pub done_gains : (asked : Bool) (text : List ℕ) (before after : Option (List ℕ)) → WritesText asked text before after → Gains asked status.Done text before after
+pub done_gains : (asked : Bool) (text : List ℕ) (before after : Option (List ℕ)) → WritesText asked text before after → GainsIfAsked asked status.Done text before after
 done_gains true text before after whole = whole
 done_gains false text before after kept = kept
 
 -- want of memory before all writes nothing
-pub wanting_gains : (asked : Bool) (text : List ℕ) (bytes : Option (List ℕ)) → Gains asked status.NoMemory text bytes bytes
+pub wanting_gains : (asked : Bool) (text : List ℕ) (bytes : Option (List ℕ)) → GainsIfAsked asked status.NoMemory text bytes bytes
 wanting_gains true text bytes = front-none bytes text
 wanting_gains false text bytes = keeps_self bytes
 
@@ -70,6 +70,6 @@ work_gains (Damaged damage) text bytes = front-none bytes text
 work_gains NoMemory text bytes = front-none bytes text
 
 -- tasks that fail write nothing
-pub fault_gains : (asked : Bool) (fault : WorkFault) (text : List ℕ) (bytes : Option (List ℕ)) → Gains asked (status_of_work fault) text bytes bytes
+pub fault_gains : (asked : Bool) (fault : WorkFault) (text : List ℕ) (bytes : Option (List ℕ)) → GainsIfAsked asked (status_of_work fault) text bytes bytes
 fault_gains true fault text bytes = work_gains fault text bytes
 fault_gains false fault text bytes = keeps_self bytes

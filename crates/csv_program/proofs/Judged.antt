@@ -8,12 +8,12 @@ use Rattle.job_plan.specs.Rows.{landed_rows}
 use Rattle.job_plan.specs.declared.query_plan.Plan.{Plan}
 use Rattle.job_text.specs.declared.job.Job.{Job}
 use Rattle.landing.specs.Checks.{Refused, checked}
-use Rattle.landing.specs.Landed.{AreLanded, AreRowsOf, IsOfInput, partition_count}
+use Rattle.landing.specs.Landed.{AreLanded, PassChecks, IsOfInput, partition_count}
 use Rattle.spill_disk.specs.Files.{Files}
 use Rattle.run_file.specs.declared.run.Run.{Run}
 use Rattle.landing.specs.declared.fault.LandFault.{LandFault}
 use Rattle.landing.specs.declared.fault.LandFault.TheVariants as fault
-use Rattle.job_ending.specs.Endings.{ComesBefore, EndsAs, Ending, HasTooWide, Prints, Refuses, ending_of, ending_of_checked, MayEndAs, partitions_of_checked, status_of}
+use Rattle.job_ending.specs.Endings.{TellsEarlier, EndsAs, Ending, HasTooWide, Prints, Refuses, ending_of, ending_of_checked, MayEndAs, partitions_of_checked, status_of}
 use Rattle.job_ending.specs.Statuses.{IsDamaged, IsJudged, IsOfTasks, IsOutside, IsUnlanded, IsUnprinted}
 use Rattle.job_ending.specs.declared.call.RunCall.{RunCall}
 use Rattle.job_ending.specs.declared.status.Status.{Status}
@@ -51,7 +51,7 @@ unlanded_unprinted status.NoMemory is = _
 unlanded_unprinted _ is = absurd is
 
 -- it comes before each ending
-pub comes_before : (ending : Ending) (ended : Status) → IsUnlanded ended → ComesBefore ending ended
+pub comes_before : (ending : Ending) (ended : Status) → IsUnlanded ended → TellsEarlier ending ended
 comes_before (Refuses why) ended is = is
 comes_before (HasTooWide query key) ended is = unlanded_unprinted ended is
 comes_before (Prints text) ended is = unlanded_outside ended is
@@ -146,7 +146,7 @@ landed_as files part_rows workers workers' parts parts' rows same are landed =
     subst (λ (runs : List Run). AreLanded files part_rows workers' runs rows) are (subst (λ (w : ℕ). AreLanded files part_rows w parts rows) same landed)
 
 -- how many partitions and rows there are
-pub partitions_are : (job : Job) (max_rows part_rows : ℕ) (plan : Plan) (landed records : List Fields) → AreRowsOf job max_rows plan landed records → partition_count (length landed) part_rows ≡ partitions_of_checked part_rows (checked job max_rows records)
+pub partitions_are : (job : Job) (max_rows part_rows : ℕ) (plan : Plan) (landed records : List Fields) → PassChecks job max_rows plan landed records → partition_count (length landed) part_rows ≡ partitions_of_checked part_rows (checked job max_rows records)
 partitions_are job max_rows part_rows plan landed records are =
     ap (λ (n : ℕ). partition_count n part_rows) (ap (λ (list : List Fields). length list) are.landed_are ∙ length-landed (places_in plan) 1 are.rows) ∙ sym (ap (partitions_of_checked part_rows) are.passed)
 

@@ -8,7 +8,7 @@ use Rattle.aggregate.specs.declared.kind.Kind.TheVariants.{Group, Order}
 use Rattle.consumer_trait.specs.States.{State}
 use Rattle.consumer_trait.specs.Members.{blank, state_at}
 use Rattle.task_runner.specs.Consumers.{HasConsumers}
-use Rattle.csv_program.specs.Made.{AreMade}
+use Rattle.csv_program.specs.Made.{AreMadeConsumers}
 
 -- an earlier one, and the new one
 
@@ -19,7 +19,7 @@ newest : (states : List State) (state : State) (i : ℕ) → i ≡ length states
 newest states state i last = rw last (get_or-append_seam states state [] blank)
 
 -- none is made
-pub made_none : AreMade [] 0
+pub made_none : AreMadeConsumers [] 0
 made_none = record {
   count = refl;
   group = λ i aggs below. absurd (omega (arith, below));
@@ -27,8 +27,8 @@ made_none = record {
 }
 
 -- one more that groups
-pub made_group : (states : List State) (state : State) (made : ℕ) → AreMade states made → made < 8
-    → ((aggs : List Agg) → state.serves (Group aggs) ≡ true) → AreMade (states ++ state ∷ []) (made + 1)
+pub made_group : (states : List State) (state : State) (made : ℕ) → AreMadeConsumers states made → made < 8
+    → ((aggs : List Agg) → state.serves (Group aggs) ≡ true) → AreMadeConsumers (states ++ state ∷ []) (made + 1)
 made_group states state made are few serves = record {
   count = omega (arith, are.count, length-append states (state ∷ []));
   group = λ i aggs below first. elim (cases_lt i made) [
@@ -39,8 +39,8 @@ made_group states state made are few serves = record {
 }
 
 -- one more that orders
-pub made_order : (states : List State) (state : State) (made more : ℕ) → AreMade states made → 8 ≤ made → more ≡ made + 1
-    → state.serves Order ≡ true → AreMade (states ++ state ∷ []) more
+pub made_order : (states : List State) (state : State) (made more : ℕ) → AreMadeConsumers states made → 8 ≤ made → more ≡ made + 1
+    → state.serves Order ≡ true → AreMadeConsumers (states ++ state ∷ []) more
 made_order states state made more are many next serves = record {
   count = omega (arith, are.count, length-append states (state ∷ []), next);
   group = λ i aggs below first. rw (earlier states state i (omega (arith, are.count, many, first))) (are.group i aggs (omega (arith, many, first)) first);
@@ -51,7 +51,7 @@ made_order states state made more are many next serves = record {
 }
 
 -- all are made
-pub made_all : (states : List State) → AreMade states 16 → HasConsumers states
+pub made_all : (states : List State) → AreMadeConsumers states 16 → HasConsumers states
 made_all states are = record {
   count = are.count;
   group = λ i aggs first. are.group i aggs (omega arith) first;

@@ -6,12 +6,12 @@ use Rattle.std.proofs.Math.Nat.{mul-le-mul_right}
 use Rattle.std.proofs.Props.{props}
 use Rattle.std.proofs.lemmas.List.{length-map}
 use Rattle.spill_disk.specs.Files.{Files}
-use Rattle.run_file.specs.declared.form.Form.{Form}
-use Rattle.run_file.specs.declared.form.Form.TheVariants.{Entries, Landed}
+use Rattle.row_form.specs.declared.form.Form.{Form}
+use Rattle.row_form.specs.declared.form.Form.TheVariants.{Entries, Landed}
 use Rattle.run_file.specs.declared.run.Run.{Run}
 use Rattle.consumer_trait.specs.States.{State}
 use Rattle.row_filter.specs.Chains.{base_of, links_of}
-use Rattle.row_filter.specs.Rows.{Covers}
+use Rattle.row_filter.specs.Rows.{HasTestedColumns}
 use Rattle.row_filter.specs.declared.chain.Link.{Link}
 use Rattle.job_plan.specs.Columns.{Fields}
 use Rattle.job_plan.specs.Planning.{FitsChain, FitsQueries, columns_of, is_landed as is_planned}
@@ -68,7 +68,7 @@ pub lineage_is : (plan : Plan) (parts : List Run) (part_rows : ℕ) → FitsChai
 lineage_is plan parts part_rows chain based = record {
   landed = sym (same_landed (form_in plan)) ∙ chain.landed;
   ordered = chain.ordered;
-  covered = subst (λ (m : ℕ). All (λ (link : Link). IfSome link.filter (Covers (m + 1))) (links_of (chain_in plan))) (same_columns (form_in plan)) chain.covered;
+  covered = subst (λ (m : ℕ). All (λ (link : Link). IfSome link.filter (HasTestedColumns (m + 1))) (links_of (chain_in plan))) (same_columns (form_in plan)) chain.covered;
   named = let least = chain.few in omega (arith, least, based);
 }
 

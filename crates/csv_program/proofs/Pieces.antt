@@ -6,7 +6,7 @@ use Rattle.std.specs.Option.{option_or}
 use Rattle.std.proofs.lemmas.Grind.{flat_map-append}
 use Rattle.aggregate.specs.Totals.{Entry}
 use Rattle.job_answer.specs.Laws.{wide_total}
-use Rattle.job_answer.specs.Output.{joined}
+use Rattle.job_answer.specs.Output.{tables_text}
 use Rattle.job_plan.specs.Plans.{kept_at, kept_in}
 use Rattle.job_plan.specs.declared.query_plan.Plan.{Plan}
 use Rattle.result_table.specs.Results.{table_of}
@@ -49,11 +49,11 @@ joined_tables table a (suc n) =
     ∙ ap (λ (b : ℕ). flat_map (λ query. 10 ∷ table query) (range_with_len b n)) (sym next) in
     ap (λ (more : List ℕ). (10 ∷ table (suc a)) ++ more) rest
 
-joined_from : (table : ℕ → List ℕ) (first : List ℕ) (queries : List ℕ) → joined (first ∷ map table queries) ≡ first ++ flat_map (λ query. 10 ∷ table query) queries
+joined_from : (table : ℕ → List ℕ) (first : List ℕ) (queries : List ℕ) → tables_text (first ∷ map table queries) ≡ first ++ flat_map (λ query. 10 ∷ table query) queries
 joined_from table first [] = sym (append-nil first)
 joined_from table first (query ∷ queries) = ap (λ (rest : List ℕ). first ++ 10 ∷ rest) (joined_from table (table query) queries)
 
-pieces_joined : (table : ℕ → List ℕ) (n : ℕ) → flat_map (λ query. gap_before query ++ table query) (range_with_len 0 n) ≡ joined (map table (range_with_len 0 n))
+pieces_joined : (table : ℕ → List ℕ) (n : ℕ) → flat_map (λ query. gap_before query ++ table query) (range_with_len 0 n) ≡ tables_text (map table (range_with_len 0 n))
 pieces_joined table zero = refl
 pieces_joined table (suc n) =
     let one : 0 + 1 ≡ suc 0 = omega arith in

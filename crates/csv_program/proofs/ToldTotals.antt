@@ -7,7 +7,7 @@ use Rattle.std.proofs.Math.Logic.{∥∥₁_elim}
 use Rattle.std.proofs.Math.Nat.{mod-lt}
 use Rattle.std.proofs.lemmas.List.{length-map}
 use Rattle.spill_disk.specs.Files.{Files}
-use Rattle.run_file.specs.Forms.{HasForm}
+use Rattle.row_form.specs.Forms.{HasForm}
 use Rattle.run_file.specs.declared.run.Run.{Run}
 use Rattle.job_text.specs.Jobs.{IsShape}
 use Rattle.job_text.specs.declared.job.Shape.{Shape}

@@ -17,7 +17,7 @@ use Rattle.trial_input.specs.Lines.{trial_output}
 use Rattle.csv_program.specs.Cached.{HasTasks}
 use Rattle.job_ending.specs.Endings.{Ending, MayEndAs, Prints, Refuses, checked_for, ending_of, ending_of_checked, ending_with, status_of}
 use Rattle.job_ending.specs.Statuses.{IsJudged}
-use Rattle.csv_program.specs.Trials.{IsOfTrial, IsOfTrialRun, IsSound, IsTrial}
+use Rattle.csv_program.specs.Trials.{IsOfTrial, IsOfTrialRun, IsSoundEnd, IsTrial}
 use Rattle.job_ending.specs.declared.call.RunCall.{RunCall}
 use Rattle.job_ending.specs.declared.status.Status.{Status}
 use Rattle.job_ending.specs.declared.status.Status.TheVariants as status
@@ -63,7 +63,7 @@ of_trial_run ending text (status.BadJob place) prints judged called read write r
 of_trial_run ending text status.HeapTooSmall prints judged called read write recorded = absurd judged
 of_trial_run ending text _ prints judged called read write recorded = _
 
-prints_sound : (text : List ℕ) (ended : Status) → MayEndAs (Prints text) ended → IsSound ended
+prints_sound : (text : List ℕ) (ended : Status) → MayEndAs (Prints text) ended → IsSoundEnd ended
 prints_sound text (status.SumTooWide query key) (inl before) = before
 prints_sound text (status.SumTooWide query key) (inr is) = let done : status.SumTooWide query key ≡ status.Done = is in absurd (cc done)
 prints_sound text (status.Damaged post file kept found) (inl before) = before
@@ -71,7 +71,7 @@ prints_sound text (status.Damaged post file kept found) (inr is) = let done : st
 prints_sound text _ may = _
 
 -- tables that are printed have no sum that is too wide, and nothing is damaged
-pub ends_sound : (ending : Ending) (text : List ℕ) (ended : Status) → ending ≡ Prints text → MayEndAs ending ended → IsSound ended
+pub ends_sound : (ending : Ending) (text : List ℕ) (ended : Status) → ending ≡ Prints text → MayEndAs ending ended → IsSoundEnd ended
 ends_sound ending text ended prints may = prints_sound text ended (subst (λ (e : Ending). MayEndAs e ended) prints may)
 
 -- the statuses of the run are those of the trial

@@ -25,6 +25,7 @@ use Rattle.job_ending.specs.declared.call.RunCall.{RunCall}
 abbrev pub dataset_at : Plan → ℕ → ℕ
 dataset_at plan pass = slice_index_or (passes_in plan) pass 0
 
+-- the numbers of the queries of a pass, by the pass's number; none where there is no such pass
 abbrev pub queries_at : Plan → ℕ → List ℕ
 queries_at plan pass = slice_index_or (queries_in plan) pass []
 

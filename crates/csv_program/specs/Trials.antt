@@ -64,10 +64,10 @@ IsOfTrialRun status.NoMemory = ⊤
 IsOfTrialRun _ = ⊥
 
 -- no sum is too wide, and nothing is damaged
-abbrev pub IsSound : Status → Type 0
-IsSound (status.SumTooWide query key) = ⊥
-IsSound (status.Damaged post file kept found) = ⊥
-IsSound _ = ⊤
+abbrev pub IsSoundEnd : Status → Type 0
+IsSoundEnd (status.SumTooWide query key) = ⊥
+IsSoundEnd (status.Damaged post file kept found) = ⊥
+IsSoundEnd _ = ⊤
 
 -- a part of the lines may have been written after a fault of the output and want of memory; after `Done` all of them were
 abbrev pub WritesNoLine : Status → Type 0

@@ -4,7 +4,7 @@ ghost use Rattle.std.specs.Prelude.{◌≡◌, ◌≤◌, ◌+◌, List, map, tr
 ghost use Rattle.aggregate.specs.declared.agg_list.Agg.{Agg};
 ghost use Rattle.aggregate.specs.declared.kind.Kind.TheVariants.{Group, Order};
 ghost use Rattle.task_runner.specs.Consumers.{HasConsumers};
-ghost use Rattle.csv_program.specs.Made.{AreMade};
+ghost use Rattle.csv_program.specs.Made.{AreMadeConsumers};
 ghost use Rattle.csv_program.specs.QueryConsumers.{state_in};
 
 use aggregate::Kind;

@@ -24,7 +24,7 @@ ghost use Rattle.job_ending.specs.Removals.{RemovesLate};
 ghost use Rattle.job_ending.specs.Tasks.{BeginsAll, FollowsPlan, owner_of};
 ghost use Rattle.csv_program.specs.Shortage.{ShowsShort};
 ghost use Rattle.csv_program.specs.Telling.{status_of_work};
-ghost use Rattle.job_ending.specs.Written.{Gains};
+ghost use Rattle.job_ending.specs.Written.{GainsIfAsked};
 
 use crate::pool::run_tasks;
 use crate::record::Record;
@@ -93,7 +93,8 @@ pub fn run_queries<
         IsCut result.status →
         AppendsPrefix (W.written output.old) (W.written output.new) (printed_in (ending_of_totals plan.now (totals_of plan.now rows))) }
     ensures nothing { WritesNothing result.status → Keeps (W.written output.old) (W.written output.new) }
-    ensures gains { IfSome result.setup (λ setup. Gains asked.now.journal result.status (text_of setup result.journal)
+    ensures gains { IfSome result.setup (λ setup. GainsIfAsked asked.now.journal result.status
+        (text_of setup result.journal)
         (J.written journal.old) (J.written journal.new)) }
     ensures unpooled { IfNone result.setup (Keeps (J.written journal.old) (J.written journal.new)) }
 

@@ -3,7 +3,7 @@
 ghost use Rattle.std.specs.Prelude.{◌≡◌, ◌≤◌, IfErr, OnErr, OnOk};
 ghost use Rattle.fault_count.specs.Faults.{Rose};
 ghost use Rattle.journal_audit.specs.Text.{text_of};
-ghost use Rattle.job_ending.specs.Statuses.{IsOfJournal};
+ghost use Rattle.job_ending.specs.Statuses.{IsJournalFault};
 ghost use Rattle.job_ending.specs.Written.{WritesFront, WritesText};
 
 use byte_io::{Sink, SinkError, write_all_counted};
@@ -30,7 +30,7 @@ pub fn write_journal<J: Sink>(alloc: Global, kept: &Record<'_>, sink: &mut J) ->
         (J.written sink.old) (J.written sink.new)) }
     ensures err { OnErr result (WritesFront kept.now.asked (text_of kept.now.setup kept.now.journal.now)
         (J.written sink.old) (J.written sink.new)) }
-    ensures of_journal { IfErr result IsOfJournal }
+    ensures of_journal { IfErr result IsJournalFault }
     ensures fault { IfErr result (λ ended. ended ≡ Status.JournalFault → Rose (J.faults sink.old) (J.faults sink.new)) }
     ensures later { J.faults sink.old ≤ J.faults sink.new }
 {

@@ -14,7 +14,7 @@ ghost use Rattle.job_ending.specs.Endings.{CanBeTold, MayEndAs, ending_of_totals
 ghost use Rattle.csv_program.specs.Posts.{IsDiskOf, post_faults, post_files};
 ghost use Rattle.csv_program.specs.QueryResults.{HaveResults};
 ghost use Rattle.csv_program.specs.Tables.{gap_before, piece_of};
-ghost use Rattle.job_ending.specs.Written.{Gains};
+ghost use Rattle.job_ending.specs.Written.{GainsIfAsked};
 ghost use Rattle.job_ending.specs.Statuses.{IsCut, IsDamaged, IsDamagedOn, IsDiskFault, IsNoRoom, IsOfTables, IsOfTasks, IsOutside, WritesNothing};
 
 use crate::record::{Record, write_journal};
@@ -146,7 +146,8 @@ fn check_and_print<D: Disk, H: Shelf<D>, J: Sink, W: Sink>(
         HaveResults (files_on H.disk_of D.files shelf.old) plan.now totals answers.now → IsCut result →
         AppendsPrefix (W.written output.old) (W.written output.new) (printed_in (ending_of_totals plan.now totals)) }
     ensures nothing { WritesNothing result → Keeps (W.written output.old) (W.written output.new) }
-    ensures gains { Gains kept.now.asked result (text_of kept.now.setup kept.now.journal.now) (J.written journal.old)
+    ensures gains { GainsIfAsked kept.now.asked result (text_of kept.now.setup kept.now.journal.now)
+        (J.written journal.old)
         (J.written journal.new) }
     ensures write { result ≡ Status.WriteFault → Rose (W.faults output.old) (W.faults output.new) }
     ensures recorded { result ≡ Status.JournalFault → Rose (J.faults journal.old) (J.faults journal.new) }
@@ -194,7 +195,8 @@ pub fn print_answers<D: Disk, C: Consumer, J: Sink, W: Sink>(
         HaveResults (post_files D.files posts.old) plan.now totals answers.now → IsCut result →
         AppendsPrefix (W.written output.old) (W.written output.new) (printed_in (ending_of_totals plan.now totals)) }
     ensures nothing { WritesNothing result → Keeps (W.written output.old) (W.written output.new) }
-    ensures gains { Gains kept.now.asked result (text_of kept.now.setup kept.now.journal.now) (J.written journal.old)
+    ensures gains { GainsIfAsked kept.now.asked result (text_of kept.now.setup kept.now.journal.now)
+        (J.written journal.old)
         (J.written journal.new) }
     ensures write { result ≡ Status.WriteFault → Rose (W.faults output.old) (W.faults output.new) }
     ensures recorded { result ≡ Status.JournalFault → Rose (J.faults journal.old) (J.faults journal.new) }

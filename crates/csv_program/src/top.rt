@@ -24,7 +24,7 @@ ghost use Rattle.csv_program.specs.Posts.{post_faults, post_files};
 ghost use Rattle.job_ending.specs.Statuses.{IsCut, IsDamaged, IsDamagedOn, IsDiskFault, IsJudged, IsNoRoom, IsUnlanded, MakesPool, WritesNothing};
 ghost use Rattle.job_ending.specs.Tasks.{BeginsAll, FollowsPlan};
 ghost use Rattle.csv_program.specs.Shortage.{ShowsShort};
-ghost use Rattle.job_ending.specs.Written.{Gains};
+ghost use Rattle.job_ending.specs.Written.{GainsIfAsked};
 
 use crate::asked::read_call;
 use crate::input::land_on;
@@ -99,7 +99,8 @@ pub(crate) fn run_job<
         AllTell asked.now (post_files D.files posts.old) (D.files store) →
         AppendsPrefix (W.written output.old) (W.written output.new) (printed_in (ending_of asked.now bytes))) }
     ensures nothing { WritesNothing result.status → Keeps (W.written output.old) (W.written output.new) }
-    ensures gains { IfSome result.setup (λ setup. Gains asked.now.journal result.status (text_of setup result.journal)
+    ensures gains { IfSome result.setup (λ setup. GainsIfAsked asked.now.journal result.status
+        (text_of setup result.journal)
         (J.written journal.old) (J.written journal.new)) }
     ensures kept { IfNone result.setup (Keeps (J.written journal.old) (J.written journal.new)) }
 
@@ -249,7 +250,7 @@ pub fn run<
 
     // What the journal's sink gained.
     ensures gains { ForRun (call_of (length posts.old.items) (texts words.now)) (λ asked.
-        IfSome result.setup (λ pool. Gains asked.journal result.status (text_of pool result.journal)
+        IfSome result.setup (λ pool. GainsIfAsked asked.journal result.status (text_of pool result.journal)
         (J.written journal.old) (J.written journal.new))) }
     ensures kept { IfNone result.setup (Keeps (J.written journal.old) (J.written journal.new)) }
 

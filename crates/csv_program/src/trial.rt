@@ -26,7 +26,7 @@ ghost use Rattle.job_ending.specs.Posts.{AllTell};
 ghost use Rattle.csv_program.specs.Posts.{post_faults, post_files};
 ghost use Rattle.job_ending.specs.Statuses.{IsDamaged, IsDamagedOn, IsDiskFault, IsJudged, IsNoRoom, MakesPool};
 ghost use Rattle.csv_program.specs.Shortage.{ShowsShort};
-ghost use Rattle.csv_program.specs.Trials.{IsOfTrial, IsOfTrialRun, IsSound, IsTrial, WritesNoLine, trial_in, trial_of};
+ghost use Rattle.csv_program.specs.Trials.{IsOfTrial, IsOfTrialRun, IsSoundEnd, IsTrial, WritesNoLine, trial_in, trial_of};
 
 use crate::asked::pool_for;
 use crate::top::run_job;
@@ -218,7 +218,7 @@ fn run_trial<X: Threads + Wait + Sync, W: Sink, D: Disk + Send, C: Consumer + Se
     requires consumers { All (λ post. HasConsumers (map C.state post.consumers.items)) posts.old.items }
     ensures ends { IsOfTrial result.status }
     ensures judged { IsJudged result.status }
-    ensures sound { AllTell asked.now (post_files D.files posts.old) (D.files store) → IsSound result.status }
+    ensures sound { AllTell asked.now (post_files D.files posts.old) (D.files store) → IsSoundEnd result.status }
     ensures complete { AllTell asked.now (post_files D.files posts.old) (D.files store) →
         FailsNothing 0 0 (W.faults output.old) (W.faults output.new) 0 0 (post_faults D.faults posts.old)
         (post_faults D.faults posts.new) →
@@ -311,7 +311,7 @@ pub fn trial<X: Threads + Wait + Sync, W: Sink, D: Disk + Send, C: Consumer + Se
     ensures told { TellsCall (trial_of (length posts.old.items) (texts words.now)) result.status }
     ensures ends { IsOfTrial result.status }
     ensures sound { ForRun (trial_of (length posts.old.items) (texts words.now)) (λ asked.
-        AllTell asked (post_files D.files posts.old) (D.files store_disk) → IsSound result.status) }
+        AllTell asked (post_files D.files posts.old) (D.files store_disk) → IsSoundEnd result.status) }
     ensures complete { ForRun (trial_of (length posts.old.items) (texts words.now)) (λ asked.
         AllTell asked (post_files D.files posts.old) (D.files store_disk) →
         FailsNothing 0 0 (W.faults output.old) (W.faults output.new) 0 0 (post_faults D.faults posts.old)

@@ -2,7 +2,7 @@
 #![tactic(auto)]
 
 ghost use Rattle.std.specs.Prelude.{All, IsTrue, length};
-ghost use Rattle.row_filter.specs.Rows.{Covers};
+ghost use Rattle.row_filter.specs.Rows.{HasTestedColumns};
 
 use item_lists::{Listed, Name};
 use row_filter::{Comparison, Constant, Filter, covers, keeps};
@@ -106,7 +106,7 @@ fn drawn_page(alloc: Global) -> Result<Page, AllocError> {
 
 // Whether each row has the filter's columns.
 fn all_covered(filter: &Filter, page: &Page) -> bool
-    ensures { IsTrue result → All (λ row. Covers (length row) filter.now) page.now.rows }
+    ensures { IsTrue result → All (λ row. HasTestedColumns (length row) filter.now) page.now.rows }
 {
     for i in 0..page.rows() {
         if !covers(filter, page.row(i).count()) {
@@ -118,7 +118,7 @@ fn all_covered(filter: &Filter, page: &Page) -> bool
 
 // How many of the page's rows the filter keeps.
 fn count_kept(filter: &Filter, page: &Page) -> u64
-    requires covers { All (λ row. Covers (length row) filter.now) page.now.rows }
+    requires covers { All (λ row. HasTestedColumns (length row) filter.now) page.now.rows }
 {
     let mut kept: u64 = 0;
     for i in 0..page.rows() {

@@ -11,7 +11,7 @@ use Rattle.std.proofs.lemmas.List.{length-map}
 use Rattle.std.proofs.lemmas.Int.{clamps, fits_signed_from_abs, int_wrap_fits, ints}
 use Rattle.aggregate.specs.declared.agg_list.Agg.{Agg}
 use Rattle.aggregate.specs.declared.agg_list.Agg.TheVariants.{Count, Sum, Min, Max}
-use Rattle.run_file.specs.Numbers.{fits_i64, is_number, number}
+use Rattle.row_form.specs.Numbers.{fits_i64, is_number, number}
 use Rattle.job_text.specs.Jobs.{is_count}
 use Rattle.job_answer.specs.Answer.{aggregated}
 use Rattle.job_answer.proofs.Values.{joint_number}

@@ -11,7 +11,7 @@ use Rattle.row_filter.specs.declared.filter.Filter.TheOpen as layers
 use Rattle.row_filter.specs.declared.filter.Filter.TheVariants as filters
 use Rattle.row_filter.specs.declared.filter.Filter.TheVariants.{rolls-And, rolls-Or, rolls-Not, rolls-Test}
 use Rattle.row_filter.specs.declared.filter.Filter.TheViews.{roll-Filter}
-use Rattle.row_filter.specs.Meaning.{keeps, order_to, passes}
+use Rattle.row_filter.specs.Meaning.{keeps, order_to, comparison_holds}
 use Rattle.row_filter.proofs.Meanings.{keeps-and, keeps-not, keeps-or, keeps-test}
 use Rattle.job_text.specs.FilterForms.{FilterForm, filter_places, list_places}
 use Rattle.job_text.proofs.FilterEquations.{form-and, form-not, form-or, form-test}
@@ -38,7 +38,7 @@ module _ (f g : ℕ → List ℕ) where
   test_agrees : (column : ℕ) (test : Comparison) (constant : Constant) → Agrees (filters.Test column test constant)
   test_agrees column test constant same =
       let here = subst (AllByRecursion Same) (ap (λ (form : FilterForm). form.columns) (form-test column test constant)) same in
-      keeps-test f column test constant ∙ ap (λ (field : List ℕ). passes test (order_to field constant)) here.0 ∙ sym (keeps-test g column test constant)
+      keeps-test f column test constant ∙ ap (λ (field : List ℕ). comparison_holds test (order_to field constant)) here.0 ∙ sym (keeps-test g column test constant)
 
   all_agree : (parts : List Filter) → EachAgrees parts → AllByRecursion Same (list_places parts) → list_all (keeps f) parts ≡ list_all (keeps g) parts
   all_agree [] each same = refl

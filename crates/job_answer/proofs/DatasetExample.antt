@@ -91,10 +91,10 @@ module _ (queries : List Query) where
   -- ---- the rows of its datasets
 
   abbrev above_none : Fields → Bool
-  above_none row = meaning.passes tests.Greater (order_to (field_of (job_of queries) head row 0) (constants.Number (pos 0)))
+  above_none row = meaning.comparison_holds tests.Greater (order_to (field_of (job_of queries) head row 0) (constants.Number (pos 0)))
 
   abbrev a_hundred : Fields → Bool
-  a_hundred row = meaning.passes tests.AtLeast (order_to (field_of (job_of queries) head row 0) (constants.Number (pos 100)))
+  a_hundred row = meaning.comparison_holds tests.AtLeast (order_to (field_of (job_of queries) head row 0) (constants.Number (pos 100)))
 
   paid-in : (row : Fields) → is_in (job_of queries) head 1 row ≡ (above_none row && true)
   paid-in row = ap (λ (b : Bool). b && true) (keeps-test (field_of (job_of queries) head row) 0 tests.Greater (constants.Number (pos 0)))

@@ -15,8 +15,8 @@ use Rattle.aggregate.specs.Partial.{partial_of}
 use Rattle.aggregate.specs.PartialLaws.{NumbersComeBack, PartialsAreSixteenBytes}
 use Rattle.aggregate.specs.Spelling.{KeysInOrder, SpellingsAreReadBack, spelled}
 use Rattle.aggregate.specs.Totals.{Entry, total}
-use Rattle.run_file.specs.Numbers.{number}
-use Rattle.job_text.specs.Jobs.{IsPart, IsShape}
+use Rattle.row_form.specs.Numbers.{number}
+use Rattle.job_text.specs.Jobs.{IsAggregate, IsShape}
 use Rattle.job_text.specs.declared.job.Job.{Job}
 use Rattle.job_text.specs.declared.job.Part.{Part}
 use Rattle.job_text.specs.declared.job.Shape.TheVariants.{Group}
@@ -119,36 +119,36 @@ module _ (job : Job) (header : Fields) where
         let size : length (rows_in c) ≡ length (filter test rows) = ap length whole in
         omega (arith, length-filter test rows, count_by-le-length test rows)
 
-    told-part : (part : Part) (c : Class) → IsPart (length job.names) part → IsWhole (group_of job header columns) rows c
+    told-part : (part : Part) (c : Class) → IsAggregate (length job.names) part → IsWhole (group_of job header columns) rows c
         → joint_number part.agg (part_number part c.first) (map (part_number part) c.rest) ≡ told_of job header (members job header columns rows c.group) part
     told-part part c is whole =
         joint-aggregated (number_of job header) numbers-fit part.agg part.column c.first c.rest is.column (class-few c whole)
         ∙ ap (λ (rs : List Fields). told_of job header rs part) whole
 
-    told-parts : (ps : List Part) (c : Class) → AllByRecursion (IsPart (length job.names)) ps → IsWhole (group_of job header columns) rows c
+    told-parts : (ps : List Part) (c : Class) → AllByRecursion (IsAggregate (length job.names)) ps → IsWhole (group_of job header columns) rows c
         → map (λ part. joint_number part.agg (part_number part c.first) (map (part_number part) c.rest)) ps ≡ map (told_of job header (members job header columns rows c.group)) ps
     told-parts [] c all whole = refl
     told-parts (part ∷ ps) c all whole = rw (told-part part c all.0 whole, told-parts ps c all.1 whole) refl
 
-    fit-parts : (ps : List Part) (c : Class) → AllByRecursion (IsPart (length job.names)) ps → IsWhole (group_of job header columns) rows c
+    fit-parts : (ps : List Part) (c : Class) → AllByRecursion (IsAggregate (length job.names)) ps → IsWhole (group_of job header columns) rows c
         → AllByRecursion (FitsSigned w128) (map (told_of job header (members job header columns rows c.group)) ps)
     fit-parts [] c all whole = tt
     fit-parts (part ∷ ps) c all whole =
         (subst (FitsSigned w128) (told-part part c all.0 whole) (joint-fits part_number parts-fit part.agg part c.first c.rest), fit-parts ps c all.1 whole)
 
-    class-told : (long : PartialsAreSixteenBytes) (back : NumbersComeBack) (c : Class) → AllByRecursion (IsPart (length job.names)) parts → IsWhole (group_of job header columns) rows c
+    class-told : (long : PartialsAreSixteenBytes) (back : NumbersComeBack) (c : Class) → AllByRecursion (IsAggregate (length job.names)) parts → IsWhole (group_of job header columns) rows c
         → class_entry (group_of job header columns) (row_value parts) (aggs_of parts) c ≡ group_entry (told_group columns parts rows c)
     class-told long back c all whole =
         ap (λ (v : List ℕ). let e : Entry = record { key = flat_map spelled c.group; value = v } in e)
         (joint-bytes long back part_number parts-fit parts c.first c.rest ∙ ap bytes_of (told-parts parts c all whole))
 
-    classes-told : (long : PartialsAreSixteenBytes) (back : NumbersComeBack) (cs : List Class) → AllByRecursion (IsPart (length job.names)) parts
+    classes-told : (long : PartialsAreSixteenBytes) (back : NumbersComeBack) (cs : List Class) → AllByRecursion (IsAggregate (length job.names)) parts
         → AllByRecursion (IsWhole (group_of job header columns) rows) cs
         → map (class_entry (group_of job header columns) (row_value parts) (aggs_of parts)) cs ≡ map group_entry (map (told_group columns parts rows) cs)
     classes-told long back [] all whole = refl
     classes-told long back (c ∷ cs) all whole = rw (class-told long back c all whole.0, classes-told long back cs all whole.1) refl
 
-    are-groups : (cs : List Class) → AllByRecursion (IsPart (length job.names)) parts → AllByRecursion (IsWhole (group_of job header columns) rows) cs
+    are-groups : (cs : List Class) → AllByRecursion (IsAggregate (length job.names)) parts → AllByRecursion (IsWhole (group_of job header columns) rows) cs
         → AllByRecursion (λ c. length c.group ≡ length columns) cs → AllByRecursion (IsGroup (length columns) (length parts)) (map (told_group columns parts rows) cs)
     are-groups [] all whole several = tt
     are-groups (c ∷ cs) all whole several =
@@ -168,8 +168,8 @@ module _ (job : Job) (header : Fields) where
   kept-part None found named = tt
   kept-part (Some column) found named = column-kept job header column found named
 
-  kept-parts : (parts : List Part) → missing job.names header ≡ None → AllByRecursion (IsPart (length job.names)) parts → AllByRecursion IsKeptPart parts
-  kept-parts parts found all = all-weaker (IsPart (length job.names)) IsKeptPart (λ part is. kept-part part.column found is.named) parts all
+  kept-parts : (parts : List Part) → missing job.names header ≡ None → AllByRecursion (IsAggregate (length job.names)) parts → AllByRecursion IsKeptPart parts
+  kept-parts parts found all = all-weaker (IsAggregate (length job.names)) IsKeptPart (λ part is. kept-part part.column found is.named) parts all
 
   module _ (order : KeysInOrder) (long : PartialsAreSixteenBytes) (back : NumbersComeBack) where
     -- the totals are the entries of the groups
@@ -178,7 +178,7 @@ module _ (job : Job) (header : Fields) where
     totals-are input columns parts found shape few =
         let rows = rows_of input in
         let in-columns = kept-columns columns found (recursion_from_All (λ column. column < length job.names) columns shape.0.named) in
-        let are-parts = recursion_from_All (IsPart (length job.names)) parts shape.2 in
+        let are-parts = recursion_from_All (IsAggregate (length job.names)) parts shape.2 in
         let g = group_of job header columns in
         ap (λ (aggs : List Agg). total (kinds.Group aggs) (map (entry_of (over_kept job header (Group columns parts))) (landed_each (kept job.names header) input))) (aggs-same parts)
         ∙ ap (total (kinds.Group (aggs_of parts))) (entries-same input columns parts in-columns (kept-parts parts found are-parts))
@@ -190,7 +190,7 @@ module _ (job : Job) (header : Fields) where
         → AllByRecursion (IsGroup (length columns) (length parts)) (groups job header columns parts rows)
     groups-are rows columns parts shape few =
         let g = group_of job header columns in
-        let are-parts = recursion_from_All (IsPart (length job.names)) parts shape.2 in
+        let are-parts = recursion_from_All (IsAggregate (length job.names)) parts shape.2 in
         let several = all-groups g (λ fields. length fields ≡ length columns) (λ row. length-map columns (field_of job header row)) rows in
         subst (AllByRecursion (IsGroup (length columns) (length parts))) (sym (entries-classes g (tell columns parts rows) rows))
         (are-groups columns parts rows few (classes g rows) are-parts (all-whole g rows) several)

@@ -12,7 +12,7 @@ use Rattle.row_page.specs.Grammar.{IsRow}
 use Rattle.row_page.specs.Reading.{fields_of}
 use Rattle.row_page.specs.Spelling.{row_bytes, row_length}
 use Rattle.row_page.proofs.Shown.{fields_shown}
-use Rattle.run_file.specs.Numbers.{number}
+use Rattle.row_form.specs.Numbers.{number}
 use Rattle.job_text.specs.declared.job.Job.{Job}
 use Rattle.job_text.specs.declared.job.KeyItem.{KeyItem}
 use Rattle.job_text.specs.declared.job.Shape.TheVariants.{Order}

@@ -8,7 +8,7 @@ use Rattle.job_text.specs.declared.job.Job.{Job}
 use Rattle.job_text.specs.declared.job.Query.{Query}
 use Rattle.job_plan.specs.Columns.{Fields}
 use Rattle.job_answer.specs.Derived.{derived}
-use Rattle.job_answer.specs.Output.{joined, output, shape_table, shape_wide, table_rows, text_of}
+use Rattle.job_answer.specs.Output.{tables_text, output, shape_table, shape_wide, table_rows, text_of}
 use Rattle.job_answer.specs.PlainJobs.{PlainJobsGoOverInput, PlainJobsDeriveAll, QueriesOverInputTellAll}
 use Rattle.job_answer.proofs.Derivations.{input-has-all}
 
@@ -41,4 +41,4 @@ tables-all job header rows (query ∷ queries) input =
 
 pub plain-derives : PlainJobsDeriveAll
 unfolding output
-plain-derives job header rows input = ap joined (tables-all job header rows job.queries (recursion_from_All (λ query. query.dataset ≡ 0) job.queries input))
+plain-derives job header rows input = ap tables_text (tables-all job header rows job.queries (recursion_from_All (λ query. query.dataset ≡ 0) job.queries input))

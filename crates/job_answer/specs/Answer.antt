@@ -10,7 +10,7 @@ use Rattle.std.specs.declared.cmp.Ordering.{Ordering}
 use Rattle.std.specs.declared.cmp.Ordering.TheVariants.{Less, Equal, Greater}
 use Rattle.aggregate.specs.declared.agg_list.Agg.{Agg}
 use Rattle.aggregate.specs.declared.agg_list.Agg.TheVariants.{Count, Sum, Min, Max}
-use Rattle.run_file.specs.Numbers.{number}
+use Rattle.row_form.specs.Numbers.{number}
 use Rattle.job_text.specs.declared.job.Job.{Job}
 use Rattle.job_text.specs.declared.job.KeyItem.{KeyItem}
 use Rattle.job_text.specs.declared.job.Part.{Part}
@@ -43,6 +43,7 @@ abbrev pub least : List ℤ → ℤ
 least [] = pos 0
 least (n ∷ ns) = fold int_min n ns
 
+-- the number that no other one exceeds; 0 where there are none
 abbrev pub greatest : List ℤ → ℤ
 greatest [] = pos 0
 greatest (n ∷ ns) = fold int_max n ns
@@ -84,6 +85,7 @@ placed_by Less row first rest later = row ∷ (first ∷ rest)
 placed_by Equal row first rest later = row ∷ (first ∷ rest)
 placed_by Greater row first rest later = first ∷ later
 
+-- rows in order with an earlier row put in by its keys, before those that are equal to it
 abbrev pub placed : Job → Fields → List KeyItem → Fields → List Fields → List Fields
 placed job header keys row [] = row ∷ []
 placed job header keys row (first ∷ rest) =

@@ -3,7 +3,7 @@
 use Rattle.std.specs.Prelude.{◌≡◌, ℕ, ◌≤◌, ◌<◌, ◌^◌, List, [], ◌∷◌, All, None, Option, length, map, option_map, slice_index_or}
 use Rattle.std.specs.List.{AllByRecursion, find}
 use Rattle.aggregate.specs.Totals.{Entry, total}
-use Rattle.run_file.specs.Forms.{HasForm}
+use Rattle.row_form.specs.Forms.{HasForm}
 use Rattle.job_text.specs.Jobs.{IsJob}
 use Rattle.job_text.specs.declared.job.Job.{Job}
 use Rattle.job_text.specs.declared.job.Query.{Query}

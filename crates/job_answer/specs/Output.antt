@@ -57,14 +57,14 @@ abbrev pub text_of : List Fields → List ℕ
 text_of rows = flat_map (row_text default_writer) rows
 
 -- tables one behind the other, with one line feed between two
-abbrev pub joined : List (List ℕ) → List ℕ
-joined [] = []
-joined (table ∷ []) = table
-joined (table ∷ next ∷ tables) = table ++ 10 ∷ joined (next ∷ tables)
+abbrev pub tables_text : List (List ℕ) → List ℕ
+tables_text [] = []
+tables_text (table ∷ []) = table
+tables_text (table ∷ next ∷ tables) = table ++ 10 ∷ tables_text (next ∷ tables)
 
 -- the bytes that are printed
 unfoldable pub output : Job → Fields → List Fields → List ℕ
-output job header rows = joined (map (λ query. text_of (table_rows job header rows query)) job.queries)
+output job header rows = tables_text (map (λ query. text_of (table_rows job header rows query)) job.queries)
 
 -- the first query, from a number on, with a group that is too wide to be told, and that group's key
 abbrev pub wide_from : Job → Fields → List Fields → ℕ → List Query → Option (ℕ × List ℕ)

@@ -5,7 +5,7 @@ use Rattle.job_text.specs.Jobs.{IsJob}
 use Rattle.job_text.specs.declared.job.Job.{Job}
 use Rattle.job_text.specs.declared.job.Query.{Query}
 use Rattle.job_plan.specs.Columns.{Fields}
-use Rattle.job_answer.specs.Output.{joined, output, shape_table, shape_wide, table_rows, text_of, wide_key}
+use Rattle.job_answer.specs.Output.{tables_text, output, shape_table, shape_wide, table_rows, text_of, wide_key}
 
 -- each query is over the input, as it is in a job without datasets
 abbrev pub GoesOverInput : Job → Type 0
@@ -30,4 +30,4 @@ QueriesOverInputTellAll =
 abbrev pub PlainJobsDeriveAll : Type 0
 PlainJobsDeriveAll =
     (job : Job) (header : Fields) (rows : List Fields) → GoesOverInput job
-    → output job header rows ≡ joined (map (λ query. text_of (shape_table job header rows query.shape)) job.queries)
+    → output job header rows ≡ tables_text (map (λ query. text_of (shape_table job header rows query.shape)) job.queries)

@@ -15,10 +15,10 @@ pub record FailsNothing (input input' output output' journal journal' : ℕ) (po
   pub disks : (post : ℕ) → Rose (posts post) (posts' post) → ⊥
 
 -- an attempt is granted all that it asks; a wait is granted nothing
-abbrev pub IsWhole : Event → Type 0
-IsWhole (Attempt task asked moved evictions got) = asked ≤ unwrap_or got 0
-IsWhole _ = ⊤
+abbrev pub IsGrantedWhole : Event → Type 0
+IsGrantedWhole (Attempt task asked moved evictions got) = asked ≤ unwrap_or got 0
+IsGrantedWhole _ = ⊤
 
 -- each attempt is
 abbrev pub GrantsAll : List Entry → Type 0
-GrantsAll journal = AllByRecursion (λ entry. IsWhole entry.event) journal
+GrantsAll journal = AllByRecursion (λ entry. IsGrantedWhole entry.event) journal

@@ -6,7 +6,7 @@ use Rattle.std.specs.Option.{option_or}
 use Rattle.aggregate.specs.Totals.{Entry, total}
 use Rattle.byte_io.specs.Rows.{rows_of}
 use Rattle.job_answer.specs.Laws.{wide_total}
-use Rattle.job_answer.specs.Output.{joined, output, too_wide}
+use Rattle.job_answer.specs.Output.{tables_text, output, too_wide}
 use Rattle.row_filter.specs.Derived.{derived}
 use Rattle.job_plan.specs.Columns.{Fields}
 use Rattle.job_plan.specs.Entries.{entry_of}
@@ -30,10 +30,12 @@ pub data Ending : Type 0 where
   HasTooWide : (query : ℕ) (key : List ℕ) → Ending
   Prints : (text : List ℕ) → Ending
 
+-- a text is printed, or a sum is told that is too wide, by its query and its key
 abbrev pub ending_with : List ℕ → Option (ℕ × List ℕ) → Ending
 ending_with text None = Prints text
 ending_with text (Some wide) = HasTooWide wide.0 wide.1
 
+-- how a run of a job ends, by what the job makes of its input
 abbrev pub ending_of_checked : Job → Checked → Ending
 ending_of_checked job (Refused why) = Refuses why
 ending_of_checked job (Rows header rows) = ending_with (output job header rows) (too_wide job header rows)
@@ -81,7 +83,7 @@ queries_of plan = range_with_len 0 (length (kept_in plan))
 
 -- their tables, one behind the other
 abbrev pub tables_of : Plan → (ℕ → List Entry) → List ℕ
-tables_of plan totals = joined (map (λ query. table_of plan query (totals query)) (queries_of plan))
+tables_of plan totals = tables_text (map (λ query. table_of plan query (totals query)) (queries_of plan))
 
 -- the first of these queries with a total that is too wide, and the total's key
 abbrev pub wide_among : Plan → (ℕ → List Entry) → List ℕ → Option (ℕ × List ℕ)
@@ -90,9 +92,11 @@ wide_among plan totals (query ∷ queries) =
     option_or (option_map (λ entry. (query, entry.key)) (wide_total (kept_at plan query) (totals query)))
     (wide_among plan totals queries)
 
+-- the same among all queries of a plan
 abbrev pub wide_of : Plan → (ℕ → List Entry) → Option (ℕ × List ℕ)
 wide_of plan totals = wide_among plan totals (queries_of plan)
 
+-- how a run of a plan ends, by what the entries of each of its queries come to
 abbrev pub ending_of_totals : Plan → (ℕ → List Entry) → Ending
 ending_of_totals plan totals = ending_with (tables_of plan totals) (wide_of plan totals)
 
@@ -124,11 +128,11 @@ EndsAs (Prints text) s = s ≡ status.Done
 
 -- the status tells what comes before the check that calls for this ending: a fault of reading, of a disk or of memory before an
 -- input is refused; also want of room before a sum is looked at; and also a fault of the output before the tables are whole
-abbrev pub ComesBefore : Ending → Status → Type 0
-ComesBefore (Refuses why) s = IsUnlanded s
-ComesBefore (HasTooWide query key) s = IsUnprinted s
-ComesBefore (Prints text) s = IsOutside s
+abbrev pub TellsEarlier : Ending → Status → Type 0
+TellsEarlier (Refuses why) s = IsUnlanded s
+TellsEarlier (HasTooWide query key) s = IsUnprinted s
+TellsEarlier (Prints text) s = IsOutside s
 
 -- the status tells this ending, or what comes before it
 abbrev pub MayEndAs : Ending → Status → Type 0
-MayEndAs ending s = ComesBefore ending s ⊎ EndsAs ending s
+MayEndAs ending s = TellsEarlier ending s ⊎ EndsAs ending s

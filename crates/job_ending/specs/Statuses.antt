@@ -80,10 +80,10 @@ IsOfTables status.NoMemory = ⊤
 IsOfTables _ = ⊥
 
 -- the status may be that of a journal that couldn't be written whole
-abbrev pub IsOfJournal : Status → Type 0
-IsOfJournal status.JournalFault = ⊤
-IsOfJournal status.NoMemory = ⊤
-IsOfJournal _ = ⊥
+abbrev pub IsJournalFault : Status → Type 0
+IsJournalFault status.JournalFault = ⊤
+IsJournalFault status.NoMemory = ⊤
+IsJournalFault _ = ⊥
 
 -- the status tells that this total of a query is too wide
 abbrev pub TellsWide : ℕ → Option Entry → Status → Type 0

@@ -17,9 +17,9 @@ GainsText status.NoMemory text before after = AppendsPrefix before after text
 GainsText _ text before after = Keeps before after
 
 -- the same where the journal is asked for; else it keeps what it has
-abbrev pub Gains : Bool → Status → List ℕ → Option (List ℕ) → Option (List ℕ) → Type 0
-Gains true ended text before after = GainsText ended text before after
-Gains false ended text before after = Keeps before after
+abbrev pub GainsIfAsked : Bool → Status → List ℕ → Option (List ℕ) → Option (List ℕ) → Type 0
+GainsIfAsked true ended text before after = GainsText ended text before after
+GainsIfAsked false ended text before after = Keeps before after
 
 -- the whole text is written where the journal is asked for; else nothing
 abbrev pub WritesText : Bool → List ℕ → Option (List ℕ) → Option (List ℕ) → Type 0

@@ -5,10 +5,10 @@ use Rattle.std.specs.List.{range_with_len}
 use Rattle.std.proofs.lemmas.List.{length-map}
 use Rattle.row_filter.specs.Chains.{form_of, links_of}
 use Rattle.row_filter.specs.Lines.{AreOrdered}
-use Rattle.row_filter.specs.Rows.{Covers}
+use Rattle.row_filter.specs.Rows.{HasTestedColumns}
 use Rattle.row_filter.specs.declared.chain.Chain.{Chain}
 use Rattle.row_filter.specs.declared.chain.Link.{Link}
-use Rattle.run_file.specs.declared.form.Form.TheVariants.{Landed}
+use Rattle.row_form.specs.declared.form.Form.TheVariants.{Landed}
 use Rattle.job_text.specs.Jobs.{IsJob}
 use Rattle.job_text.specs.declared.job.Dataset.{Dataset}
 use Rattle.job_text.specs.declared.job.Job.{Job}
@@ -54,8 +54,8 @@ module _ (job : Job) (header : Fields) (places : List ℕ) (is : IsJob job) (fou
       landed = ap is_landed made.form;
       few = omega (arith, is.datasets.few, as_many);
       ordered = subst AreOrdered (sym links) (links_ordered (kept_place job header) names-count job.datasets is.datasets);
-      covered = subst (λ (m : ℕ). All (λ (link : Link). IfSome link.filter (Covers (m + 1))) (links_of chain)) (sym columns)
-          (subst (All (λ (link : Link). IfSome link.filter (Covers (kept-count + 1)))) (sym links)
+      covered = subst (λ (m : ℕ). All (λ (link : Link). IfSome link.filter (HasTestedColumns (m + 1))) (links_of chain)) (sym columns)
+          (subst (All (λ (link : Link). IfSome link.filter (HasTestedColumns (kept-count + 1)))) (sym links)
           (links_covered (kept_place job header) names-count kept-count (kept_within job header places is found) job.datasets is.datasets));
     }
 

@@ -1,18 +1,18 @@
 -- The datasets of a job over the kept columns: how they are made, in which order, and which columns they compare with numbers.
-use Rattle.std.proofs.Common.{◌≡◌, ◌<◌, ◌≤◌, ◌+◌, ◌∙◌, ℕ, List, [], ◌∷◌, ◌++◌, Option, Some, None, length, map, get_or, refl, sym, ap, arith, subst}
+use Rattle.std.proofs.Common.{◌≡◌, ◌<◌, ◌≤◌, ◌+◌, ◌∙◌, ℕ, List, [], ◌∷◌, ◌++◌, Option, Some, None, map, get_or, refl, sym, ap, arith, subst}
 use Rattle.std.specs.Prelude.{All, IfSome, option_map, slice_get}
 use Rattle.std.specs.List.{flat_map}
-use Rattle.std.proofs.lemmas.List.{length-map, map-append}
+use Rattle.std.proofs.lemmas.List.{map-append}
 use Rattle.std.proofs.lemmas.List.Elements.{All-map}
 use Rattle.std.proofs.lemmas.Option.{get_or_from_slice_get, same_Some, slice_get-map, slice_get_within}
 use Rattle.row_filter.specs.Lines.{AreOrdered}
 use Rattle.row_filter.specs.Meaning.{columns_of}
 use Rattle.row_filter.specs.Moved.{moved_filter}
-use Rattle.row_filter.specs.Rows.{Covers}
+use Rattle.row_filter.specs.Rows.{HasTestedColumns}
 use Rattle.row_filter.specs.declared.chain.Link.{Link}
 use Rattle.row_filter.specs.declared.filter.Filter.{Filter}
 use Rattle.job_text.specs.FilterForms.{IsFilter}
-use Rattle.job_text.specs.Jobs.{AreMade}
+use Rattle.job_text.specs.Jobs.{AreGoodDatasets}
 use Rattle.job_text.specs.declared.job.Dataset.{Dataset}
 use Rattle.job_plan.specs.Columns.{numbers_for}
 use Rattle.job_plan.specs.Moved.{link_over}
@@ -32,13 +32,13 @@ module _ (move other : ℕ → ℕ) (names : ℕ) (alike : (column : ℕ) → co
   own_alike None is = refl
   own_alike (Some f) is = ap Some (moved_alike move other f (λ i d lt. alike (get_or (columns_of f) i d) (columns_named names f is i d lt)))
 
-  pub links_alike : (datasets : List Dataset) → AreMade names datasets → map (link_over move) datasets ≡ map (link_over other) datasets
+  pub links_alike : (datasets : List Dataset) → AreGoodDatasets names datasets → map (link_over move) datasets ≡ map (link_over other) datasets
   links_alike datasets made = map_same (link_over move) (link_over other) datasets
       (λ i d lt. (let at : Dataset = get_or datasets i d in ap (with_filter at) (own_alike at.filter (made.filters i d lt))))
 
 -- ---- each is made from one before it
 
-pub links_ordered : (move : ℕ → ℕ) (names : ℕ) (datasets : List Dataset) → AreMade names datasets → AreOrdered (map (link_over move) datasets)
+pub links_ordered : (move : ℕ → ℕ) (names : ℕ) (datasets : List Dataset) → AreGoodDatasets names datasets → AreOrdered (map (link_over move) datasets)
 links_ordered move names datasets made place link is = by (slice_get datasets place) refl
   where
     by : (found : Option Dataset) → slice_get datasets place ≡ found → link.parent ≤ place
@@ -55,14 +55,14 @@ links_ordered move names datasets made place link is = by (slice_get datasets pl
 -- ---- by filters over the columns
 
 own_covered : (move : ℕ → ℕ) (names columns : ℕ) → ((column : ℕ) → column < names → move column < columns) → (filter : Option Filter)
-    → IfSome filter (IsFilter names) → IfSome (option_map (moved_filter move) filter) (Covers (columns + 1))
+    → IfSome filter (IsFilter names) → IfSome (option_map (moved_filter move) filter) (HasTestedColumns (columns + 1))
 own_covered move names columns within None is = tt
 own_covered move names columns within (Some f) is = covers_moved move names columns within f (columns_named names f is)
 
-pub links_covered : (move : ℕ → ℕ) (names columns : ℕ) → ((column : ℕ) → column < names → move column < columns) → (datasets : List Dataset) → AreMade names datasets
-    → All (λ link. IfSome link.filter (Covers (columns + 1))) (map (link_over move) datasets)
+pub links_covered : (move : ℕ → ℕ) (names columns : ℕ) → ((column : ℕ) → column < names → move column < columns) → (datasets : List Dataset) → AreGoodDatasets names datasets
+    → All (λ link. IfSome link.filter (HasTestedColumns (columns + 1))) (map (link_over move) datasets)
 links_covered move names columns within datasets made =
-    All-map (λ (link : Link). IfSome link.filter (Covers (columns + 1))) (link_over move) datasets
+    All-map (λ (link : Link). IfSome link.filter (HasTestedColumns (columns + 1))) (link_over move) datasets
     (λ i d lt. own_covered move names columns within (get_or datasets i d).filter (made.filters i d lt))
 
 -- ---- whose columns that are compared with numbers are moved with them

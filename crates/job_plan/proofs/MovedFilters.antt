@@ -1,5 +1,5 @@
 -- Filters whose columns are moved: which of them are one, which of their columns are numbers, and which rows cover them.
-use Rattle.std.proofs.Common.{◌≡◌, ◌<◌, ◌+◌, ◌∙◌, ℕ, List, [], ◌∷◌, ◌++◌, length, map, get_or, refl, sym, ap, arith, subst}
+use Rattle.std.proofs.Common.{◌≡◌, ◌<◌, ◌+◌, ◌∙◌, ℕ, List, [], ◌∷◌, ◌++◌, map, get_or, refl, sym, ap, arith, subst}
 use Rattle.std.specs.Prelude.{All}
 use Rattle.std.specs.List.{flat_map}
 use Rattle.std.proofs.lemmas.List.{map-append}
@@ -17,7 +17,7 @@ use Rattle.row_filter.specs.declared.filter.Filter.TheVariants.{rolls-And, rolls
 use Rattle.row_filter.specs.declared.filter.Filter.TheViews.{roll-Filter}
 use Rattle.row_filter.specs.Meaning.{columns_of}
 use Rattle.row_filter.specs.Moved.{moved_filter}
-use Rattle.row_filter.specs.Rows.{Covers}
+use Rattle.row_filter.specs.Rows.{HasTestedColumns}
 use Rattle.row_filter.proofs.Columns.{All-left, All-right}
 use Rattle.row_filter.proofs.Meanings.{columns-test, columns-and, columns-or, columns-not}
 use Rattle.row_filter.proofs.Movings.{columns_moved, moved-test, moved-and, moved-or, moved-not}
@@ -158,7 +158,7 @@ module _ (move : ℕ → ℕ) where
 -- ---- rows cover a filter whose columns are moved within theirs
 
 pub covers_moved : (move : ℕ → ℕ) (names columns : ℕ) → ((column : ℕ) → column < names → move column < columns) → (f : Filter)
-    → All (λ column. column < names) (columns_of f) → Covers (columns + 1) (moved_filter move f)
+    → All (λ column. column < names) (columns_of f) → HasTestedColumns (columns + 1) (moved_filter move f)
 covers_moved move names columns within f named =
     subst (All (λ (column : ℕ). column + 1 < columns + 1)) (sym (columns_moved move f))
     (All-map (λ (column : ℕ). column + 1 < columns + 1) move (columns_of f)

@@ -10,7 +10,7 @@ use Rattle.std.proofs.lemmas.Option.{same_Some}
 use Rattle.std.proofs.lemmas.Simd.{map-map}
 use Rattle.aggregate.specs.declared.kind.Kind.TheVariants as kinds
 use Rattle.aggregate.specs.declared.agg_list.Agg.{Agg}
-use Rattle.job_text.specs.Jobs.{IsColumns, IsDistinct, IsPart, IsShape, IsShortList}
+use Rattle.job_text.specs.Jobs.{IsColumns, IsDistinct, IsAggregate, IsShape, IsShortList}
 use Rattle.job_text.specs.declared.job.KeyItem.{KeyItem}
 use Rattle.job_text.specs.declared.job.Part.{Part}
 use Rattle.job_text.specs.declared.job.Shape.{Shape}
@@ -33,7 +33,7 @@ module _ (f g : ℕ → ℕ) (n : ℕ) (agree : (c : ℕ) → c < n → f c ≡ 
   columns-same : (cs : List ℕ) → All (λ c. c < n) cs → map f cs ≡ map g cs
   columns-same cs h = map_same f g cs (λ i d lt. agree (get_or cs i d) (h i d lt))
 
-  part-same : (p : Part) → IsPart n p → moved_part f p ≡ moved_part g p
+  part-same : (p : Part) → IsAggregate n p → moved_part f p ≡ moved_part g p
   part-same p h = ap (λ (o : Option ℕ). record p { column = o }) (option-same p.column h.named)
 
   item-same : (k : KeyItem) → k.column < n → moved_item f k ≡ moved_item g k
@@ -77,7 +77,7 @@ module _ (g : ℕ → ℕ) (n m : ℕ) (inside : (c : ℕ) → c < n → g c < m
   option-moved None h = tt
   option-moved (Some c) h = inside c h
 
-  part-moved : (p : Part) → IsPart n p → IsPart m (moved_part g p)
+  part-moved : (p : Part) → IsAggregate n p → IsAggregate m (moved_part g p)
   part-moved p h = record { column = some-moved p.column ∙ h.column; named = option-moved p.column h.named }
 
   columns-apart : (x y : Option ℕ) → IfSome x (λ c. c < n) → IfSome y (λ c. c < n) → x ≢ y → option_map g x ≢ option_map g y
@@ -86,13 +86,13 @@ module _ (g : ℕ → ℕ) (n m : ℕ) (inside : (c : ℕ) → c < n → g c < m
   columns-apart (Some c) None hx hy differ e = absurd (cc e)
   columns-apart (Some c) (Some d) hx hy differ e = apart c d hx hy (λ same. differ (ap Some same)) (same_Some (g c) (g d) e)
 
-  part-apart : (p q : Part) → IsPart n p → IsPart n q → p ≢ q → moved_part g p ≢ moved_part g q
+  part-apart : (p q : Part) → IsAggregate n p → IsAggregate n q → p ≢ q → moved_part g p ≢ moved_part g q
   part-apart p q hp hq differ e =
       columns-apart p.column q.column hp.named hq.named
       (λ same. differ (ap (λ (a : Agg). record p { agg = a }) (ap (λ (part : Part). part.agg) e) ∙ ap (λ (o : Option ℕ). record q { column = o }) same))
       (ap (λ (part : Part). part.column) e)
 
-  parts-apart : (ps : List Part) → All (IsPart n) ps → IsDistinct ps → IsDistinct (map (moved_part g) ps)
+  parts-apart : (ps : List Part) → All (IsAggregate n) ps → IsDistinct ps → IsDistinct (map (moved_part g) ps)
   parts-apart ps parts distinct = λ i j d lt within. (
       let long : length (map (moved_part g) ps) ≡ length ps = length-map ps (moved_part g) in
       let later : j < length ps = omega arith in
@@ -104,7 +104,7 @@ module _ (g : ℕ → ℕ) (n m : ℕ) (inside : (c : ℕ) → c < n → g c < m
   shape-moved (Group cs ps) h = (
     columns-moved cs h.0,
     short-moved (moved_part g) ps h.1,
-    All-map (IsPart m) (moved_part g) ps (λ i d lt. part-moved (get_or ps i d) (h.2 i d lt)),
+    All-map (IsAggregate m) (moved_part g) ps (λ i d lt. part-moved (get_or ps i d) (h.2 i d lt)),
     parts-apart ps h.2 h.3,
   )
   shape-moved (Order ks cs) h =

@@ -1,6 +1,6 @@
 -- The passes of queries over datasets: one more pass, and what holds of each.
-use Rattle.std.proofs.Common.{◌≡◌, ◌<◌, ◌≤◌, ◌+◌, ◌∙◌, ℕ, zero, suc, List, [], ◌∷◌, ◌++◌, Bool, true, false, cond, length, map, get_or, take, refl, sym, ap, arith, subst}
-use Rattle.std.specs.Prelude.{◌==◌, All, AllPairs, not, slice_index_or}
+use Rattle.std.proofs.Common.{◌≡◌, ◌<◌, ◌≤◌, ◌+◌, ◌∙◌, ℕ, List, [], ◌∷◌, ◌++◌, Bool, true, false, cond, length, map, get_or, take, refl, sym, ap, arith, subst}
+use Rattle.std.specs.Prelude.{◌==◌, All, AllPairs, slice_index_or}
 use Rattle.std.specs.List.{filter, list_any, range_with_len}
 use Rattle.std.proofs.lemmas.Bool.Decides.{nat_tests}
 use Rattle.std.proofs.lemmas.List.{append-nil, get_or-map, length-map, map-id, map_push, take_all, take_more}

@@ -5,12 +5,12 @@ use Rattle.std.proofs.Math.Logic.{∥∥₁_elim}
 use Rattle.std.proofs.Props.{props}
 use Rattle.std.proofs.lemmas.List.{get_or-map}
 use Rattle.row_filter.specs.Chains.{form_of, links_of}
-use Rattle.row_filter.specs.Rows.{Covers}
+use Rattle.row_filter.specs.Rows.{HasTestedColumns}
 use Rattle.row_filter.specs.declared.chain.Chain.{Chain}
 use Rattle.row_filter.specs.declared.chain.Link.{Link}
 use Rattle.row_filter.specs.declared.filter.Filter.{Filter}
-use Rattle.run_file.specs.Forms.{HasForm}
-use Rattle.run_file.specs.declared.form.Form.{Form}
+use Rattle.row_form.specs.Forms.{HasForm}
+use Rattle.row_form.specs.declared.form.Form.{Form}
 use Rattle.job_text.specs.Jobs.{IsShape}
 use Rattle.job_plan.specs.declared.passing.Pass.{Pass}
 use Rattle.job_plan.specs.declared.planned.Planned.{Planned}
@@ -46,7 +46,7 @@ with_shape chain ps over i p row Q known lt e form prop use_it = ∥∥₁_elim 
 
 -- ---- what holds of each plan is no choice
 
-own-prop : (n : ℕ) (filter : Option Filter) → IsProp (IfSome filter (Covers n))
+own-prop : (n : ℕ) (filter : Option Filter) → IsProp (IfSome filter (HasTestedColumns n))
 own-prop n None = hlevel props
 own-prop n (Some f) = hlevel props
 

@@ -14,9 +14,9 @@ use Rattle.aggregate.specs.Partial.{partial_of}
 use Rattle.aggregate.specs.Spelling.{number_spelling, spelled, spelled_byte, turned_if}
 use Rattle.row_page.specs.Grammar.{ArePieces, IsPieceThen, IsRow}
 use Rattle.row_page.specs.Spelling.{length_bytes, row_bytes, row_length, with_length}
-use Rattle.run_file.specs.Forms.{HasForm, IsValueOf}
-use Rattle.run_file.specs.declared.form.Form.{Form}
-use Rattle.run_file.specs.declared.form.Form.TheVariants.{Entries, Landed}
+use Rattle.row_form.specs.Forms.{HasForm, IsValueOf}
+use Rattle.row_form.specs.declared.form.Form.{Form}
+use Rattle.row_form.specs.declared.form.Form.TheVariants.{Entries, Landed}
 use Rattle.job_text.specs.Jobs.{IsColumns, IsShape}
 use Rattle.job_text.specs.declared.job.KeyItem.{KeyItem}
 use Rattle.job_text.specs.declared.job.Part.{Part}
@@ -24,7 +24,7 @@ use Rattle.job_text.specs.declared.job.Shape.{Shape}
 use Rattle.job_text.specs.declared.job.Shape.TheVariants.{Group, Order}
 use Rattle.job_plan.specs.Entries.{field, field_bytes, item_bytes, number_in, key_of, kind_of, told_by, value_of}
 use Rattle.job_plan.specs.Planning.{columns_of}
-use Rattle.job_plan.specs.Within.{Covers, HasColumn}
+use Rattle.job_plan.specs.Within.{HasColumnsOf, HasColumn}
 use Rattle.job_plan.proofs.Picked.{fields_within, sum_doubled, sum_equal, sum_raised}
 
 -- ---- what is spelled
@@ -135,7 +135,7 @@ part-has : (row : List (List ℕ)) (n : ℕ) (o : Option ℕ) → n < length row
 part-has row n None e h = tt
 part-has row n (Some k) e h = omega arith
 
-pub covers : (row : List (List ℕ)) (n : ℕ) (shape : Shape) → n < length row → IsShape n shape → Covers row shape
+pub covers : (row : List (List ℕ)) (n : ℕ) (shape : Shape) → n < length row → IsShape n shape → HasColumnsOf row shape
 covers row n (Group columns parts) e s = (has row n columns e s.0, λ i d h. part-has row n (get_or parts i d).column e (s.2 i d h).named)
 covers row n (Order keys columns) e s =
     let all = has row n (map (λ (item : KeyItem). item.column) keys) e s.0 in (
@@ -148,7 +148,7 @@ part-prop : (row : List (List ℕ)) (o : Option ℕ) → IsProp (IfSome o (HasCo
 part-prop row None = hlevel props
 part-prop row (Some k) = hlevel props
 
-pub covers-prop : (row : List (List ℕ)) (shape : Shape) → IsProp (Covers row shape)
+pub covers-prop : (row : List (List ℕ)) (shape : Shape) → IsProp (HasColumnsOf row shape)
 covers-prop row (Group columns parts) = hlevel (props, part-prop)
 covers-prop row (Order keys columns) = hlevel props
 

@@ -6,11 +6,11 @@ use Rattle.std.proofs.lemmas.List.Concat.{flat_map-append}
 use Rattle.std.proofs.lemmas.List.FromFn.{map-range_with_len_more}
 use Rattle.job_plan.specs.declared.passing.Pass.{Pass}
 use Rattle.job_plan.specs.declared.query_plan.Plan.{Plan}
-use Rattle.job_plan.specs.PlanText.{comma_before, joined, pass_line, pass_text, removal_line}
+use Rattle.job_plan.specs.PlanText.{comma_before, comma_joined, pass_line, pass_text, removal_line}
 use Rattle.job_plan.specs.Plans.{dataset_names_in}
 use Rattle.job_plan.proofs.Queries.{pass_field}
 
-joined_push : (texts : List (List ℕ)) (text : List ℕ) → joined (texts ++ text ∷ []) ≡ joined texts ++ (comma_before (length texts) ++ text)
+joined_push : (texts : List (List ℕ)) (text : List ℕ) → comma_joined (texts ++ text ∷ []) ≡ comma_joined texts ++ (comma_before (length texts) ++ text)
 joined_push [] text = append-nil text
 joined_push (first ∷ more) text =
     ap (λ (rest : List ℕ). first ++ rest) (flat_map-append (λ next. 44 ∷ next) more (text ∷ []) ∙ ap (λ (rest : List ℕ). flat_map (λ next. 44 ∷ next) more ++ rest) (append-nil (44 ∷ text)))
@@ -18,18 +18,18 @@ joined_push (first ∷ more) text =
 
 -- a list of texts with one more
 joined_more : {X : Type 0} (text_of : X → List ℕ) (xs : List X) (i : ℕ) (d : X) → i < length xs
-    → joined (map text_of (take (i + 1) xs)) ≡ joined (map text_of (take i xs)) ++ (comma_before i ++ text_of (get_or xs i d))
+    → comma_joined (map text_of (take (i + 1) xs)) ≡ comma_joined (map text_of (take i xs)) ++ (comma_before i ++ text_of (get_or xs i d))
 joined_more text_of xs i d lt =
     let many : length (map text_of (take i xs)) ≡ i = omega (arith, length-map (take i xs) text_of, length-take i xs) in
-    ap joined (map_more text_of xs i d lt) ∙ joined_push (map text_of (take i xs)) (text_of (get_or xs i d))
-    ∙ ap (λ (n : ℕ). joined (map text_of (take i xs)) ++ (comma_before n ++ text_of (get_or xs i d))) many
+    ap comma_joined (map_more text_of xs i d lt) ∙ joined_push (map text_of (take i xs)) (text_of (get_or xs i d))
+    ∙ ap (λ (n : ℕ). comma_joined (map text_of (take i xs)) ++ (comma_before n ++ text_of (get_or xs i d))) many
 
 -- what is put behind a list of texts, after the comma
 pub listed_more : {X : Type 0} (text_of : X → List ℕ) (xs : List X) (i : ℕ) (d : X) (start before comma after : List ℕ) → i < length xs
-    → before ≡ start ++ joined (map text_of (take i xs)) → comma ≡ before ++ comma_before i → after ≡ comma ++ text_of (get_or xs i d)
-    → after ≡ start ++ joined (map text_of (take (i + 1) xs))
+    → before ≡ start ++ comma_joined (map text_of (take i xs)) → comma ≡ before ++ comma_before i → after ≡ comma ++ text_of (get_or xs i d)
+    → after ≡ start ++ comma_joined (map text_of (take (i + 1) xs))
 listed_more text_of xs i d start before comma after lt so_far sign put =
-    let old = joined (map text_of (take i xs)) in
+    let old = comma_joined (map text_of (take i xs)) in
     let text = text_of (get_or xs i d) in
     put ∙ ap (λ (t : List ℕ). t ++ text) (sign ∙ ap (λ (t : List ℕ). t ++ comma_before i) so_far)
     ∙ append_assoc (start ++ old) (comma_before i) text ∙ append_assoc start old (comma_before i ++ text)

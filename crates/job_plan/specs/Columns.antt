@@ -97,6 +97,7 @@ number_places job header =
 abbrev pub part_over : Job → Fields → Part → Part
 part_over job header part = record part { column = option_map (kept_place job header) part.column }
 
+-- a key item whose column is given as its place among the kept ones
 abbrev pub item_over : Job → Fields → KeyItem → KeyItem
 item_over job header item = record item { column = kept_place job header item.column }
 

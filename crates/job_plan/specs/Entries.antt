@@ -8,7 +8,7 @@ use Rattle.aggregate.specs.Totals.{Entry}
 use Rattle.aggregate.specs.declared.kind.Kind.{Kind}
 use Rattle.aggregate.specs.declared.kind.Kind.TheVariants as kinds
 use Rattle.row_page.specs.Spelling.{row_bytes}
-use Rattle.run_file.specs.Numbers.{number}
+use Rattle.row_form.specs.Numbers.{number}
 use Rattle.job_text.specs.declared.job.KeyItem.{KeyItem}
 use Rattle.job_text.specs.declared.job.Shape.{Shape}
 use Rattle.job_text.specs.declared.job.Shape.TheVariants.{Group, Order}

@@ -5,7 +5,7 @@ use Rattle.std.specs.List.{filter, flat_map, list_any, position_from, range_with
 use Rattle.row_filter.specs.Chains.{base_of, form_of, links_of}
 use Rattle.row_filter.specs.declared.chain.Chain.{Chain}
 use Rattle.row_filter.specs.declared.chain.Link.{Link}
-use Rattle.run_file.specs.declared.form.Form.TheVariants.{Landed}
+use Rattle.row_form.specs.declared.form.Form.TheVariants.{Landed}
 use Rattle.job_text.specs.declared.job.Dataset.{Dataset}
 use Rattle.job_text.specs.declared.job.Query.{Query}
 use Rattle.job_plan.specs.Columns.{Fields, numbers_for, numbers_in, place}

@@ -19,9 +19,9 @@ abbrev pub queries_over : List ℕ → ℕ → List ℕ
 queries_over datasets dataset = filter (λ q. slice_index_or datasets q 0 == dataset) (range_with_len 0 (length datasets))
 
 -- whether a dataset has a level; the input has none
-abbrev pub is_kept : List Link → ℕ → Bool
-is_kept links zero = false
-is_kept links (suc before) = is_some (option_and_then (λ link. link.level) (slice_get links before))
+abbrev pub has_level : List Link → ℕ → Bool
+has_level links zero = false
+has_level links (suc before) = is_some (option_and_then (λ link. link.level) (slice_get links before))
 
 -- a pass is the last whose dataset is this one or derives from it
 abbrev pub is_last_use : List Link → List ℕ → ℕ → ℕ → Bool
@@ -31,4 +31,4 @@ is_last_use links passes dataset pass =
 -- the kept datasets whose blocks are removed after a pass, ascending
 abbrev pub removed_after : List Link → List ℕ → ℕ → List ℕ
 removed_after links passes pass =
-    filter (λ d. is_kept links d && is_last_use links passes d pass) (range_with_len 1 (length links))
+    filter (λ d. has_level links d && is_last_use links passes d pass) (range_with_len 1 (length links))

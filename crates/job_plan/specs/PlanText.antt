@@ -8,9 +8,9 @@ use Rattle.job_plan.specs.declared.query_plan.Plan.{Plan}
 use Rattle.job_plan.specs.Plans.{column_names_in, dataset_names_in, passes_in, queries_in, removed_in}
 
 -- these texts, with a comma between two of them
-abbrev pub joined : List (List ℕ) → List ℕ
-joined [] = []
-joined (text ∷ more) = text ++ flat_map (λ next. 44 ∷ next) more
+abbrev pub comma_joined : List (List ℕ) → List ℕ
+comma_joined [] = []
+comma_joined (text ∷ more) = text ++ flat_map (λ next. 44 ∷ next) more
 
 -- the comma before an item of a list, which the first one hasn't
 abbrev pub comma_before : ℕ → List ℕ
@@ -35,11 +35,11 @@ removal_line names pass dataset =
 abbrev pub pass_line : List (List ℕ) → ℕ → ℕ → List ℕ → List ℕ
 pass_line names pass dataset queries =
     codes "pass " ++ decimal pass ++ 32 ∷ dataset_text names dataset
-    ++ codes " queries " ++ joined (map decimal queries) ++ 10 ∷ []
+    ++ codes " queries " ++ comma_joined (map decimal queries) ++ 10 ∷ []
 
 -- the kept columns
 abbrev pub columns_line : List (List ℕ) → List ℕ
-columns_line columns = codes "columns " ++ joined (map column_text columns) ++ 10 ∷ []
+columns_line columns = codes "columns " ++ comma_joined (map column_text columns) ++ 10 ∷ []
 
 -- a plan's pass, and what is removed after it
 abbrev pub pass_text : Plan → ℕ → List ℕ

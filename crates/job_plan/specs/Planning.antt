@@ -2,10 +2,10 @@
 -- This project's own.
 use Rattle.std.specs.Prelude.{◌≡◌, ℕ, ◌+◌, ◌<◌, ◌≤◌, All, AllPairs, Bool, true, false, IfSome, List, length}
 use Rattle.row_filter.specs.Lines.{AreOrdered}
-use Rattle.row_filter.specs.Rows.{Covers}
+use Rattle.row_filter.specs.Rows.{HasTestedColumns}
 use Rattle.row_filter.specs.declared.chain.Link.{Link}
-use Rattle.run_file.specs.declared.form.Form.{Form}
-use Rattle.run_file.specs.declared.form.Form.TheVariants.{Entries, Landed}
+use Rattle.row_form.specs.declared.form.Form.{Form}
+use Rattle.row_form.specs.declared.form.Form.TheVariants.{Entries, Landed}
 use Rattle.job_text.specs.Jobs.{IsShape}
 use Rattle.job_plan.specs.declared.passing.Pass.{Pass}
 use Rattle.job_plan.specs.declared.planned.Planned.{Planned}
@@ -26,7 +26,7 @@ pub record FitsChain (form : Form) (links : List Link) : Type 0 where
   pub landed : is_landed form ≡ true
   pub few : length links ≤ 8
   pub ordered : AreOrdered links
-  pub covered : All (λ link. IfSome link.filter (Covers (columns_of form + 1))) links
+  pub covered : All (λ link. IfSome link.filter (HasTestedColumns (columns_of form + 1))) links
 
 -- the queries of a pass, of so many in all: one or more, ascending
 pub record FitsQueries (count : ℕ) (queries : List ℕ) : Type 0 where

@@ -8,8 +8,8 @@ use Rattle.aggregate.specs.declared.agg_list.Agg.TheVariants.{Count, Sum, Min, M
 use Rattle.aggregate.specs.declared.kind.Kind.{Kind}
 use Rattle.row_filter.specs.Chains.{base_of, form_of, links_of}
 use Rattle.row_filter.specs.declared.chain.Chain.{Chain}
-use Rattle.run_file.specs.declared.form.Form.{Form}
-use Rattle.run_file.specs.declared.form.Form.TheVariants.{Landed}
+use Rattle.row_form.specs.declared.form.Form.{Form}
+use Rattle.row_form.specs.declared.form.Form.TheVariants.{Landed}
 use Rattle.job_text.specs.declared.job.Job.{Job}
 use Rattle.job_text.specs.declared.job.Part.{Part}
 use Rattle.job_text.specs.declared.job.Shape.{Shape}
@@ -59,6 +59,7 @@ form_in plan = form_of plan.chain
 abbrev pub column_names_in : Plan → List (List ℕ)
 column_names_in plan = plan.columns.items
 
+-- the bytes of the names of the datasets, from number 1 on
 abbrev pub dataset_names_in : Plan → List (List ℕ)
 dataset_names_in plan = plan.names.items
 
@@ -74,9 +75,11 @@ datasets_in plan = map (λ planned. planned.dataset) plan.queries.items
 abbrev pub passes_in : Plan → List ℕ
 passes_in plan = map (λ pass. pass.dataset) plan.passes.items
 
+-- of each pass the numbers of the queries that it answers
 abbrev pub queries_in : Plan → List (List ℕ)
 queries_in plan = map (λ pass. pass.queries.items) plan.passes.items
 
+-- of each pass the datasets whose blocks are removed after it
 abbrev pub removed_in : Plan → List (List ℕ)
 removed_in plan = map (λ pass. pass.removed.items) plan.passes.items
 
@@ -100,9 +103,11 @@ no_shape = Order [] []
 abbrev pub shape_at : Plan → ℕ → Shape
 shape_at plan query = slice_index_or (shapes_in plan) query no_shape
 
+-- a query's shape over the kept columns, by the query's number from 0
 abbrev pub kept_at : Plan → ℕ → Shape
 kept_at plan query = slice_index_or (kept_in plan) query no_shape
 
+-- the first row of a query's table, by the query's number from 0
 abbrev pub heading_at : Plan → ℕ → Fields
 heading_at plan query = slice_index_or (headings_in plan) query []
 

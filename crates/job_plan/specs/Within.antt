@@ -20,9 +20,9 @@ abbrev pub IsPartOf : List (List ℕ) → Part → Type 0
 IsPartOf row part = IfSome part.column (HasColumn row)
 
 -- it has one for each column of a shape
-abbrev pub Covers : List (List ℕ) → Shape → Type 0
-Covers row (Group columns parts) = All (HasColumn row) columns × All (IsPartOf row) parts
-Covers row (Order keys columns) = All (IsItemOf row) keys × All (HasColumn row) columns
+abbrev pub HasColumnsOf : List (List ℕ) → Shape → Type 0
+HasColumnsOf row (Group columns parts) = All (HasColumn row) columns × All (IsPartOf row) parts
+HasColumnsOf row (Order keys columns) = All (IsItemOf row) keys × All (HasColumn row) columns
 
 -- whether a header field, where there is one, is this name
 abbrev pub is_named : List ℕ → Option (List ℕ) → Bool

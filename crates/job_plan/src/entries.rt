@@ -7,19 +7,19 @@ ghost use Rattle.aggregate.specs.Spelling.{spelled};
 ghost use Rattle.row_page.specs.Spelling.{row_length, with_length};
 ghost use Rattle.row_page.specs.Views.{fields_in};
 ghost use Rattle.job_plan.specs.Entries.{field, item_bytes, key_of, number_in, told_by, value_of};
-ghost use Rattle.job_plan.specs.Within.{Covers, HasColumn, IsItemOf, IsPartOf};
+ghost use Rattle.job_plan.specs.Within.{HasColumnsOf, HasColumn, IsItemOf, IsPartOf};
 
 use aggregate::{put_field, put_number, put_partial};
 use job_text::{KeyItem, Part, Shape};
+use row_form::parse_number;
 use row_page::RowView;
-use run_file::parse_number;
 use std::alloc::AllocError;
 
 /// Appends the key that a shape over kept columns makes of a landed row.
 #[tactic(auto, unfolding(crate::specs::Entries::key_of))]
 pub(crate) fn put_key(key: &mut Vec<u8>, shape: &Shape, row: &RowView<'_>) -> Result<(), AllocError>
     requires numbered { 0 < length (fields_in row.now) }
-    requires covers { Covers (fields_in row.now) shape.now }
+    requires covers { HasColumnsOf (fields_in row.now) shape.now }
     ensures { OnOk result (key.new.items ≡ key.old.items ++ key_of shape.now (fields_in row.now)) }
 {
     match shape {
@@ -38,7 +38,7 @@ pub(crate) fn put_value(
     shape: &Shape,
     row: &RowView<'_>,
 ) -> Result<(), AllocError>
-    requires { Covers (fields_in row.now) shape.now }
+    requires { HasColumnsOf (fields_in row.now) shape.now }
     ensures { OnOk result (value.new.items ≡ value.old.items ++ value_of shape.now (fields_in row.now)) }
 {
     match shape {

@@ -2,7 +2,7 @@
 
 ghost use Rattle.std.specs.Prelude.{◌≡◌, ◌+◌, ◌*◌, ◌<◌, ◌≤◌, ◌++◌, ◌∷◌, [], All, IfOk, OnOk, length, map};
 ghost use Rattle.row_page.specs.Spelling.{row_length};
-ghost use Rattle.job_text.specs.Jobs.{IsPart, IsShape};
+ghost use Rattle.job_text.specs.Jobs.{IsAggregate, IsShape};
 ghost use Rattle.job_plan.specs.Plans.{agg_name, heading_of, name_at, part_name};
 
 use aggregate::Agg;
@@ -24,7 +24,7 @@ fn text_of(agg: Agg) -> &'static [u8]
 
 // The name of a column of a table that tells an aggregate.
 fn name_part(alloc: Global, names: &[Name], part: &Part) -> Result<Vec<u8>, AllocError>
-    requires { IsPart (length names.now) part.now }
+    requires { IsAggregate (length names.now) part.now }
     ensures { IfOk result (λ name. name.items ≡ part_name names.now part.now) }
 {
     let mut name = text_of(part.agg).to_vec(alloc)?;
@@ -57,7 +57,7 @@ fn add_parts(
     parts: &[Part],
 ) -> Result<(), AllocError>
     requires short { All (λ name. length name ≤ 1024) names.now }
-    requires parts { All (IsPart (length names.now)) parts.now }
+    requires parts { All (IsAggregate (length names.now)) parts.now }
     requires few { length parts.now ≤ 8 }
     requires room { row_length row.old ≤ 16384 }
     ensures { OnOk result (row.new ≡ row.old ++ map (part_name names.now) parts.now) }

@@ -20,7 +20,7 @@ use csv::ByteRecord;
 use item_lists::{Listed, Name};
 use job_text::{Dataset, Job, Query};
 use row_filter::{Chain, Link};
-use run_file::{Form, NumberList};
+use row_form::{Form, NumberList};
 use std::alloc::{AllocError, Global};
 
 /// The plan of a job over an input with this header. A column is the first header field with exactly its

@@ -5,7 +5,7 @@ ghost use Rattle.std.specs.List.{list_any};
 ghost use Rattle.row_filter.specs.Chains.{links_of};
 ghost use Rattle.row_filter.specs.Lines.{AreOrdered, derives as derives_from};
 ghost use Rattle.job_plan.specs.Making.{ArePasses, IsPassAt};
-ghost use Rattle.job_plan.specs.Passes.{is_first, is_kept, is_last_use as is_last, pass_datasets, queries_over as over, removed_after as removed};
+ghost use Rattle.job_plan.specs.Passes.{is_first, has_level, is_last_use as is_last, pass_datasets, queries_over as over, removed_after as removed};
 
 use row_filter::Chain;
 use std::alloc::{AllocError, Global};
@@ -91,7 +91,8 @@ fn is_removed(chain: &Chain, passes: &[u32], dataset: u32, pass: usize) -> bool
     requires ordered { AreOrdered (links_of chain.now) }
     requires there { All (λ d. d ≤ length (links_of chain.now)) passes.now }
     requires within { pass < length passes.now }
-    ensures { result ≡ (is_kept (links_of chain.now) dataset && is_last (links_of chain.now) passes.now dataset pass) }
+    ensures { result ≡ (has_level (links_of chain.now) dataset
+        && is_last (links_of chain.now) passes.now dataset pass) }
 {
     chain.level(dataset).is_some() && is_last_use(chain, passes, dataset, pass)
 }

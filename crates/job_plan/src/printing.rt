@@ -3,7 +3,7 @@
 ghost use Rattle.std.specs.Prelude.{◌≡◌, ◌++◌, IfOk, OnOk, map, string_bytes};
 ghost use Rattle.std.specs.Fmt.{decimal};
 ghost use Rattle.std.specs.List.{flat_map};
-ghost use Rattle.job_plan.specs.PlanText.{column_text, columns_line, comma_before, dataset_text, joined, pass_line, plan_text, removal_line};
+ghost use Rattle.job_plan.specs.PlanText.{column_text, columns_line, comma_before, dataset_text, comma_joined, pass_line, plan_text, removal_line};
 
 use crate::passing::Pass;
 use crate::query_plan::Plan;
@@ -55,7 +55,7 @@ fn push_dataset(out: &mut String, names: &[Name], dataset: u32) -> Result<(), Al
 
 // Adds numbers, with a comma between two of them.
 fn push_numbers(out: &mut String, numbers: &[u32]) -> Result<(), AllocError>
-    ensures { OnOk result (string_bytes out.new ≡ string_bytes out.old ++ joined (map decimal numbers.now)) }
+    ensures { OnOk result (string_bytes out.new ≡ string_bytes out.old ++ comma_joined (map decimal numbers.now)) }
 {
     for i in 0..numbers.len() {
         push_comma(out, i)?;

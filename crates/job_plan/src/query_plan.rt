@@ -34,7 +34,7 @@ impl Plan {
     ghost use Rattle.std.specs.Prelude.{◌≡◌, ◌+◌, ◌<◌, [], OnOk, length, slice_index_or};
     ghost use Rattle.row_filter.specs.Chains.{base_of};
     ghost use Rattle.row_page.specs.Views.{fields_in};
-    ghost use Rattle.run_file.specs.Forms.{HasForm, IsValueOf};
+    ghost use Rattle.row_form.specs.Forms.{HasForm, IsValueOf};
     ghost use Rattle.job_plan.specs.Entries.{field_bytes, key_of, kind_of, value_of};
     ghost use Rattle.job_plan.specs.Planning.{FitsChain, FitsQueries};
     ghost use Rattle.job_plan.specs.Plans.{

@@ -10,8 +10,8 @@ use Rattle.std.proofs.lemmas.Fmt.{decimal_nonempty, digits_decimal, digits_value
 use Rattle.std.proofs.lemmas.List.{take_at, length-append}
 use Rattle.std.proofs.lemmas.Str.Parse.{IsNumeralModel, numerals_by_value, tells_all_ascii_digits}
 use Rattle.aggregate.specs.Partial.{fits_i64}
-use Rattle.run_file.specs.Numbers.{number, is_number}
-use Rattle.run_file.specs.Numbers.{fits_i64 as fits_there}
+use Rattle.row_form.specs.Numbers.{number, is_number}
+use Rattle.row_form.specs.Numbers.{fits_i64 as fits_there}
 use Rattle.job_text.specs.declared.mark.Mark.{Mark}
 use Rattle.job_text.specs.declared.mark.Mark.TheVariants as marks
 use Rattle.job_text.specs.declared.token.Token.{Token}

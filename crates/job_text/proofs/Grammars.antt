@@ -5,11 +5,11 @@ use Rattle.job_text.specs.declared.token.Token.{Token}
 use Rattle.job_text.specs.declared.job.Job.{Job}
 use Rattle.job_text.specs.declared.fault.JobFault.{JobFault}
 use Rattle.job_text.specs.Begins.{job_of}
-use Rattle.job_text.specs.Meaning.{job_meant, IsWritten}
+use Rattle.job_text.specs.Meaning.{job_meant, SpellsJob}
 use Rattle.job_text.specs.Jobs.{IsJob}
 use Rattle.job_text.specs.Laws.{ReadsTheGrammar, HasOneMeaning}
 use Rattle.job_text.specs.Place.{only_tokens, IsJobText}
-use Rattle.job_text.specs.Text.{Gives, read_of, scan}
+use Rattle.job_text.specs.Text.{ReadsLike, read_of, scan}
 use Rattle.job_text.proofs.Meant.{job_is}
 use Rattle.job_text.proofs.Places.{found_of}
 use Rattle.job_text.proofs.Ranged.{IsOfText, scanned_of_text}
@@ -19,12 +19,12 @@ use Rattle.job_text.proofs.Written.{written_read}
 same_job : (one other : Job) → let a : Option Job = Some one in a ≡ Some other → one ≡ other
 same_job one other e = cc
 
-is_written : (tokens : List Token) (job : Job) → job_of tokens ≡ Some job → IsWritten tokens job
+is_written : (tokens : List Token) (job : Job) → job_of tokens ≡ Some job → SpellsJob tokens job
 is_written tokens job e =
     let w = read_written tokens job e in
     record { written = w.0; spelled = w.1; right = w.2; meant = same_job job (job_meant w.0) (sym e ∙ ap job_of w.1 ∙ written_read w.0 w.2) }
 
-is_read : (tokens : List Token) (job : Job) → IsWritten tokens job → job_of tokens ≡ Some job
+is_read : (tokens : List Token) (job : Job) → SpellsJob tokens job → job_of tokens ≡ Some job
 is_read tokens job h = ap job_of h.spelled ∙ written_read h.written h.right ∙ ap (λ (j : Job). Some j) (sym h.meant)
 
 pub reads_the_grammar : ReadsTheGrammar
@@ -41,7 +41,7 @@ whole_job text job h =
     let w = is_written ts job h.is in
     subst IsJob (sym w.meant) (job_is w.written w.right (subst (All IsOfText) w.spelled (scanned_of_text text 0 0)))
 
-pub whole_of : (text : List ℕ) (r : Result Job JobFault) → Gives r (read_of text) → IfOk r IsJob
+pub whole_of : (text : List ℕ) (r : Result Job JobFault) → ReadsLike r (read_of text) → IfOk r IsJob
 whole_of text r h = on r (found_of text r h)
   where
     on : (r : Result Job JobFault) → IfOk r (λ job. IsJobText text job) → IfOk r IsJob

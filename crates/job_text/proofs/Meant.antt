@@ -8,7 +8,7 @@ use Rattle.std.proofs.lemmas.List.{append-nil}
 use Rattle.std.proofs.lemmas.List.Quantifiers.{all_pairs_push}
 use Rattle.job_text.specs.declared.job.Dataset.{Dataset}
 use Rattle.job_text.specs.Columns.{with_names}
-use Rattle.job_text.specs.Jobs.{IsDistinct, IsShape, IsQuery, AreMade, IsJob, shape_places, dataset_places}
+use Rattle.job_text.specs.Jobs.{IsDistinct, IsShape, IsQuery, AreGoodDatasets, IsJob, shape_places, dataset_places}
 use Rattle.job_text.specs.Grammar.{WrittenJob, WrittenSource, WrittenFilter, WrittenDataset, where_written, source_written, keep_written, dataset_written, query_written, job_written, separated, ended_by}
 use Rattle.job_text.specs.Rules.{IsFilterRight, IsSourceRight, AreDatasets, IsQueryRight, IsRight, dataset_uses, filter_uses, names_written, query_names, job_names}
 use Rattle.job_text.specs.Meaning.{source_meant, from_meant, dataset_meant, shape_meant, query_meant, job_meant}
@@ -120,7 +120,7 @@ uses_short names None h = All-nil (λ name. length name ≤ 1024)
 uses_short names (Some filter) h = filter_short names filter.tokens filter.used filter.means h
 
 datasets_made : (names : List (List ℕ)) (datasets : List WrittenDataset) → length datasets ≤ 8 → AreDatasets names [] datasets → All IsDatasetOfText datasets → All (Knows names) (flat_map dataset_uses datasets)
-    → AreMade (length names) (map (dataset_meant (names_written datasets)) datasets)
+    → AreGoodDatasets (length names) (map (dataset_meant (names_written datasets)) datasets)
 datasets_made names datasets few h of k =
     let all = names_written datasets in
     record {

@@ -5,7 +5,7 @@ use Rattle.std.specs.Option.{option_map, option_to_list}
 use Rattle.std.proofs.lemmas.List.{length-map, get_or-map, map-append, length-append, get_or_append_left, get_or-append-add}
 use Rattle.std.proofs.lemmas.List.Elements.{All-nil, All-cons, All-append, All-map, All-weaker}
 use Rattle.job_text.specs.declared.job.Part.{Part}
-use Rattle.job_text.specs.Jobs.{IsShortList, IsPart, IsDistinct, IsColumns, IsShape, shape_places}
+use Rattle.job_text.specs.Jobs.{IsShortList, IsAggregate, IsDistinct, IsColumns, IsShape, shape_places}
 use Rattle.job_text.specs.Grammar.{WrittenColumn, WrittenKey, WrittenAgg, WrittenShape}
 use Rattle.job_text.specs.Rules.{name_of, IsShortColumn, IsShortAgg, AreColumns, AreAggs, IsShapeRight, agg_of, agg_column, agg_named, column_names, agg_names, shape_names}
 use Rattle.job_text.specs.Meaning.{column_meant, key_meant, agg_meant, shape_meant}
@@ -81,7 +81,7 @@ module _ (names : List (List ℕ)) where
   agg_known (min_of column) h = one_known (name_of column) h
   agg_known (max_of column) h = one_known (name_of column) h
 
-  pub is_part : (agg : WrittenAgg) → KnowsAgg agg → IsPart (length names) (agg_meant names agg)
+  pub is_part : (agg : WrittenAgg) → KnowsAgg agg → IsAggregate (length names) (agg_meant names agg)
   is_part count h = record { column = refl; named = tt }
   is_part (sum_of column) h = record { column = refl; named = h }
   is_part (min_of column) h = record { column = refl; named = h }
@@ -106,11 +106,11 @@ module _ (names : List (List ℕ)) where
       both : agg_of one ≡ agg_of other → option_map name_of (agg_column one) ≡ option_map name_of (agg_column other) → agg_named one ≡ agg_named other
       both e f = rw (e, f) refl
 
-  pub aggs_meant : (aggs : List WrittenAgg) → AreAggs aggs → All (Knows names) (flat_map agg_names aggs) → IsShortList (map (agg_meant names) aggs) × All (IsPart (length names)) (map (agg_meant names) aggs) × IsDistinct (map (agg_meant names) aggs)
+  pub aggs_meant : (aggs : List WrittenAgg) → AreAggs aggs → All (Knows names) (flat_map agg_names aggs) → IsShortList (map (agg_meant names) aggs) × All (IsAggregate (length names)) (map (agg_meant names) aggs) × IsDistinct (map (agg_meant names) aggs)
   aggs_meant aggs h k =
       let all = All-weaker (λ agg. All (Knows names) (agg_names agg)) KnowsAgg agg_known aggs (All-items (Knows names) agg_names aggs k) in (
         short_list (agg_meant names) aggs h.several,
-        All-map (IsPart (length names)) (agg_meant names) aggs (All-weaker KnowsAgg (λ agg. IsPart (length names) (agg_meant names agg)) is_part aggs all),
+        All-map (IsAggregate (length names)) (agg_meant names) aggs (All-weaker KnowsAgg (λ agg. IsAggregate (length names) (agg_meant names agg)) is_part aggs all),
         distinct_by (agg_meant names) agg_named KnowsAgg same_agg aggs all h.distinct,
       )
 

@@ -8,7 +8,7 @@ use Rattle.job_text.specs.declared.job.Job.{Job}
 use Rattle.job_text.specs.declared.state.State.{State}
 use Rattle.job_text.specs.Step.{step, start}
 use Rattle.job_text.specs.Begins.{steps, job_at, job_of}
-use Rattle.job_text.specs.Text.{outcome, outcome_of, at_end, next_or, scan, read_of, Gives}
+use Rattle.job_text.specs.Text.{outcome, outcome_of, at_end, next_or, scan, read_of, ReadsLike}
 use Rattle.job_text.specs.Place.{only_tokens, IsRefusedAt, IsJobText, IsRefusal, IsFaultOf}
 use Rattle.job_text.specs.declared.fault.JobFault.{JobFault}
 use Rattle.job_text.specs.declared.fault.JobFault.TheVariants as faults
@@ -118,16 +118,16 @@ job_read text job h = short_is text h.short ∙ again (length text) (scan 0 0 te
 
 -- ---- what a function returned
 
-pub found_of : (text : List ℕ) (r : Result Job JobFault) → Gives r (read_of text) → IfOk r (λ job. IsJobText text job)
+pub found_of : (text : List ℕ) (r : Result Job JobFault) → ReadsLike r (read_of text) → IfOk r (λ job. IsJobText text job)
 found_of text (Ok job) h = is_job text job h
 found_of text (Err fault) h = tt
 
-pub only_of : (text : List ℕ) (r : Result Job JobFault) → Gives r (read_of text) → (job : Job) → IsJobText text job → Gives r (Ok job)
+pub only_of : (text : List ℕ) (r : Result Job JobFault) → ReadsLike r (read_of text) → (job : Job) → IsJobText text job → ReadsLike r (Ok job)
 only_of text (Ok other) h job is = sym (job_read text job is) ∙ h
 only_of text (Err faults.NoMemory) h job is = tt
 only_of text (Err (faults.BadJob place)) h job is = sym (job_read text job is) ∙ h
 
-pub refused_of : (text : List ℕ) (r : Result Job JobFault) → Gives r (read_of text) → IfErr r (λ fault. IsFaultOf text fault)
+pub refused_of : (text : List ℕ) (r : Result Job JobFault) → ReadsLike r (read_of text) → IfErr r (λ fault. IsFaultOf text fault)
 refused_of text (Ok job) h = tt
 refused_of text (Err faults.NoMemory) h = tt
 refused_of text (Err (faults.BadJob place)) h = refusal text place h

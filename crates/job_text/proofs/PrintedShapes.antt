@@ -22,7 +22,7 @@ use Rattle.job_text.specs.Scan.{is_plain}
 use Rattle.job_text.specs.Columns.{place_of}
 use Rattle.job_text.specs.FilterForms.{filter_places}
 use Rattle.job_text.specs.FilterPrinting.{filter_tokens}
-use Rattle.job_text.specs.Jobs.{IsShortList, IsPart, IsDistinct, IsColumns, IsShape, is_count, shape_places, dataset_places}
+use Rattle.job_text.specs.Jobs.{IsShortList, IsAggregate, IsDistinct, IsColumns, IsShape, is_count, shape_places, dataset_places}
 use Rattle.job_text.specs.Grammar.{WrittenColumn, WrittenKey, WrittenAgg, WrittenShape, WrittenSource, WrittenFilter, WrittenDataset, WrittenQuery, column_written, key_written, agg_written, shape_written, source_written, from_written, where_written, keep_written, dataset_written, query_written, optional, separated, ended_by}
 use Rattle.job_text.specs.Rules.{name_of, IsShortColumn, IsShortAgg, AreColumns, AreAggs, IsShapeRight, agg_named, column_names, agg_names, shape_names, filter_uses, dataset_uses}
 use Rattle.job_text.specs.Meaning.{column_meant, key_meant, agg_meant, shape_meant}
@@ -195,7 +195,7 @@ module _ (names : List (List ℕ)) where
     agg_back aggs.Max None h n = absurd (true≢false (sym h))
     agg_back aggs.Max (Some place) h n = ap (λ (p : ℕ). record { agg = aggs.Max; column = Some p }) (place_back place n)
 
-    part_back : (part : Part) → IsPart (length names) part → agg_meant names (agg_for part) ≡ part
+    part_back : (part : Part) → IsAggregate (length names) part → agg_meant names (agg_for part) ≡ part
     part_back part h = agg_back part.agg part.column h.column h.named
 
     agg_short : (agg : Agg) (column : Option ℕ) → IfSome column (λ c. c < length names) → IsShortAgg (agg_with agg column)
@@ -207,14 +207,14 @@ module _ (names : List (List ℕ)) where
     agg_short aggs.Max None n = tt
     agg_short aggs.Max (Some place) n = column_short place n
 
-    one_part : (one other : Part) → IsPart (length names) one → IsPart (length names) other → agg_named (agg_for one) ≡ agg_named (agg_for other) → one ≡ other
+    one_part : (one other : Part) → IsAggregate (length names) one → IsAggregate (length names) other → agg_named (agg_for one) ≡ agg_named (agg_for other) → one ≡ other
     one_part one other h g e = sym (part_back one h) ∙ named_meant names (agg_for one) (agg_for other) e ∙ part_back other g
 
-    parts_right : (parts : List Part) → IsShortList parts → All (IsPart (length names)) parts → IsDistinct parts → AreAggs (map agg_for parts)
+    parts_right : (parts : List Part) → IsShortList parts → All (IsAggregate (length names)) parts → IsDistinct parts → AreAggs (map agg_for parts)
     parts_right parts some fine d = record {
       several = short_list agg_for parts some;
       short = All-map IsShortAgg agg_for parts (λ k d lt. agg_short (get_or parts k d).agg (get_or parts k d).column (fine k d lt).named);
-      distinct = subst IsDistinct (sym (map_map agg_for agg_named parts)) (distinct_by (λ part. agg_named (agg_for part)) (λ part. part) (IsPart (length names)) one_part parts fine (subst IsDistinct (sym (map-id parts)) d));
+      distinct = subst IsDistinct (sym (map_map agg_for agg_named parts)) (distinct_by (λ part. agg_named (agg_for part)) (λ part. part) (IsAggregate (length names)) one_part parts fine (subst IsDistinct (sym (map-id parts)) d));
     }
 
     keys_back : (keys : List KeyItem) → All (λ c. c < length names) (map (λ key. key.column) keys) → map (key_meant names) (map key_of keys) ≡ keys

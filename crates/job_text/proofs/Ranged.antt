@@ -8,8 +8,8 @@ use Rattle.std.proofs.lemmas.Option.{cond_some}
 use Rattle.std.proofs.lemmas.Bool.{cases_Bool, or_left, and_from}
 use Rattle.std.proofs.lemmas.List.Elements.{All-nil, All-cons}
 use Rattle.aggregate.specs.Partial.{fits_i64}
-use Rattle.run_file.specs.Numbers.{number, is_number}
-use Rattle.run_file.specs.Numbers.{fits_i64 as fits_there}
+use Rattle.row_form.specs.Numbers.{number, is_number}
+use Rattle.row_form.specs.Numbers.{fits_i64 as fits_there}
 use Rattle.job_text.specs.declared.mark.Mark.{Mark}
 use Rattle.job_text.specs.declared.token.Token.{Token}
 use Rattle.job_text.specs.declared.token.Token.TheVariants.{Word, Whole}

@@ -15,7 +15,6 @@ use Rattle.job_text.specs.declared.job.Shape.{Shape}
 use Rattle.job_text.specs.declared.job.Shape.TheVariants as shapes
 use Rattle.job_text.specs.declared.job.Job.{Job}
 use Rattle.job_text.specs.declared.job.Query.{Query}
-use Rattle.pool_ledger.specs.declared.entry.Level.{Level}
 use Rattle.job_text.specs.declared.state.At.{At}
 use Rattle.job_text.specs.declared.state.At.TheVariants as at
 use Rattle.job_text.specs.declared.state.Read.{Read}
@@ -28,7 +27,6 @@ use Rattle.job_text.specs.Rules.{dataset_uses, query_names, IsSourceRight, AreDa
 use Rattle.job_text.specs.Meaning.{column_meant, key_meant, agg_meant}
 use Rattle.job_text.specs.Grammar.{word, in_quotes, count, input, by_name}
 use Rattle.job_text.specs.Printing.{agg_mark}
-use Rattle.row_filter.specs.declared.filter.Filter.{Filter}
 use Rattle.job_text.proofs.Fitting.{put}
 use Rattle.job_text.proofs.Named.{place_now, with_names-append}
 use Rattle.job_text.proofs.Names.{Reaches, reaches}

@@ -1,6 +1,6 @@
 -- Each token that is read of a dataset keeps what was read written.
 use Rattle.std.proofs.Common.{◌≡◌, ℕ, ◌+◌, ◌<◌, Bool, true, false, cond, List, [], ◌∷◌, ◌++◌, length, Option, Some, None, refl, sym, ap, subst, ◌∙◌, append_assoc, arith, ◌&&◌}
-use Rattle.std.specs.Prelude.{All, IfSome, flat_map, option_and_then, nat_lt, nat_le, not}
+use Rattle.std.specs.Prelude.{IfSome, flat_map, option_and_then, nat_lt, nat_le, not}
 use Rattle.std.proofs.lemmas.Bool.{ltb-true, not-true, and_parts, leb-true}
 use Rattle.std.proofs.lemmas.List.{append-nil, length-append, length-map, map-append}
 use Rattle.std.proofs.lemmas.List.Elements.{All-push}

@@ -23,7 +23,7 @@ use Rattle.job_text.specs.Step.{step, start, key, named, query_of, made_from, fi
 use Rattle.std.specs.Prelude.{All}
 use Rattle.std.proofs.lemmas.List.Elements.{All-nil, All-cons, All-append}
 use Rattle.job_text.specs.Scan.{IsSpelled}
-use Rattle.job_text.specs.Begins.{steps, job_at, Begins}
+use Rattle.job_text.specs.Begins.{steps, job_at, LeadsToJob}
 use Rattle.row_filter.specs.declared.filter.Filter.{Filter}
 use Rattle.job_text.specs.declared.filter_state.FilterState.{FilterState}
 use Rattle.job_text.specs.FilterStep.{filter_at}
@@ -257,7 +257,7 @@ begins_from : (o : Option State) → IfSome o Fits → IsSome o → (rest : List
 begins_from None f h = absurd (cc)
 begins_from (Some s) f h = viable s f
 
-pub begins : (ts : List Token) → IsSome (steps start ts) → Begins ts
+pub begins : (ts : List Token) → IsSome (steps start ts) → LeadsToJob ts
 begins ts h =
     let v = begins_from (steps start ts) (steps_fit ts start tt) h in
     (v.0, v.1, rw (steps-append ts v.0 start) v.2)
@@ -266,5 +266,5 @@ taken_from : (o : Option State) (rest : List Token) → IsSome (job_at (option_a
 taken_from None rest h = h
 taken_from (Some s) rest h = refl
 
-pub taken : (ts : List Token) → Begins ts → IsSome (steps start ts)
+pub taken : (ts : List Token) → LeadsToJob ts → IsSome (steps start ts)
 taken ts b = taken_from (steps start ts) b.0 (rw (steps-append ts b.0 start) at b.2)

@@ -29,5 +29,5 @@ abbrev pub job_of : List Token → Option Job
 job_of ts = job_at (steps start ts)
 
 -- some tokens that a text may have go on from these to a job
-abbrev pub Begins : List Token → Type 0
-Begins ts = (rest : List Token) × All IsSpelled rest × IsSome (job_of (ts ++ rest))
+abbrev pub LeadsToJob : List Token → Type 0
+LeadsToJob ts = (rest : List Token) × All IsSpelled rest × IsSome (job_of (ts ++ rest))

@@ -35,8 +35,8 @@ ReadFiltersAreFilters =
     → IsFilter (length all) filter × (map (λ p. slice_index_or all p []) (filter_places filter) ≡ used)
 
 -- behind tokens that are read some others of a text go on to a whole filter
-abbrev pub StatesGoOn : Type 0
-StatesGoOn =
+abbrev pub FiltersGoOn : Type 0
+FiltersGoOn =
     (names later : List (List ℕ)) (ts : List Token) (s : FilterState)
     → filter_steps names filter_start ts ≡ Some (later, s)
     → (rest : List Token) × All IsSpelled rest × (final : List (List ℕ)) × (last : FilterState)

@@ -14,6 +14,7 @@ pub data WrittenColumn : Type 0 where
   word : List ℕ → WrittenColumn
   in_quotes : List ℕ → WrittenColumn
 
+-- the token of a column: the word, or the name in quotes
 abbrev pub column_written : WrittenColumn → List Token
 column_written (word name) = Word name ∷ []
 column_written (in_quotes name) = Quoted name ∷ []
@@ -28,6 +29,7 @@ pub record WrittenKey : Type 0 where
   pub column : WrittenColumn
   pub down : Bool
 
+-- the tokens of a key: its column, and the words around it that aren't left out
 abbrev pub key_written : WrittenKey → List Token
 key_written key = optional key.number marks.Number ++ column_written key.column ++ optional key.down marks.Down
 
@@ -38,6 +40,7 @@ pub data WrittenAgg : Type 0 where
   min_of : WrittenColumn → WrittenAgg
   max_of : WrittenColumn → WrittenAgg
 
+-- the tokens of an aggregate: its word, and its column where it has one
 abbrev pub agg_written : WrittenAgg → List Token
 agg_written count = Fixed marks.Count ∷ []
 agg_written (sum_of column) = Fixed marks.Sum ∷ column_written column
@@ -56,6 +59,7 @@ pub data WrittenShape : Type 0 where
   group : List WrittenColumn → List WrittenAgg → WrittenShape
   order : List WrittenKey → List WrittenColumn → WrittenShape
 
+-- the tokens of a shape: its word, and its two lists with a colon between them
 abbrev pub shape_written : WrittenShape → List Token
 shape_written (group columns aggs) =
     Fixed marks.Group ∷ separated marks.Comma column_written columns
@@ -69,6 +73,7 @@ pub data WrittenSource : Type 0 where
   input : WrittenSource
   by_name : List ℕ → WrittenSource
 
+-- the token of a source: the reserved word for the input, or the name of a dataset
 abbrev pub source_written : WrittenSource → List Token
 source_written input = Fixed marks.Input ∷ []
 source_written (by_name name) = Word name ∷ []
@@ -83,6 +88,7 @@ pub record WrittenQuery : Type 0 where
   pub shape : WrittenShape
   pub source : Option WrittenSource
 
+-- the tokens of a query: those of its shape, and its source behind `from` where that isn't left out
 abbrev pub query_written : WrittenQuery → List Token
 query_written query = shape_written query.shape ++ from_written query.source
 
@@ -114,6 +120,7 @@ pub record WrittenDataset : Type 0 where
   pub filter : Option WrittenFilter
   pub level : Option Level
 
+-- the tokens of a dataset: its name and its source, then its filter and its level where it has them
 abbrev pub dataset_written : WrittenDataset → List Token
 dataset_written dataset =
     Fixed marks.Let ∷ Word dataset.name ∷ Fixed marks.Equal ∷ source_written dataset.source
@@ -129,6 +136,7 @@ pub record WrittenJob : Type 0 where
   pub datasets : List WrittenDataset
   pub queries : List WrittenQuery
 
+-- the tokens of a job: the datasets, each with a semicolon behind it, and the queries, with one between two
 abbrev pub job_written : WrittenJob → List Token
 job_written job =
     ended_by marks.Semicolon dataset_written job.datasets ++ separated marks.Semicolon query_written job.queries

@@ -27,7 +27,7 @@ is_count Min = false
 is_count Max = false
 
 -- an aggregate has a column exactly where it isn't the count, and the column is one of so many names
-pub record IsPart (names : ℕ) (part : Part) : Type 0 where
+pub record IsAggregate (names : ℕ) (part : Part) : Type 0 where
   pub column : is_some part.column ≡ not (is_count part.agg)
   pub named : IfSome part.column (λ column. column < names)
 
@@ -44,7 +44,7 @@ pub record IsColumns (names : ℕ) (columns : List ℕ) : Type 0 where
 -- a shape's lists are short, and its columns are among so many names; in each list and among the keys none
 -- stands twice
 abbrev pub IsShape : ℕ → Shape → Type 0
-IsShape names (Group columns parts) = IsColumns names columns × IsShortList parts × All (IsPart names) parts × IsDistinct parts
+IsShape names (Group columns parts) = IsColumns names columns × IsShortList parts × All (IsAggregate names) parts × IsDistinct parts
 IsShape names (Order keys columns) = IsColumns names (map (λ key. key.column) keys) × IsColumns names columns
 
 -- a query over one of so many datasets beside the input
@@ -69,7 +69,7 @@ columns_named job =
 
 -- datasets: a name is a word that isn't reserved, of at most 64 bytes, and none has the name of another; each is
 -- made of the input or of one before it, by a filter over so many columns or none
-pub record AreMade (names : ℕ) (datasets : List Dataset) : Type 0 where
+pub record AreGoodDatasets (names : ℕ) (datasets : List Dataset) : Type 0 where
   pub few : length datasets ≤ 8
   pub short : All (λ dataset. length dataset.name ≤ 64) datasets
   pub new : IsDistinct (map (λ dataset. dataset.name) datasets)
@@ -86,6 +86,6 @@ pub record IsJob (job : Job) : Type 0 where
   pub names : All (λ name. length name ≤ 1024) job.names
   pub first : with_names [] (columns_named job) ≡ job.names
   pub distinct : IsDistinct job.names
-  pub datasets : AreMade (length job.names) job.datasets
+  pub datasets : AreGoodDatasets (length job.names) job.datasets
   pub several : IsShortList job.queries
   pub queries : All (IsQuery (length job.names) (length job.datasets)) job.queries

@@ -5,7 +5,7 @@ use Rattle.job_text.specs.declared.token.Token.{Token}
 use Rattle.job_text.specs.declared.job.Job.{Job}
 use Rattle.job_text.specs.declared.fault.JobFault.{JobFault}
 use Rattle.job_text.specs.declared.fault.JobFault.TheVariants as faults
-use Rattle.job_text.specs.Begins.{job_of, Begins}
+use Rattle.job_text.specs.Begins.{job_of, LeadsToJob}
 use Rattle.job_text.specs.Text.{scan}
 
 -- the tokens without their places
@@ -15,9 +15,9 @@ only_tokens ts = map (λ t. t.0) ts
 -- the first token with which the tokens begin no job; where there is none, the byte that begins no token, or the end
 pub data IsRefusedAt (len : ℕ) (tokens : List (Token × ℕ)) (stop : Option ℕ) (place : ℕ) : Type 0 where
   at_token : (before after : List (Token × ℕ)) (t : Token) → tokens ≡ before ++ (t, place) ∷ after
-      → Begins (only_tokens before) → (Begins (only_tokens before ++ t ∷ []) → ⊥) → IsRefusedAt len tokens stop place
-  at_stop : stop ≡ Some place → Begins (only_tokens tokens) → IsRefusedAt len tokens stop place
-  at_end : stop ≡ None → Begins (only_tokens tokens) → job_of (only_tokens tokens) ≡ None → place ≡ len → IsRefusedAt len tokens stop place
+      → LeadsToJob (only_tokens before) → (LeadsToJob (only_tokens before ++ t ∷ []) → ⊥) → IsRefusedAt len tokens stop place
+  at_stop : stop ≡ Some place → LeadsToJob (only_tokens tokens) → IsRefusedAt len tokens stop place
+  at_end : stop ≡ None → LeadsToJob (only_tokens tokens) → job_of (only_tokens tokens) ≡ None → place ≡ len → IsRefusedAt len tokens stop place
 
 -- the text's tokens are a job
 pub record IsJobText (text : List ℕ) (job : Job) : Type 0 where

@@ -30,5 +30,5 @@ with_tokens sheet [] = sheet
 with_tokens sheet (token ∷ more) = with_tokens (with_token sheet token) more
 
 -- a call wrote these tokens, unless memory ran out
-abbrev pub Writes : {A E : Type 0} → Sheet → Sheet → Result A E → List Token → Type 0
-Writes before after result tokens = IfOk result (λ _. after ≡ with_tokens before tokens)
+abbrev pub WritesTokens : {A E : Type 0} → Sheet → Sheet → Result A E → List Token → Type 0
+WritesTokens before after result tokens = IfOk result (λ _. after ≡ with_tokens before tokens)

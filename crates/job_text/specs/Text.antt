@@ -62,6 +62,6 @@ Refuses faults.NoMemory read = ⊤
 Refuses (faults.BadJob place) read = read ≡ Err place
 
 -- what a function returned is what reading gives, unless memory ran out
-abbrev pub Gives : Result Job JobFault → Result Job ℕ → Type 0
-Gives (Ok job) read = read ≡ Ok job
-Gives (Err fault) read = Refuses fault read
+abbrev pub ReadsLike : Result Job JobFault → Result Job ℕ → Type 0
+ReadsLike (Ok job) read = read ≡ Ok job
+ReadsLike (Err fault) read = Refuses fault read

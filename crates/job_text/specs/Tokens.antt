@@ -2,7 +2,7 @@
 -- This project's own.
 use Rattle.std.specs.Prelude.{◌≡◌, ◌↔◌, ℕ, ◌≤◌, List, [], ◌∷◌, ◌++◌, length, take, true, Some}
 use Rattle.std.specs.List.{list_all}
-use Rattle.run_file.specs.Numbers.{number}
+use Rattle.row_form.specs.Numbers.{number}
 use Rattle.job_text.specs.declared.mark.Mark.{Mark}
 use Rattle.job_text.specs.declared.token.Token.{Token}
 use Rattle.job_text.specs.declared.token.Token.TheVariants.{Fixed, Word, Quoted, Text, Whole}

@@ -1,6 +1,6 @@
 //! Laws of filters in the language.
 
-ghost use Rattle.job_text.specs.FilterLaws.{FiltersAreRead, FiltersAreWritten, PrintedFiltersAreWritten, ReadFiltersAreFilters, StatesGoOn};
+ghost use Rattle.job_text.specs.FilterLaws.{FiltersAreRead, FiltersAreWritten, PrintedFiltersAreWritten, ReadFiltersAreFilters, FiltersGoOn};
 
 /// What the grammar has as a filter is read as that filter.
 pub fn filters_are_read()
@@ -19,7 +19,7 @@ pub fn filters_are_fine()
 
 /// Tokens that are read go on to a whole filter.
 pub fn filters_go_on()
-    ensures { StatesGoOn }
+    ensures { FiltersGoOn }
 {}
 
 /// A filter's printed tokens are that filter to the grammar.

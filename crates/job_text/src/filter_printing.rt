@@ -3,7 +3,7 @@
 ghost use Rattle.std.specs.Prelude.{◌≡◌, ◌<◌, All, IfOk, length};
 ghost use Rattle.job_text.specs.FilterForms.{filter_places, list_places};
 ghost use Rattle.job_text.specs.FilterPrinting.{constant_token, filter_tokens, list_tokens, printed_filter, printed_in, test_mark};
-ghost use Rattle.job_text.specs.Sheets.{Writes, with_token};
+ghost use Rattle.job_text.specs.Sheets.{WritesTokens, with_token};
 
 use crate::mark::Mark;
 use crate::printer::Printer;
@@ -44,7 +44,7 @@ fn print_items(
     as_units: bool,
 ) -> Result<(), AllocError>
     requires named { All (λ column. column < length names.now) (list_places items.now) }
-    ensures { Writes printer.old printer.new result (list_tokens names.now sign as_units items.now) }
+    ensures { WritesTokens printer.old printer.new result (list_tokens names.now sign as_units items.now) }
 {
     for i in 0..items.len() {
         print_sign(printer, i, sign)?;
@@ -62,7 +62,7 @@ fn print_as(
     as_unit: bool,
 ) -> Result<(), AllocError>
     requires named { All (λ column. column < length names.now) (filter_places filter.now) }
-    ensures { Writes printer.old printer.new result (printed_in as_unit (printed_filter names.now filter.now)) }
+    ensures { WritesTokens printer.old printer.new result (printed_in as_unit (printed_filter names.now filter.now)) }
 {
     match filter {
         Filter::Test {
@@ -99,7 +99,7 @@ pub(crate) fn print_filter(
     filter: &Filter,
 ) -> Result<(), AllocError>
     requires named { All (λ column. column < length names.now) (filter_places filter.now) }
-    ensures { Writes printer.old printer.new result (filter_tokens names.now filter.now) }
+    ensures { WritesTokens printer.old printer.new result (filter_tokens names.now filter.now) }
 {
     print_as(printer, names, filter, false)
 }

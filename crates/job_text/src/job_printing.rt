@@ -5,11 +5,11 @@ ghost use Rattle.job_text.specs.declared.mark.Mark.TheVariants as marks;
 ghost use Rattle.job_text.specs.declared.token.Token.TheVariants.{Fixed};
 ghost use Rattle.job_text.specs.Columns.{dataset_names};
 ghost use Rattle.job_text.specs.FilterForms.{IsFilter};
-ghost use Rattle.job_text.specs.Jobs.{AreMade, IsJob, IsQuery, IsShape};
+ghost use Rattle.job_text.specs.Jobs.{AreGoodDatasets, IsJob, IsQuery, IsShape};
 ghost use Rattle.job_text.specs.Grammar.{ended_by, keep_written, level_written, separated};
 ghost use Rattle.job_text.specs.JobPrinting.{dataset_tokens, from_tokens, printed, query_tokens, source_token, where_tokens};
 ghost use Rattle.job_text.specs.Place.{IsJobText};
-ghost use Rattle.job_text.specs.Sheets.{Writes};
+ghost use Rattle.job_text.specs.Sheets.{WritesTokens};
 
 use crate::filter_printing::print_filter;
 use crate::job::{Dataset, Job, Query};
@@ -34,7 +34,7 @@ fn mark_of(level: Level) -> Mark
 #[tactic(auto, unfolding(crate::specs::Sheets::with_tokens))]
 fn print_source(printer: &mut Printer, datasets: &[Dataset], number: u32) -> Result<(), AllocError>
     requires there { number ≤ length datasets.now }
-    ensures { Writes printer.old printer.new result (source_token (dataset_names datasets.now) number ∷ []) }
+    ensures { WritesTokens printer.old printer.new result (source_token (dataset_names datasets.now) number ∷ []) }
 {
     if number == 0 {
         printer.mark(Mark::Input)?;
@@ -51,7 +51,7 @@ fn print_where(
     filter: &Option<Filter>,
 ) -> Result<(), AllocError>
     requires fine { IfSome filter.now (IsFilter (length names.now)) }
-    ensures { Writes printer.old printer.new result (where_tokens names.now filter.now) }
+    ensures { WritesTokens printer.old printer.new result (where_tokens names.now filter.now) }
 {
     match filter {
         Some(filter) => {
@@ -64,7 +64,7 @@ fn print_where(
 
 #[tactic(auto, unfolding(crate::specs::Sheets::with_tokens))]
 fn print_level(printer: &mut Printer, level: Option<Level>) -> Result<(), AllocError>
-    ensures { Writes printer.old printer.new result (keep_written level) }
+    ensures { WritesTokens printer.old printer.new result (keep_written level) }
 {
     match level {
         Some(level) => {
@@ -83,7 +83,8 @@ fn print_dataset(
 ) -> Result<(), AllocError>
     requires source { dataset.now.parent ≤ length datasets.now }
     requires fine { IfSome dataset.now.filter (IsFilter (length names.now)) }
-    ensures { Writes printer.old printer.new result (dataset_tokens names.now (dataset_names datasets.now) dataset.now) }
+    ensures { WritesTokens printer.old printer.new result
+        (dataset_tokens names.now (dataset_names datasets.now) dataset.now) }
 {
     printer.mark(Mark::Let)?;
     printer.word(&dataset.name)?;
@@ -99,8 +100,9 @@ fn print_datasets(
     names: &[Name],
     datasets: &[Dataset],
 ) -> Result<(), AllocError>
-    requires made { AreMade (length names.now) datasets.now }
-    ensures { Writes printer.old printer.new result (ended_by marks.Semicolon (dataset_tokens names.now (dataset_names datasets.now)) datasets.now) }
+    requires made { AreGoodDatasets (length names.now) datasets.now }
+    ensures { WritesTokens printer.old printer.new result
+        (ended_by marks.Semicolon (dataset_tokens names.now (dataset_names datasets.now)) datasets.now) }
 {
     for i in 0..datasets.len() {
         print_dataset(printer, names, datasets, &datasets[i])?;
@@ -112,7 +114,7 @@ fn print_datasets(
 #[tactic(auto, unfolding(crate::specs::Sheets::with_tokens))]
 fn print_from(printer: &mut Printer, datasets: &[Dataset], number: u32) -> Result<(), AllocError>
     requires there { number ≤ length datasets.now }
-    ensures { Writes printer.old printer.new result (from_tokens (dataset_names datasets.now) number) }
+    ensures { WritesTokens printer.old printer.new result (from_tokens (dataset_names datasets.now) number) }
 {
     if number == 0 {
         return Ok(());
@@ -129,7 +131,8 @@ fn print_query(
     query: &Query,
 ) -> Result<(), AllocError>
     requires fine { IsQuery (length names.now) (length datasets.now) query.now }
-    ensures { Writes printer.old printer.new result (query_tokens names.now (dataset_names datasets.now) query.now) }
+    ensures { WritesTokens printer.old printer.new result
+        (query_tokens names.now (dataset_names datasets.now) query.now) }
 {
     print_shape(printer, names, &query.shape)?;
     print_from(printer, datasets, query.dataset)?;
@@ -143,7 +146,8 @@ fn print_queries(
     queries: &[Query],
 ) -> Result<(), AllocError>
     requires fine { All (IsQuery (length names.now) (length datasets.now)) queries.now }
-    ensures { Writes printer.old printer.new result (separated marks.Semicolon (query_tokens names.now (dataset_names datasets.now)) queries.now) }
+    ensures { WritesTokens printer.old printer.new result
+        (separated marks.Semicolon (query_tokens names.now (dataset_names datasets.now)) queries.now) }
 {
     for i in 0..queries.len() {
         print_sign(printer, i, Mark::Semicolon)?;

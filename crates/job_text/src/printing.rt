@@ -2,10 +2,10 @@
 
 ghost use Rattle.std.specs.Prelude.{◌≡◌, ◌<◌, All, IfSome, length};
 ghost use Rattle.job_text.specs.declared.mark.Mark.TheVariants as marks;
-ghost use Rattle.job_text.specs.Jobs.{IsPart, IsShape};
+ghost use Rattle.job_text.specs.Jobs.{IsAggregate, IsShape};
 ghost use Rattle.job_text.specs.Grammar.{separated, optional};
 ghost use Rattle.job_text.specs.Printing.{agg_mark, agg_column_tokens, key_tokens, part_tokens, place_tokens, shape_tokens, sign_before};
-ghost use Rattle.job_text.specs.Sheets.{Writes};
+ghost use Rattle.job_text.specs.Sheets.{WritesTokens};
 
 use crate::job::{KeyItem, Part, Shape};
 use crate::mark::Mark;
@@ -28,7 +28,7 @@ fn mark_of(agg: Agg) -> Mark
 /// Adds the sign before an item that isn't the first.
 #[tactic(auto, unfolding(crate::specs::Sheets::with_tokens))]
 pub(crate) fn print_sign(printer: &mut Printer, place: usize, sign: Mark) -> Result<(), AllocError>
-    ensures { Writes printer.old printer.new result (sign_before place sign) }
+    ensures { WritesTokens printer.old printer.new result (sign_before place sign) }
 {
     if place > 0 {
         printer.mark(sign)?;
@@ -38,7 +38,7 @@ pub(crate) fn print_sign(printer: &mut Printer, place: usize, sign: Mark) -> Res
 
 #[tactic(auto, unfolding(crate::specs::Sheets::with_tokens))]
 pub(crate) fn print_word(printer: &mut Printer, written: bool, word: Mark) -> Result<(), AllocError>
-    ensures { Writes printer.old printer.new result (optional written word) }
+    ensures { WritesTokens printer.old printer.new result (optional written word) }
 {
     if written {
         printer.mark(word)?;
@@ -53,7 +53,7 @@ pub(crate) fn print_column(
     column: u32,
 ) -> Result<(), AllocError>
     requires named { column < length names.now }
-    ensures { Writes printer.old printer.new result (place_tokens names.now column) }
+    ensures { WritesTokens printer.old printer.new result (place_tokens names.now column) }
 {
     printer.column(&names[column as usize])?;
     Ok(())
@@ -61,7 +61,7 @@ pub(crate) fn print_column(
 
 fn print_columns(printer: &mut Printer, names: &[Name], columns: &[u32]) -> Result<(), AllocError>
     requires named { All (λ column. column < length names.now) columns.now }
-    ensures { Writes printer.old printer.new result (separated marks.Comma (place_tokens names.now) columns.now) }
+    ensures { WritesTokens printer.old printer.new result (separated marks.Comma (place_tokens names.now) columns.now) }
 {
     for i in 0..columns.len() {
         print_sign(printer, i, Mark::Comma)?;
@@ -72,8 +72,8 @@ fn print_columns(printer: &mut Printer, names: &[Name], columns: &[u32]) -> Resu
 
 #[tactic(auto, unfolding(crate::specs::Sheets::with_tokens))]
 fn print_part(printer: &mut Printer, names: &[Name], part: Part) -> Result<(), AllocError>
-    requires fine { IsPart (length names.now) part }
-    ensures { Writes printer.old printer.new result (part_tokens names.now part) }
+    requires fine { IsAggregate (length names.now) part }
+    ensures { WritesTokens printer.old printer.new result (part_tokens names.now part) }
 {
     printer.mark(mark_of(part.agg))?;
     match part.column {
@@ -83,8 +83,8 @@ fn print_part(printer: &mut Printer, names: &[Name], part: Part) -> Result<(), A
 }
 
 fn print_parts(printer: &mut Printer, names: &[Name], parts: &[Part]) -> Result<(), AllocError>
-    requires fine { All (IsPart (length names.now)) parts.now }
-    ensures { Writes printer.old printer.new result (separated marks.Comma (part_tokens names.now) parts.now) }
+    requires fine { All (IsAggregate (length names.now)) parts.now }
+    ensures { WritesTokens printer.old printer.new result (separated marks.Comma (part_tokens names.now) parts.now) }
 {
     for i in 0..parts.len() {
         print_sign(printer, i, Mark::Comma)?;
@@ -95,7 +95,7 @@ fn print_parts(printer: &mut Printer, names: &[Name], parts: &[Part]) -> Result<
 
 fn print_key(printer: &mut Printer, names: &[Name], key: KeyItem) -> Result<(), AllocError>
     requires named { key.column < length names.now }
-    ensures { Writes printer.old printer.new result (key_tokens names.now key) }
+    ensures { WritesTokens printer.old printer.new result (key_tokens names.now key) }
 {
     print_word(printer, key.number, Mark::Number)?;
     print_column(printer, names, key.column)?;
@@ -105,7 +105,7 @@ fn print_key(printer: &mut Printer, names: &[Name], key: KeyItem) -> Result<(), 
 
 fn print_keys(printer: &mut Printer, names: &[Name], keys: &[KeyItem]) -> Result<(), AllocError>
     requires named { All (λ key. key.column < length names.now) keys.now }
-    ensures { Writes printer.old printer.new result (separated marks.Comma (key_tokens names.now) keys.now) }
+    ensures { WritesTokens printer.old printer.new result (separated marks.Comma (key_tokens names.now) keys.now) }
 {
     for i in 0..keys.len() {
         print_sign(printer, i, Mark::Comma)?;
@@ -120,7 +120,7 @@ pub(crate) fn print_shape(
     shape: &Shape,
 ) -> Result<(), AllocError>
     requires fine { IsShape (length names.now) shape.now }
-    ensures { Writes printer.old printer.new result (shape_tokens names.now shape.now) }
+    ensures { WritesTokens printer.old printer.new result (shape_tokens names.now shape.now) }
 {
     match shape {
         Shape::Group { columns, parts } => {

@@ -4,7 +4,7 @@ ghost use Rattle.std.specs.Prelude.{◌≡◌, ◌≤◌, length, IfOk, IfErr, O
 ghost use Rattle.job_text.specs.declared.job.Job.{Job};
 ghost use Rattle.job_text.specs.Step.{start as start_state, last_query as query_at};
 ghost use Rattle.job_text.specs.Begins.{job_at};
-ghost use Rattle.job_text.specs.Text.{read_of, Gives, outcome_of, scan};
+ghost use Rattle.job_text.specs.Text.{read_of, ReadsLike, outcome_of, scan};
 ghost use Rattle.job_text.specs.Place.{IsJobText, IsFaultOf};
 ghost use Rattle.job_text.specs.Jobs.{IsJob};
 
@@ -61,7 +61,7 @@ fn finish(state: State) -> Result<Option<Job>, AllocError>
 
 fn read_short(alloc: Global, text: &str) -> Result<Job, JobFault>
     requires short { length text.now ≤ 16384 }
-    ensures { Gives result (outcome_of (length text.now) start_state (scan 0 0 text.now)) }
+    ensures { ReadsLike result (outcome_of (length text.now) start_state (scan 0 0 text.now)) }
 {
     let mut state = start(alloc);
     let mut at = 0;
@@ -87,7 +87,7 @@ fn read_short(alloc: Global, text: &str) -> Result<Job, JobFault>
 
 #[tactic(auto, unfolding(crate::specs::Text::read_of))]
 fn read_all(alloc: Global, text: &str) -> Result<Job, JobFault>
-    ensures { Gives result (read_of text.now) }
+    ensures { ReadsLike result (read_of text.now) }
 {
     if text.len() > MAX_LENGTH {
         return Err(JobFault::BadJob { place: 16_384 });
@@ -101,11 +101,11 @@ fn read_all(alloc: Global, text: &str) -> Result<Job, JobFault>
 /// Programs read their job with it.
 pub fn read(alloc: Global, text: &str) -> Result<Job, JobFault>
     // The computing definition; memory may run out.
-    ensures gives { Gives result (read_of text.now) }
+    ensures gives { ReadsLike result (read_of text.now) }
     // What is read is the job of the text.
     ensures found { IfOk result (λ job. IsJobText text.now job) }
     // A job's text is read, unless memory runs out.
-    ensures only { (job : Job) → IsJobText text.now job → Gives result (Ok job) }
+    ensures only { (job : Job) → IsJobText text.now job → ReadsLike result (Ok job) }
     // What is refused stops beginning a job at that place.
     ensures refused { IfErr result (λ fault. IsFaultOf text.now fault) }
 

@@ -8,7 +8,7 @@ ghost use Rattle.job_text.specs.Scan.{is_blank as blank_test, is_digit as digit_
 use crate::mark::Mark;
 use crate::token::Token;
 use item_lists::Name;
-use run_file::parse_number;
+use row_form::parse_number;
 use std::alloc::{AllocError, Global};
 
 fn is_digit(b: u8) -> bool

@@ -1,16 +1,15 @@
 -- A block that isn't in memory, and whose dataset none of the pending evictions is of, wasn't there before them.
-use Rattle.std.proofs.Common.{ℕ, ◌≡◌, ◌≢◌, ◌++◌, ◌∷◌, [], List, Option, Some, None, Bool, true, false, not, cond, ◌&&◌, ◌||◌, map, unwrap_or, inl, inr, arith, rules, sym, ◌∙◌, refl, ap, subst}
+use Rattle.std.proofs.Common.{ℕ, ◌≡◌, ◌≢◌, ◌++◌, ◌∷◌, [], List, Option, Some, None, Bool, true, false, not, cond, ◌&&◌, map, unwrap_or, inl, inr, sym, ◌∙◌, refl, ap, subst}
 use Rattle.std.specs.Prelude.{nat_eq, nat_le, ◌+◌, ◌-◌, if◌then◌else◌}
 use Rattle.std.specs.List.{filter, list_any}
 use Rattle.std.proofs.lemmas.Bool.{cases_Bool, eqb-true, eq-eqb, cond-false, cond-true}
-use Rattle.pool_ledger.specs.declared.entry.Entry.{Entry}
 use Rattle.pool_ledger.specs.declared.entry.Event.{Event}
 use Rattle.pool_ledger.specs.declared.entry.Event.TheVariants.{Evict}
 use Rattle.pool_ledger.specs.Sizes.{Sizes, block_limit_of}
 use Rattle.pool_ledger.specs.History.{History, exec, execution_free, maximum}
 use Rattle.pool_ledger.specs.Blocks.{Resident, is_block, is_resident, residents, is_pinned, is_excepted, evictable, sizes, storage_free, victims}
 use Rattle.pool_ledger.specs.Answers.{Admission, admission, borrowed_for}
-use Rattle.pool_ledger.specs.Legal.{Evicted, evicted_by, evicted_of, is_eviction, pending, settled}
+use Rattle.pool_ledger.specs.Legal.{Evicted, evicted_by, evicted_of, pending, settled}
 use Rattle.pool_ledger.proofs.Tasks.{entry_of}
 use Rattle.pool_plans.proofs.Mapped.{front_first}
 use Rattle.journal_audit.proofs.Tests.{and_both, not_off, or_off, off_or}

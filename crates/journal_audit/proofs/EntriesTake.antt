@@ -1,12 +1,12 @@
 -- What is read as an entry is its text, and the entry fits.
-use Rattle.std.proofs.Common.{ℕ, ◌≡◌, ◌++◌, inl, inr, ◌∷◌, [], List, Option, Some, None, decimal, codes, true, sym, ◌∙◌, ap, subst}
+use Rattle.std.proofs.Common.{ℕ, ◌≡◌, ◌++◌, inl, inr, ◌∷◌, [], List, Some, decimal, codes, true, ◌∙◌, ap, subst}
 use Rattle.std.specs.Str.{bytes_eq}
 use Rattle.pool_ledger.specs.declared.entry.Entry.{Entry}
-use Rattle.journal_audit.specs.Text.{field, joined, got_text, fate_word, level_word, form_word, entry_text, Fits}
-use Rattle.journal_audit.specs.Fields.{◌>>=◌, split, short_at, long_at, got_at, fate_at, level_at, form_at, ended}
+use Rattle.journal_audit.specs.Text.{field, fields_joined, got_text, fate_word, level_word, form_word, entry_text, Fits}
+use Rattle.journal_audit.specs.Fields.{split, short_at, long_at, got_at, fate_at, level_at, form_at}
 use Rattle.journal_audit.specs.Entries.{begin_at, attempt_at, release_at, end_at, evict_at, admit_at, refused_at, pin_at, unpin_at, remove_at, block_word, task_word, entry_at}
 use Rattle.journal_audit.proofs.Wholes.{same_bytes}
-use Rattle.journal_audit.proofs.FieldsTake.{bind_some, chosen, some_is, split_takes, short_takes, long_takes, got_takes, fate_takes, level_takes, form_takes, ended_takes}
+use Rattle.journal_audit.proofs.FieldsTake.{bind_some, chosen, split_takes, short_takes, long_takes, got_takes, fate_takes, level_takes, form_takes, ended_takes}
 
 -- what is read behind `begin` is spelled so
 begin_takes : (bytes : List ℕ) (entry : Entry) → begin_at bytes ≡ Some entry → Fits entry × (codes "begin" ++ bytes ≡ entry_text entry)
@@ -17,8 +17,8 @@ begin_takes bytes entry h =
     let done = ended_takes _ entry task.0.1 task.2 in
     let is_worker = short_takes bytes worker.0 worker.1 in
     let is_task = short_takes worker.0.1 task.0 task.1 in
-    let from_task : worker.0.1 ≡ joined (decimal task.0.0 ∷ []) = is_task.1 ∙ ap (λ x. field (decimal task.0.0) ++ x) done.0 in
-    let from_worker : bytes ≡ joined (decimal worker.0.0 ∷ decimal task.0.0 ∷ []) = is_worker.1 ∙ ap (λ x. field (decimal worker.0.0) ++ x) from_task in
+    let from_task : worker.0.1 ≡ fields_joined (decimal task.0.0 ∷ []) = is_task.1 ∙ ap (λ x. field (decimal task.0.0) ++ x) done.0 in
+    let from_worker : bytes ≡ fields_joined (decimal worker.0.0 ∷ decimal task.0.0 ∷ []) = is_worker.1 ∙ ap (λ x. field (decimal worker.0.0) ++ x) from_task in
     subst (λ v. Fits v × (codes "begin" ++ bytes ≡ entry_text v)) done.1 (record { worker = is_worker.0; event = is_task.0 }, ap (λ x. codes "begin" ++ x) from_worker)
 
 -- what is read behind `attempt` is spelled so
@@ -38,12 +38,12 @@ attempt_takes bytes entry h =
     let is_moved = long_takes asked.0.1 moved.0 moved.1 in
     let is_evictions = long_takes moved.0.1 evictions.0 evictions.1 in
     let is_got = got_takes evictions.0.1 got.0 got.1 in
-    let from_got : evictions.0.1 ≡ joined (got_text got.0.0 ∷ []) = is_got.1 ∙ ap (λ x. field (got_text got.0.0) ++ x) done.0 in
-    let from_evictions : moved.0.1 ≡ joined (decimal evictions.0.0 ∷ got_text got.0.0 ∷ []) = is_evictions.1 ∙ ap (λ x. field (decimal evictions.0.0) ++ x) from_got in
-    let from_moved : asked.0.1 ≡ joined (decimal moved.0.0 ∷ decimal evictions.0.0 ∷ got_text got.0.0 ∷ []) = is_moved.1 ∙ ap (λ x. field (decimal moved.0.0) ++ x) from_evictions in
-    let from_asked : task.0.1 ≡ joined (decimal asked.0.0 ∷ decimal moved.0.0 ∷ decimal evictions.0.0 ∷ got_text got.0.0 ∷ []) = is_asked.1 ∙ ap (λ x. field (decimal asked.0.0) ++ x) from_moved in
-    let from_task : worker.0.1 ≡ joined (decimal task.0.0 ∷ decimal asked.0.0 ∷ decimal moved.0.0 ∷ decimal evictions.0.0 ∷ got_text got.0.0 ∷ []) = is_task.1 ∙ ap (λ x. field (decimal task.0.0) ++ x) from_asked in
-    let from_worker : bytes ≡ joined (decimal worker.0.0 ∷ decimal task.0.0 ∷ decimal asked.0.0 ∷ decimal moved.0.0 ∷ decimal evictions.0.0 ∷ got_text got.0.0 ∷ []) = is_worker.1 ∙ ap (λ x. field (decimal worker.0.0) ++ x) from_task in
+    let from_got : evictions.0.1 ≡ fields_joined (got_text got.0.0 ∷ []) = is_got.1 ∙ ap (λ x. field (got_text got.0.0) ++ x) done.0 in
+    let from_evictions : moved.0.1 ≡ fields_joined (decimal evictions.0.0 ∷ got_text got.0.0 ∷ []) = is_evictions.1 ∙ ap (λ x. field (decimal evictions.0.0) ++ x) from_got in
+    let from_moved : asked.0.1 ≡ fields_joined (decimal moved.0.0 ∷ decimal evictions.0.0 ∷ got_text got.0.0 ∷ []) = is_moved.1 ∙ ap (λ x. field (decimal moved.0.0) ++ x) from_evictions in
+    let from_asked : task.0.1 ≡ fields_joined (decimal asked.0.0 ∷ decimal moved.0.0 ∷ decimal evictions.0.0 ∷ got_text got.0.0 ∷ []) = is_asked.1 ∙ ap (λ x. field (decimal asked.0.0) ++ x) from_moved in
+    let from_task : worker.0.1 ≡ fields_joined (decimal task.0.0 ∷ decimal asked.0.0 ∷ decimal moved.0.0 ∷ decimal evictions.0.0 ∷ got_text got.0.0 ∷ []) = is_task.1 ∙ ap (λ x. field (decimal task.0.0) ++ x) from_asked in
+    let from_worker : bytes ≡ fields_joined (decimal worker.0.0 ∷ decimal task.0.0 ∷ decimal asked.0.0 ∷ decimal moved.0.0 ∷ decimal evictions.0.0 ∷ got_text got.0.0 ∷ []) = is_worker.1 ∙ ap (λ x. field (decimal worker.0.0) ++ x) from_task in
     subst (λ v. Fits v × (codes "attempt" ++ bytes ≡ entry_text v)) done.1 (record { worker = is_worker.0; event = (is_task.0, is_asked.0, is_moved.0, is_evictions.0, is_got.0) }, ap (λ x. codes "attempt" ++ x) from_worker)
 
 -- what is read behind `release` is spelled so
@@ -57,9 +57,9 @@ release_takes bytes entry h =
     let is_worker = short_takes bytes worker.0 worker.1 in
     let is_task = short_takes worker.0.1 task.0 task.1 in
     let is_freed = long_takes task.0.1 freed.0 freed.1 in
-    let from_freed : task.0.1 ≡ joined (decimal freed.0.0 ∷ []) = is_freed.1 ∙ ap (λ x. field (decimal freed.0.0) ++ x) done.0 in
-    let from_task : worker.0.1 ≡ joined (decimal task.0.0 ∷ decimal freed.0.0 ∷ []) = is_task.1 ∙ ap (λ x. field (decimal task.0.0) ++ x) from_freed in
-    let from_worker : bytes ≡ joined (decimal worker.0.0 ∷ decimal task.0.0 ∷ decimal freed.0.0 ∷ []) = is_worker.1 ∙ ap (λ x. field (decimal worker.0.0) ++ x) from_task in
+    let from_freed : task.0.1 ≡ fields_joined (decimal freed.0.0 ∷ []) = is_freed.1 ∙ ap (λ x. field (decimal freed.0.0) ++ x) done.0 in
+    let from_task : worker.0.1 ≡ fields_joined (decimal task.0.0 ∷ decimal freed.0.0 ∷ []) = is_task.1 ∙ ap (λ x. field (decimal task.0.0) ++ x) from_freed in
+    let from_worker : bytes ≡ fields_joined (decimal worker.0.0 ∷ decimal task.0.0 ∷ decimal freed.0.0 ∷ []) = is_worker.1 ∙ ap (λ x. field (decimal worker.0.0) ++ x) from_task in
     subst (λ v. Fits v × (codes "release" ++ bytes ≡ entry_text v)) done.1 (record { worker = is_worker.0; event = (is_task.0, is_freed.0) }, ap (λ x. codes "release" ++ x) from_worker)
 
 -- what is read behind `end` is spelled so
@@ -73,9 +73,9 @@ end_takes bytes entry h =
     let is_worker = short_takes bytes worker.0 worker.1 in
     let is_task = short_takes worker.0.1 task.0 task.1 in
     let is_freed = long_takes task.0.1 freed.0 freed.1 in
-    let from_freed : task.0.1 ≡ joined (decimal freed.0.0 ∷ []) = is_freed.1 ∙ ap (λ x. field (decimal freed.0.0) ++ x) done.0 in
-    let from_task : worker.0.1 ≡ joined (decimal task.0.0 ∷ decimal freed.0.0 ∷ []) = is_task.1 ∙ ap (λ x. field (decimal task.0.0) ++ x) from_freed in
-    let from_worker : bytes ≡ joined (decimal worker.0.0 ∷ decimal task.0.0 ∷ decimal freed.0.0 ∷ []) = is_worker.1 ∙ ap (λ x. field (decimal worker.0.0) ++ x) from_task in
+    let from_freed : task.0.1 ≡ fields_joined (decimal freed.0.0 ∷ []) = is_freed.1 ∙ ap (λ x. field (decimal freed.0.0) ++ x) done.0 in
+    let from_task : worker.0.1 ≡ fields_joined (decimal task.0.0 ∷ decimal freed.0.0 ∷ []) = is_task.1 ∙ ap (λ x. field (decimal task.0.0) ++ x) from_freed in
+    let from_worker : bytes ≡ fields_joined (decimal worker.0.0 ∷ decimal task.0.0 ∷ decimal freed.0.0 ∷ []) = is_worker.1 ∙ ap (λ x. field (decimal worker.0.0) ++ x) from_task in
     subst (λ v. Fits v × (codes "end" ++ bytes ≡ entry_text v)) done.1 (record { worker = is_worker.0; event = (is_task.0, is_freed.0) }, ap (λ x. codes "end" ++ x) from_worker)
 
 -- what is read behind `evict` is spelled so
@@ -93,11 +93,11 @@ evict_takes bytes entry h =
     let is_part = short_takes dataset.0.1 part.0 part.1 in
     let is_size = long_takes part.0.1 size.0 size.1 in
     let is_fate = fate_takes size.0.1 fate.0 fate.1 in
-    let from_fate : size.0.1 ≡ joined (fate_word fate.0.0 ∷ []) = is_fate ∙ ap (λ x. field (fate_word fate.0.0) ++ x) done.0 in
-    let from_size : part.0.1 ≡ joined (decimal size.0.0 ∷ fate_word fate.0.0 ∷ []) = is_size.1 ∙ ap (λ x. field (decimal size.0.0) ++ x) from_fate in
-    let from_part : dataset.0.1 ≡ joined (decimal part.0.0 ∷ decimal size.0.0 ∷ fate_word fate.0.0 ∷ []) = is_part.1 ∙ ap (λ x. field (decimal part.0.0) ++ x) from_size in
-    let from_dataset : worker.0.1 ≡ joined (decimal dataset.0.0 ∷ decimal part.0.0 ∷ decimal size.0.0 ∷ fate_word fate.0.0 ∷ []) = is_dataset.1 ∙ ap (λ x. field (decimal dataset.0.0) ++ x) from_part in
-    let from_worker : bytes ≡ joined (decimal worker.0.0 ∷ decimal dataset.0.0 ∷ decimal part.0.0 ∷ decimal size.0.0 ∷ fate_word fate.0.0 ∷ []) = is_worker.1 ∙ ap (λ x. field (decimal worker.0.0) ++ x) from_dataset in
+    let from_fate : size.0.1 ≡ fields_joined (fate_word fate.0.0 ∷ []) = is_fate ∙ ap (λ x. field (fate_word fate.0.0) ++ x) done.0 in
+    let from_size : part.0.1 ≡ fields_joined (decimal size.0.0 ∷ fate_word fate.0.0 ∷ []) = is_size.1 ∙ ap (λ x. field (decimal size.0.0) ++ x) from_fate in
+    let from_part : dataset.0.1 ≡ fields_joined (decimal part.0.0 ∷ decimal size.0.0 ∷ fate_word fate.0.0 ∷ []) = is_part.1 ∙ ap (λ x. field (decimal part.0.0) ++ x) from_size in
+    let from_dataset : worker.0.1 ≡ fields_joined (decimal dataset.0.0 ∷ decimal part.0.0 ∷ decimal size.0.0 ∷ fate_word fate.0.0 ∷ []) = is_dataset.1 ∙ ap (λ x. field (decimal dataset.0.0) ++ x) from_part in
+    let from_worker : bytes ≡ fields_joined (decimal worker.0.0 ∷ decimal dataset.0.0 ∷ decimal part.0.0 ∷ decimal size.0.0 ∷ fate_word fate.0.0 ∷ []) = is_worker.1 ∙ ap (λ x. field (decimal worker.0.0) ++ x) from_dataset in
     subst (λ v. Fits v × (codes "evict" ++ bytes ≡ entry_text v)) done.1 (record { worker = is_worker.0; event = (is_dataset.0, is_part.0, is_size.0) }, ap (λ x. codes "evict" ++ x) from_worker)
 
 -- what is read behind `admit` is spelled so
@@ -119,13 +119,13 @@ admit_takes bytes entry h =
     let is_level = level_takes size.0.1 level.0 level.1 in
     let is_borrowed = long_takes level.0.1 borrowed.0 borrowed.1 in
     let is_evictions = long_takes borrowed.0.1 evictions.0 evictions.1 in
-    let from_evictions : borrowed.0.1 ≡ joined (decimal evictions.0.0 ∷ []) = is_evictions.1 ∙ ap (λ x. field (decimal evictions.0.0) ++ x) done.0 in
-    let from_borrowed : level.0.1 ≡ joined (decimal borrowed.0.0 ∷ decimal evictions.0.0 ∷ []) = is_borrowed.1 ∙ ap (λ x. field (decimal borrowed.0.0) ++ x) from_evictions in
-    let from_level : size.0.1 ≡ joined (level_word level.0.0 ∷ decimal borrowed.0.0 ∷ decimal evictions.0.0 ∷ []) = is_level ∙ ap (λ x. field (level_word level.0.0) ++ x) from_borrowed in
-    let from_size : part.0.1 ≡ joined (decimal size.0.0 ∷ level_word level.0.0 ∷ decimal borrowed.0.0 ∷ decimal evictions.0.0 ∷ []) = is_size.1 ∙ ap (λ x. field (decimal size.0.0) ++ x) from_level in
-    let from_part : dataset.0.1 ≡ joined (decimal part.0.0 ∷ decimal size.0.0 ∷ level_word level.0.0 ∷ decimal borrowed.0.0 ∷ decimal evictions.0.0 ∷ []) = is_part.1 ∙ ap (λ x. field (decimal part.0.0) ++ x) from_size in
-    let from_dataset : worker.0.1 ≡ joined (decimal dataset.0.0 ∷ decimal part.0.0 ∷ decimal size.0.0 ∷ level_word level.0.0 ∷ decimal borrowed.0.0 ∷ decimal evictions.0.0 ∷ []) = is_dataset.1 ∙ ap (λ x. field (decimal dataset.0.0) ++ x) from_part in
-    let from_worker : bytes ≡ joined (decimal worker.0.0 ∷ decimal dataset.0.0 ∷ decimal part.0.0 ∷ decimal size.0.0 ∷ level_word level.0.0 ∷ decimal borrowed.0.0 ∷ decimal evictions.0.0 ∷ []) = is_worker.1 ∙ ap (λ x. field (decimal worker.0.0) ++ x) from_dataset in
+    let from_evictions : borrowed.0.1 ≡ fields_joined (decimal evictions.0.0 ∷ []) = is_evictions.1 ∙ ap (λ x. field (decimal evictions.0.0) ++ x) done.0 in
+    let from_borrowed : level.0.1 ≡ fields_joined (decimal borrowed.0.0 ∷ decimal evictions.0.0 ∷ []) = is_borrowed.1 ∙ ap (λ x. field (decimal borrowed.0.0) ++ x) from_evictions in
+    let from_level : size.0.1 ≡ fields_joined (level_word level.0.0 ∷ decimal borrowed.0.0 ∷ decimal evictions.0.0 ∷ []) = is_level ∙ ap (λ x. field (level_word level.0.0) ++ x) from_borrowed in
+    let from_size : part.0.1 ≡ fields_joined (decimal size.0.0 ∷ level_word level.0.0 ∷ decimal borrowed.0.0 ∷ decimal evictions.0.0 ∷ []) = is_size.1 ∙ ap (λ x. field (decimal size.0.0) ++ x) from_level in
+    let from_part : dataset.0.1 ≡ fields_joined (decimal part.0.0 ∷ decimal size.0.0 ∷ level_word level.0.0 ∷ decimal borrowed.0.0 ∷ decimal evictions.0.0 ∷ []) = is_part.1 ∙ ap (λ x. field (decimal part.0.0) ++ x) from_size in
+    let from_dataset : worker.0.1 ≡ fields_joined (decimal dataset.0.0 ∷ decimal part.0.0 ∷ decimal size.0.0 ∷ level_word level.0.0 ∷ decimal borrowed.0.0 ∷ decimal evictions.0.0 ∷ []) = is_dataset.1 ∙ ap (λ x. field (decimal dataset.0.0) ++ x) from_part in
+    let from_worker : bytes ≡ fields_joined (decimal worker.0.0 ∷ decimal dataset.0.0 ∷ decimal part.0.0 ∷ decimal size.0.0 ∷ level_word level.0.0 ∷ decimal borrowed.0.0 ∷ decimal evictions.0.0 ∷ []) = is_worker.1 ∙ ap (λ x. field (decimal worker.0.0) ++ x) from_dataset in
     subst (λ v. Fits v × (codes "admit" ++ bytes ≡ entry_text v)) done.1 (record { worker = is_worker.0; event = (is_dataset.0, is_part.0, is_size.0, is_borrowed.0, is_evictions.0) }, ap (λ x. codes "admit" ++ x) from_worker)
 
 -- what is read behind `refused` is spelled so
@@ -145,12 +145,12 @@ refused_takes bytes entry h =
     let is_size = long_takes part.0.1 size.0 size.1 in
     let is_borrowed = long_takes size.0.1 borrowed.0 borrowed.1 in
     let is_evictions = long_takes borrowed.0.1 evictions.0 evictions.1 in
-    let from_evictions : borrowed.0.1 ≡ joined (decimal evictions.0.0 ∷ []) = is_evictions.1 ∙ ap (λ x. field (decimal evictions.0.0) ++ x) done.0 in
-    let from_borrowed : size.0.1 ≡ joined (decimal borrowed.0.0 ∷ decimal evictions.0.0 ∷ []) = is_borrowed.1 ∙ ap (λ x. field (decimal borrowed.0.0) ++ x) from_evictions in
-    let from_size : part.0.1 ≡ joined (decimal size.0.0 ∷ decimal borrowed.0.0 ∷ decimal evictions.0.0 ∷ []) = is_size.1 ∙ ap (λ x. field (decimal size.0.0) ++ x) from_borrowed in
-    let from_part : dataset.0.1 ≡ joined (decimal part.0.0 ∷ decimal size.0.0 ∷ decimal borrowed.0.0 ∷ decimal evictions.0.0 ∷ []) = is_part.1 ∙ ap (λ x. field (decimal part.0.0) ++ x) from_size in
-    let from_dataset : worker.0.1 ≡ joined (decimal dataset.0.0 ∷ decimal part.0.0 ∷ decimal size.0.0 ∷ decimal borrowed.0.0 ∷ decimal evictions.0.0 ∷ []) = is_dataset.1 ∙ ap (λ x. field (decimal dataset.0.0) ++ x) from_part in
-    let from_worker : bytes ≡ joined (decimal worker.0.0 ∷ decimal dataset.0.0 ∷ decimal part.0.0 ∷ decimal size.0.0 ∷ decimal borrowed.0.0 ∷ decimal evictions.0.0 ∷ []) = is_worker.1 ∙ ap (λ x. field (decimal worker.0.0) ++ x) from_dataset in
+    let from_evictions : borrowed.0.1 ≡ fields_joined (decimal evictions.0.0 ∷ []) = is_evictions.1 ∙ ap (λ x. field (decimal evictions.0.0) ++ x) done.0 in
+    let from_borrowed : size.0.1 ≡ fields_joined (decimal borrowed.0.0 ∷ decimal evictions.0.0 ∷ []) = is_borrowed.1 ∙ ap (λ x. field (decimal borrowed.0.0) ++ x) from_evictions in
+    let from_size : part.0.1 ≡ fields_joined (decimal size.0.0 ∷ decimal borrowed.0.0 ∷ decimal evictions.0.0 ∷ []) = is_size.1 ∙ ap (λ x. field (decimal size.0.0) ++ x) from_borrowed in
+    let from_part : dataset.0.1 ≡ fields_joined (decimal part.0.0 ∷ decimal size.0.0 ∷ decimal borrowed.0.0 ∷ decimal evictions.0.0 ∷ []) = is_part.1 ∙ ap (λ x. field (decimal part.0.0) ++ x) from_size in
+    let from_dataset : worker.0.1 ≡ fields_joined (decimal dataset.0.0 ∷ decimal part.0.0 ∷ decimal size.0.0 ∷ decimal borrowed.0.0 ∷ decimal evictions.0.0 ∷ []) = is_dataset.1 ∙ ap (λ x. field (decimal dataset.0.0) ++ x) from_part in
+    let from_worker : bytes ≡ fields_joined (decimal worker.0.0 ∷ decimal dataset.0.0 ∷ decimal part.0.0 ∷ decimal size.0.0 ∷ decimal borrowed.0.0 ∷ decimal evictions.0.0 ∷ []) = is_worker.1 ∙ ap (λ x. field (decimal worker.0.0) ++ x) from_dataset in
     subst (λ v. Fits v × (codes "refused" ++ bytes ≡ entry_text v)) done.1 (record { worker = is_worker.0; event = (is_dataset.0, is_part.0, is_size.0, is_borrowed.0, is_evictions.0) }, ap (λ x. codes "refused" ++ x) from_worker)
 
 -- what is read behind `pin` is spelled so
@@ -166,10 +166,10 @@ pin_takes bytes entry h =
     let is_dataset = short_takes worker.0.1 dataset.0 dataset.1 in
     let is_part = short_takes dataset.0.1 part.0 part.1 in
     let is_copy = form_takes part.0.1 copy.0 copy.1 in
-    let from_copy : part.0.1 ≡ joined (form_word copy.0.0 ∷ []) = is_copy ∙ ap (λ x. field (form_word copy.0.0) ++ x) done.0 in
-    let from_part : dataset.0.1 ≡ joined (decimal part.0.0 ∷ form_word copy.0.0 ∷ []) = is_part.1 ∙ ap (λ x. field (decimal part.0.0) ++ x) from_copy in
-    let from_dataset : worker.0.1 ≡ joined (decimal dataset.0.0 ∷ decimal part.0.0 ∷ form_word copy.0.0 ∷ []) = is_dataset.1 ∙ ap (λ x. field (decimal dataset.0.0) ++ x) from_part in
-    let from_worker : bytes ≡ joined (decimal worker.0.0 ∷ decimal dataset.0.0 ∷ decimal part.0.0 ∷ form_word copy.0.0 ∷ []) = is_worker.1 ∙ ap (λ x. field (decimal worker.0.0) ++ x) from_dataset in
+    let from_copy : part.0.1 ≡ fields_joined (form_word copy.0.0 ∷ []) = is_copy ∙ ap (λ x. field (form_word copy.0.0) ++ x) done.0 in
+    let from_part : dataset.0.1 ≡ fields_joined (decimal part.0.0 ∷ form_word copy.0.0 ∷ []) = is_part.1 ∙ ap (λ x. field (decimal part.0.0) ++ x) from_copy in
+    let from_dataset : worker.0.1 ≡ fields_joined (decimal dataset.0.0 ∷ decimal part.0.0 ∷ form_word copy.0.0 ∷ []) = is_dataset.1 ∙ ap (λ x. field (decimal dataset.0.0) ++ x) from_part in
+    let from_worker : bytes ≡ fields_joined (decimal worker.0.0 ∷ decimal dataset.0.0 ∷ decimal part.0.0 ∷ form_word copy.0.0 ∷ []) = is_worker.1 ∙ ap (λ x. field (decimal worker.0.0) ++ x) from_dataset in
     subst (λ v. Fits v × (codes "pin" ++ bytes ≡ entry_text v)) done.1 (record { worker = is_worker.0; event = (is_dataset.0, is_part.0) }, ap (λ x. codes "pin" ++ x) from_worker)
 
 -- what is read behind `unpin` is spelled so
@@ -183,9 +183,9 @@ unpin_takes bytes entry h =
     let is_worker = short_takes bytes worker.0 worker.1 in
     let is_dataset = short_takes worker.0.1 dataset.0 dataset.1 in
     let is_part = short_takes dataset.0.1 part.0 part.1 in
-    let from_part : dataset.0.1 ≡ joined (decimal part.0.0 ∷ []) = is_part.1 ∙ ap (λ x. field (decimal part.0.0) ++ x) done.0 in
-    let from_dataset : worker.0.1 ≡ joined (decimal dataset.0.0 ∷ decimal part.0.0 ∷ []) = is_dataset.1 ∙ ap (λ x. field (decimal dataset.0.0) ++ x) from_part in
-    let from_worker : bytes ≡ joined (decimal worker.0.0 ∷ decimal dataset.0.0 ∷ decimal part.0.0 ∷ []) = is_worker.1 ∙ ap (λ x. field (decimal worker.0.0) ++ x) from_dataset in
+    let from_part : dataset.0.1 ≡ fields_joined (decimal part.0.0 ∷ []) = is_part.1 ∙ ap (λ x. field (decimal part.0.0) ++ x) done.0 in
+    let from_dataset : worker.0.1 ≡ fields_joined (decimal dataset.0.0 ∷ decimal part.0.0 ∷ []) = is_dataset.1 ∙ ap (λ x. field (decimal dataset.0.0) ++ x) from_part in
+    let from_worker : bytes ≡ fields_joined (decimal worker.0.0 ∷ decimal dataset.0.0 ∷ decimal part.0.0 ∷ []) = is_worker.1 ∙ ap (λ x. field (decimal worker.0.0) ++ x) from_dataset in
     subst (λ v. Fits v × (codes "unpin" ++ bytes ≡ entry_text v)) done.1 (record { worker = is_worker.0; event = (is_dataset.0, is_part.0) }, ap (λ x. codes "unpin" ++ x) from_worker)
 
 -- what is read behind `remove` is spelled so
@@ -201,10 +201,10 @@ remove_takes bytes entry h =
     let is_dataset = short_takes worker.0.1 dataset.0 dataset.1 in
     let is_part = short_takes dataset.0.1 part.0 part.1 in
     let is_size = long_takes part.0.1 size.0 size.1 in
-    let from_size : part.0.1 ≡ joined (decimal size.0.0 ∷ []) = is_size.1 ∙ ap (λ x. field (decimal size.0.0) ++ x) done.0 in
-    let from_part : dataset.0.1 ≡ joined (decimal part.0.0 ∷ decimal size.0.0 ∷ []) = is_part.1 ∙ ap (λ x. field (decimal part.0.0) ++ x) from_size in
-    let from_dataset : worker.0.1 ≡ joined (decimal dataset.0.0 ∷ decimal part.0.0 ∷ decimal size.0.0 ∷ []) = is_dataset.1 ∙ ap (λ x. field (decimal dataset.0.0) ++ x) from_part in
-    let from_worker : bytes ≡ joined (decimal worker.0.0 ∷ decimal dataset.0.0 ∷ decimal part.0.0 ∷ decimal size.0.0 ∷ []) = is_worker.1 ∙ ap (λ x. field (decimal worker.0.0) ++ x) from_dataset in
+    let from_size : part.0.1 ≡ fields_joined (decimal size.0.0 ∷ []) = is_size.1 ∙ ap (λ x. field (decimal size.0.0) ++ x) done.0 in
+    let from_part : dataset.0.1 ≡ fields_joined (decimal part.0.0 ∷ decimal size.0.0 ∷ []) = is_part.1 ∙ ap (λ x. field (decimal part.0.0) ++ x) from_size in
+    let from_dataset : worker.0.1 ≡ fields_joined (decimal dataset.0.0 ∷ decimal part.0.0 ∷ decimal size.0.0 ∷ []) = is_dataset.1 ∙ ap (λ x. field (decimal dataset.0.0) ++ x) from_part in
+    let from_worker : bytes ≡ fields_joined (decimal worker.0.0 ∷ decimal dataset.0.0 ∷ decimal part.0.0 ∷ decimal size.0.0 ∷ []) = is_worker.1 ∙ ap (λ x. field (decimal worker.0.0) ++ x) from_dataset in
     subst (λ v. Fits v × (codes "remove" ++ bytes ≡ entry_text v)) done.1 (record { worker = is_worker.0; event = (is_dataset.0, is_part.0, is_size.0) }, ap (λ x. codes "remove" ++ x) from_worker)
 
 -- the same of each word

@@ -9,17 +9,17 @@ use Rattle.pool_ledger.specs.declared.entry.Fate.{Fate}
 use Rattle.pool_ledger.specs.declared.entry.Fate.TheVariants.{Disk, Gone, NoMemory}
 use Rattle.pool_ledger.specs.declared.entry.Level.{Level}
 use Rattle.pool_ledger.specs.declared.entry.Level.TheVariants.{Memory, Disk as OnDisk}
-use Rattle.journal_audit.specs.Text.{field, number, joined, got_text, fate_word, level_word, form_word}
-use Rattle.journal_audit.specs.Fields.{is_plain, split, field_at, whole, long_at, short_at, got_of, got_at, fate_of, fate_at, level_of, level_at, form_of, form_at}
+use Rattle.journal_audit.specs.Text.{field, number_field, got_text, fate_word, level_word, form_word}
+use Rattle.journal_audit.specs.Fields.{is_no_comma, split, field_at, whole, long_at, short_at, got_of, got_at, fate_of, fate_at, level_of, level_at, form_of, form_at}
 use Rattle.journal_audit.proofs.Wholes.{whole_again}
 
 -- no comma in the text
 abbrev pub IsPlain : List ℕ → Type 0
-IsPlain text = prefix_len is_plain text ≡ length text
+IsPlain text = prefix_len is_no_comma text ≡ length text
 
 -- nothing, or a comma first
 abbrev pub IsEnd : List ℕ → Type 0
-IsEnd rest = prefix_len is_plain rest ≡ 0
+IsEnd rest = prefix_len is_no_comma rest ≡ 0
 
 pub take_front : (a b : List ℕ) → take (length a) (a ++ b) ≡ a
 take_front [] b = refl
@@ -41,30 +41,30 @@ digits_pass p each n h = decimal_by_steps (λ _ ds. prefix_len p ds ≡ length d
     omega (arith, passes_append p ds ((48 + m % 10) ∷ []) all, one, length-append ds ((48 + m % 10) ∷ [])))
     n h
 
-digit_plain : (b : ℕ) → 48 ≤ b → b < 58 → is_plain b ≡ true
+digit_plain : (b : ℕ) → 48 ≤ b → b < 58 → is_no_comma b ≡ true
 digit_plain b h _ = search (rules, arith)
 
 digit_low : (b : ℕ) → 48 ≤ b → b < 58 → nat_lt b 58 ≡ true
 digit_low b _ h = search (rules, arith)
 
 pub plain_decimal : (n : ℕ) → n < 2 ^ 64 → IsPlain (decimal n)
-plain_decimal = digits_pass is_plain digit_plain
+plain_decimal = digits_pass is_no_comma digit_plain
 
 pub split_again : (text rest : List ℕ) → IsPlain text → IsEnd rest → split (text ++ rest) ≡ (text, rest)
 unfolding split
 split_again text rest p e =
-    let len : prefix_len is_plain (text ++ rest) ≡ length text = omega (arith, passes_append is_plain text rest p, e) in
+    let len : prefix_len is_no_comma (text ++ rest) ≡ length text = omega (arith, passes_append is_no_comma text rest p, e) in
     rw (len, take_front text rest, drop_front text rest) refl
 
 pub field_again : (text rest : List ℕ) → IsPlain text → IsEnd rest → field_at (field text ++ rest) ≡ Some (text, rest)
 unfolding field_at
 field_again text rest p e = ap Some (split_again text rest p e)
 
-pub long_again : (n : ℕ) (rest : List ℕ) → n < 2 ^ 64 → IsEnd rest → long_at (number n ++ rest) ≡ Some (n, rest)
+pub long_again : (n : ℕ) (rest : List ℕ) → n < 2 ^ 64 → IsEnd rest → long_at (number_field n ++ rest) ≡ Some (n, rest)
 unfolding long_at
 long_again n rest h e = rw (field_again (decimal n) rest (plain_decimal n h) e) (rw (whole_again n h) refl)
 
-pub short_again : (n : ℕ) (rest : List ℕ) → n < 2 ^ 32 → IsEnd rest → short_at (number n ++ rest) ≡ Some (n, rest)
+pub short_again : (n : ℕ) (rest : List ℕ) → n < 2 ^ 32 → IsEnd rest → short_at (number_field n ++ rest) ≡ Some (n, rest)
 unfolding short_at
 short_again n rest h e =
     let below : nat_lt n (2 ^ 32) ≡ true = search (rules, arith) in

@@ -1,5 +1,5 @@
 -- What is read as the first field of a line is spelled so, and fits.
-use Rattle.std.proofs.Common.{ℕ, ◌≡◌, ◌<◌, ◌^◌, ◌++◌, ◌⊎◌, inl, inr, ◌∷◌, [], List, Option, Some, None, decimal, codes, true, false, Bool, nat_eq, nat_lt, cond, IfSome, arith, rules, sym, ◌∙◌, refl, ap, subst}
+use Rattle.std.proofs.Common.{ℕ, ◌≡◌, ◌<◌, ◌^◌, ◌++◌, ◌⊎◌, inl, inr, ◌∷◌, [], List, Option, Some, None, codes, true, false, Bool, nat_eq, nat_lt, cond, IfSome, arith, rules, sym, ◌∙◌, refl, ap, subst}
 use Rattle.std.specs.Str.{bytes_eq}
 use Rattle.std.proofs.lemmas.List.{take-append-drop}
 use Rattle.std.proofs.lemmas.Option.{cond_some}
@@ -7,7 +7,7 @@ use Rattle.pool_ledger.specs.declared.entry.Fate.{Fate}
 use Rattle.pool_ledger.specs.declared.entry.Fate.TheVariants.{NoMemory}
 use Rattle.pool_ledger.specs.declared.entry.Level.{Level}
 use Rattle.pool_ledger.specs.declared.entry.Level.TheVariants.{Disk as OnDisk}
-use Rattle.journal_audit.specs.Text.{field, number, got_text, fate_word, level_word, form_word}
+use Rattle.journal_audit.specs.Text.{field, number_field, got_text, fate_word, level_word, form_word}
 use Rattle.journal_audit.specs.Fields.{◌>>=◌, split, field_at, whole, long_at, short_at, got_of, got_at, fate_of, fate_at, level_of, level_at, form_of, form_at, ended}
 use Rattle.journal_audit.proofs.Wholes.{whole_takes, same_bytes}
 
@@ -30,23 +30,23 @@ field_takes (b ∷ bytes) p h =
     let comma : b ≡ 44 = search (rules, arith) in
     rw comma (ap (λ l. 44 ∷ l) (subst (λ (q : List ℕ × List ℕ). bytes ≡ q.0 ++ q.1) t.1 (split_takes bytes)))
 
-pub long_takes : (bytes : List ℕ) (p : ℕ × List ℕ) → long_at bytes ≡ Some p → (p.0 < 2 ^ 64) × (bytes ≡ number p.0 ++ p.1)
+pub long_takes : (bytes : List ℕ) (p : ℕ × List ℕ) → long_at bytes ≡ Some p → (p.0 < 2 ^ 64) × (bytes ≡ number_field p.0 ++ p.1)
 unfolding long_at
 long_takes bytes p h =
     let f = bind_some (field_at bytes) _ p h in
     let n = bind_some (whole f.0.0) _ p f.2 in
     let w = whole_takes f.0.0 n.0 n.1 in
-    let is : bytes ≡ number n.0 ++ f.0.1 = field_takes bytes f.0 f.1 ∙ ap (λ x. field x ++ f.0.1) w.1 in
+    let is : bytes ≡ number_field n.0 ++ f.0.1 = field_takes bytes f.0 f.1 ∙ ap (λ x. field x ++ f.0.1) w.1 in
     let pair : (n.0, f.0.1) ≡ p = some_is n.2 in
-    subst (λ (q : ℕ × List ℕ). (q.0 < 2 ^ 64) × (bytes ≡ number q.0 ++ q.1)) pair (w.0, is)
+    subst (λ (q : ℕ × List ℕ). (q.0 < 2 ^ 64) × (bytes ≡ number_field q.0 ++ q.1)) pair (w.0, is)
 
-pub short_takes : (bytes : List ℕ) (p : ℕ × List ℕ) → short_at bytes ≡ Some p → (p.0 < 2 ^ 32) × (bytes ≡ number p.0 ++ p.1)
+pub short_takes : (bytes : List ℕ) (p : ℕ × List ℕ) → short_at bytes ≡ Some p → (p.0 < 2 ^ 32) × (bytes ≡ number_field p.0 ++ p.1)
 unfolding short_at
 short_takes bytes p h =
     let f = bind_some (long_at bytes) _ p h in
     let t = cond_some (nat_lt f.0.0 (2 ^ 32)) f.0 p f.2 in
     let below : f.0.0 < 2 ^ 32 = search (rules, arith) in
-    subst (λ (q : ℕ × List ℕ). (q.0 < 2 ^ 32) × (bytes ≡ number q.0 ++ q.1)) t.1 (below, (long_takes bytes f.0 f.1).1)
+    subst (λ (q : ℕ × List ℕ). (q.0 < 2 ^ 32) × (bytes ≡ number_field q.0 ++ q.1)) t.1 (below, (long_takes bytes f.0 f.1).1)
 
 pub ended_takes : {A : Type 0} (x y : A) (bytes : List ℕ) → ended x bytes ≡ Some y → (bytes ≡ []) × (x ≡ y)
 unfolding ended

@@ -1,5 +1,5 @@
 -- An entry breaks no rule exactly where it may follow.
-use Rattle.std.proofs.Common.{ℕ, ◌≡◌, ◌≤◌, ◌<◌, ◌^◌, ◌∷◌, [], List, Option, Some, None, Bool, true, false, not, cond, ◌&&◌, ◌||◌, arith, rules, sym, ◌∙◌, refl, ap, subst}
+use Rattle.std.proofs.Common.{ℕ, ◌≡◌, ◌≤◌, ◌^◌, [], None, Bool, true, false, not, ◌&&◌, ◌||◌, arith, sym, refl, subst}
 use Rattle.std.specs.Prelude.{is_some, nat_eq, nat_lt}
 use Rattle.std.proofs.lemmas.Bool.{ltb-true, ltb-false, lt-ltb, le-ltb, eqb-true, eqb-false, eq-eqb, ne_eqb}
 use Rattle.pool_ledger.specs.declared.entry.Entry.{Entry}
@@ -7,11 +7,10 @@ use Rattle.pool_ledger.specs.declared.entry.Event.{Event}
 use Rattle.pool_ledger.specs.declared.entry.Event.TheVariants.{Begin, Attempt, Release, End, Evict, Admit, Refused, Pin, Unpin, Remove}
 use Rattle.pool_ledger.specs.Sizes.{Sizes}
 use Rattle.pool_ledger.specs.History.{History, total, held, was_begun, open_task}
-use Rattle.pool_ledger.specs.Blocks.{Resident, resident_at, is_resident, is_pinned, worker_pin, leaves_copy}
+use Rattle.pool_ledger.specs.Blocks.{Resident, resident_at, is_pinned, worker_pin, leaves_copy}
 use Rattle.pool_ledger.specs.Answers.{growth, answer, admission}
-use Rattle.pool_ledger.specs.Legal.{pending, settled, is_own_turn, SuitsLevel, MayLeave, MayCome, MayFollow}
+use Rattle.pool_ledger.specs.Legal.{pending, settled, is_own_turn, MayLeave, MayCome, MayFollow}
 use Rattle.pool_laws.proofs.Settled.{absent_settled}
-use Rattle.journal_audit.specs.declared.rules.Rule.{Rule}
 use Rattle.journal_audit.specs.Rules.{first_in, event_checks, first_broken, is_waiting, follows_evictions, may_leave, suits, suits_block, has_size}
 use Rattle.journal_audit.proofs.Tests.{passed, passes, not_off, off_not, or_off, off_or, and_on, and_both, with_true, true_with, the_is, is_the_one, name_is, is_the_name, none_is, is_none, answer_is, is_the_answer, suits_is, is_suited, size_is, goes_is, is_goes, none_waits, is_not_waiting, turn_is, turn_of_none, is_turn}
 use Rattle.journal_audit.proofs.Absent.{absent_of}

@@ -4,7 +4,7 @@ use Rattle.std.specs.List.{AllByRecursion}
 use Rattle.std.proofs.lemmas.List.Elements.{recursion_from_All}
 use Rattle.pool_ledger.specs.declared.entry.Entry.{Entry}
 use Rattle.pool_ledger.specs.Sizes.{Sizes}
-use Rattle.journal_audit.specs.Text.{entry_text, head_text, lines_text, text_of, Fits}
+use Rattle.journal_audit.specs.Text.{entry_text, head_text, lines_text, Fits}
 use Rattle.journal_audit.specs.Reading.{cut, cut_behind, line_at, head_line_at}
 use Rattle.journal_audit.specs.Lines.{IsSetup}
 use Rattle.journal_audit.proofs.LinesOf.{line_again, head_line_again}

@@ -1,13 +1,13 @@
 -- A line is read as it is spelled, and what is read is spelled so.
-use Rattle.std.proofs.Common.{ℕ, ◌≡◌, ◌<◌, ◌≤◌, ◌^◌, ◌++◌, ◌∷◌, [], List, Bool, false, Option, Some, None, decimal, codes, length, take, drop, true, cond, ◌&&◌, nat_eq, nat_le, IfSome, IsSome, ◌↔◌, arith, rules, sym, ◌∙◌, refl, ap, subst}
+use Rattle.std.proofs.Common.{ℕ, ◌≡◌, ◌<◌, ◌≤◌, ◌^◌, ◌++◌, ◌∷◌, [], List, Bool, false, Option, Some, None, decimal, codes, length, take, drop, true, cond, ◌&&◌, nat_eq, nat_le, arith, rules, sym, ◌∙◌, refl, ap, subst}
 use Rattle.std.specs.List.{prefix_len}
 use Rattle.std.specs.Str.{bytes_eq}
 use Rattle.std.proofs.lemmas.Option.{cond_some}
 use Rattle.std.proofs.lemmas.List.{take-append-drop}
 use Rattle.pool_ledger.specs.declared.entry.Entry.{Entry}
 use Rattle.pool_ledger.specs.Sizes.{Sizes, IsInRange}
-use Rattle.journal_audit.specs.Text.{field, joined, entry_text, head_text, Fits}
-use Rattle.journal_audit.specs.Fields.{◌>>=◌, split, long_at, ended}
+use Rattle.journal_audit.specs.Text.{field, fields_joined, entry_text, head_text, Fits}
+use Rattle.journal_audit.specs.Fields.{split, long_at, ended}
 use Rattle.journal_audit.specs.Entries.{entry_at}
 use Rattle.journal_audit.specs.Reading.{is_inline, cut, cut_behind, setup_of, sizes_at, head_at, line_at, head_line_at}
 use Rattle.journal_audit.specs.Lines.{IsSetup}
@@ -83,11 +83,11 @@ setup_takes maximum region workers setup h =
     (record { region_fits = fits; maximum_small = small; some_worker = some; few_workers = few }, t.1)
 
 sizes_again : (setup : Sizes) → IsSetup setup
-    → sizes_at (joined (decimal setup.maximum ∷ decimal setup.region ∷ decimal setup.workers ∷ [])) ≡ Some setup
+    → sizes_at (fields_joined (decimal setup.maximum ∷ decimal setup.region ∷ decimal setup.workers ∷ [])) ≡ Some setup
 unfolding sizes_at ended
 sizes_again setup h =
-    let behind = joined (decimal setup.region ∷ decimal setup.workers ∷ []) in
-    let last = joined (decimal setup.workers ∷ []) in
+    let behind = fields_joined (decimal setup.region ∷ decimal setup.workers ∷ []) in
+    let last = fields_joined (decimal setup.workers ∷ []) in
     let small : setup.maximum < 2 ^ 64 = omega (arith, h.maximum_small) in
     let in_it : setup.region < 2 ^ 64 = omega (arith, h.region_fits, h.maximum_small) in
     let few : setup.workers < 2 ^ 64 = omega (arith, h.few_workers) in
@@ -95,7 +95,7 @@ sizes_again setup h =
     (rw (long_again setup.workers [] few refl) (rw (setup_again setup h) refl)))
 
 sizes_takes : (bytes : List ℕ) (setup : Sizes) → sizes_at bytes ≡ Some setup
-    → IsSetup setup × (bytes ≡ joined (decimal setup.maximum ∷ decimal setup.region ∷ decimal setup.workers ∷ []))
+    → IsSetup setup × (bytes ≡ fields_joined (decimal setup.maximum ∷ decimal setup.region ∷ decimal setup.workers ∷ []))
 unfolding sizes_at
 sizes_takes bytes setup h =
     let maximum = bind_some (long_at bytes) _ setup h in
@@ -107,11 +107,11 @@ sizes_takes bytes setup h =
     let is_region = long_takes maximum.0.1 region.0 region.1 in
     let is_workers = long_takes region.0.1 workers.0 workers.1 in
     let is_setup = setup_takes maximum.0.0 region.0.0 workers.0.0 found.0 found.1 in
-    let from_workers : region.0.1 ≡ joined (decimal workers.0.0 ∷ []) = is_workers.1 ∙ ap (λ x. field (decimal workers.0.0) ++ x) done.0 in
-    let from_region : maximum.0.1 ≡ joined (decimal region.0.0 ∷ decimal workers.0.0 ∷ []) = is_region.1 ∙ ap (λ x. field (decimal region.0.0) ++ x) from_workers in
-    let from_maximum : bytes ≡ joined (decimal maximum.0.0 ∷ decimal region.0.0 ∷ decimal workers.0.0 ∷ []) =
+    let from_workers : region.0.1 ≡ fields_joined (decimal workers.0.0 ∷ []) = is_workers.1 ∙ ap (λ x. field (decimal workers.0.0) ++ x) done.0 in
+    let from_region : maximum.0.1 ≡ fields_joined (decimal region.0.0 ∷ decimal workers.0.0 ∷ []) = is_region.1 ∙ ap (λ x. field (decimal region.0.0) ++ x) from_workers in
+    let from_maximum : bytes ≡ fields_joined (decimal maximum.0.0 ∷ decimal region.0.0 ∷ decimal workers.0.0 ∷ []) =
     is_maximum.1 ∙ ap (λ x. field (decimal maximum.0.0) ++ x) from_region in
-    subst (λ (s : Sizes). IsSetup s × (bytes ≡ joined (decimal s.maximum ∷ decimal s.region ∷ decimal s.workers ∷ [])))
+    subst (λ (s : Sizes). IsSetup s × (bytes ≡ fields_joined (decimal s.maximum ∷ decimal s.region ∷ decimal s.workers ∷ [])))
     (is_setup.1 ∙ done.1) (is_setup.0, from_maximum)
 
 head_again : (setup : Sizes) → IsSetup setup → head_at (head_text setup) ≡ Some setup
@@ -139,7 +139,7 @@ head_inline setup h =
     let in_it : setup.region < 2 ^ 64 = omega (arith, h.region_fits, h.maximum_small) in
     let few : setup.workers < 2 ^ 64 = omega (arith, h.few_workers) in
     let texts : List (List ℕ) = decimal setup.maximum ∷ decimal setup.region ∷ decimal setup.workers ∷ [] in
-    inline_append (codes "memory journal 1") (joined texts) refl (joined_inline texts
+    inline_append (codes "memory journal 1") (fields_joined texts) refl (joined_inline texts
     (inline_number setup.maximum small, (inline_number setup.region in_it, (inline_number setup.workers few, tt))))
 
 pub head_line_again : (setup : Sizes) (rest : List ℕ) → IsSetup setup → head_line_at (head_text setup ++ (10 ∷ rest)) ≡ Some (setup, rest)

@@ -1,5 +1,5 @@
 -- What the tests of the rules say: each is true, or false, exactly where the fact holds.
-use Rattle.std.proofs.Common.{ℕ, ◌≡◌, ◌≢◌, ◌≤◌, ◌<◌, ◌++◌, ◌∷◌, [], List, Option, Some, None, Bool, true, false, not, cond, ◌&&◌, ◌||◌, map, length, inl, inr, arith, rules, sym, ◌∙◌, refl, ap, subst}
+use Rattle.std.proofs.Common.{ℕ, ◌≡◌, ◌++◌, ◌∷◌, [], List, Option, Some, None, Bool, true, false, not, cond, ◌&&◌, ◌||◌, map, length, inl, inr, sym, ◌∙◌, refl, ap, subst}
 use Rattle.std.specs.Prelude.{is_some}
 use Rattle.std.proofs.lemmas.Bool.{cases_Bool, eqb-true, eq-eqb, cond-false, cond-true}
 use Rattle.pool_ledger.specs.declared.entry.Fate.{Fate}

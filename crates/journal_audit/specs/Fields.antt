@@ -16,12 +16,12 @@ None >>= f = None
 (Some x) >>= f = f x
 
 -- whether the byte is no comma
-abbrev pub is_plain : ℕ → Bool
-is_plain b = not (nat_eq b 44)
+abbrev pub is_no_comma : ℕ → Bool
+is_no_comma b = not (nat_eq b 44)
 
 -- the bytes before the first comma, and those from it on
 unfoldable pub split : List ℕ → List ℕ × List ℕ
-split bytes = (take (prefix_len is_plain bytes) bytes, drop (prefix_len is_plain bytes) bytes)
+split bytes = (take (prefix_len is_no_comma bytes) bytes, drop (prefix_len is_no_comma bytes) bytes)
 
 -- the field behind the comma that the bytes begin with, and what follows it
 unfoldable pub field_at : List ℕ → Option (List ℕ × List ℕ)

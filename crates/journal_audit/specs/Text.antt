@@ -15,13 +15,13 @@ abbrev pub field : List ℕ → List ℕ
 field text = 44 ∷ text
 
 -- a number as a field
-abbrev pub number : ℕ → List ℕ
-number n = field (decimal n)
+abbrev pub number_field : ℕ → List ℕ
+number_field n = field (decimal n)
 
 -- fields, one behind another
-abbrev pub joined : List (List ℕ) → List ℕ
-joined [] = []
-joined (text ∷ texts) = field text ++ joined texts
+abbrev pub fields_joined : List (List ℕ) → List ℕ
+fields_joined [] = []
+fields_joined (text ∷ texts) = field text ++ fields_joined texts
 
 -- what became of an evicted block
 abbrev pub fate_word : Fate → List ℕ
@@ -47,33 +47,33 @@ got_text (Some n) = decimal n
 -- the text of a block that was stored or found no room, for this worker; nothing for another event
 abbrev pub stored_text : ℕ → Event → List ℕ
 stored_text worker (Admit dataset part size level borrowed evictions) =
-    codes "admit" ++ joined (decimal worker ∷ decimal dataset ∷ decimal part ∷ decimal size ∷ level_word level
+    codes "admit" ++ fields_joined (decimal worker ∷ decimal dataset ∷ decimal part ∷ decimal size ∷ level_word level
     ∷ decimal borrowed ∷ decimal evictions ∷ [])
 stored_text worker (Refused dataset part size borrowed evictions) =
-    codes "refused" ++ joined (decimal worker ∷ decimal dataset ∷ decimal part ∷ decimal size
+    codes "refused" ++ fields_joined (decimal worker ∷ decimal dataset ∷ decimal part ∷ decimal size
     ∷ decimal borrowed ∷ decimal evictions ∷ [])
 stored_text worker _ = []
 
 -- the text of an event of a block, for this worker; nothing for an event of a task
 abbrev pub block_text : ℕ → Event → List ℕ
 block_text worker (Evict dataset part size fate) =
-    codes "evict" ++ joined (decimal worker ∷ decimal dataset ∷ decimal part ∷ decimal size ∷ fate_word fate ∷ [])
+    codes "evict" ++ fields_joined (decimal worker ∷ decimal dataset ∷ decimal part ∷ decimal size ∷ fate_word fate ∷ [])
 block_text worker (Pin dataset part copy) =
-    codes "pin" ++ joined (decimal worker ∷ decimal dataset ∷ decimal part ∷ form_word copy ∷ [])
+    codes "pin" ++ fields_joined (decimal worker ∷ decimal dataset ∷ decimal part ∷ form_word copy ∷ [])
 block_text worker (Unpin dataset part) =
-    codes "unpin" ++ joined (decimal worker ∷ decimal dataset ∷ decimal part ∷ [])
+    codes "unpin" ++ fields_joined (decimal worker ∷ decimal dataset ∷ decimal part ∷ [])
 block_text worker (Remove dataset part size) =
-    codes "remove" ++ joined (decimal worker ∷ decimal dataset ∷ decimal part ∷ decimal size ∷ [])
+    codes "remove" ++ fields_joined (decimal worker ∷ decimal dataset ∷ decimal part ∷ decimal size ∷ [])
 block_text worker event = stored_text worker event
 
 -- the text of an event, for this worker: a word and its fields
 abbrev pub event_text : ℕ → Event → List ℕ
-event_text worker (Begin task) = codes "begin" ++ joined (decimal worker ∷ decimal task ∷ [])
+event_text worker (Begin task) = codes "begin" ++ fields_joined (decimal worker ∷ decimal task ∷ [])
 event_text worker (Attempt task asked moved evictions got) =
-    codes "attempt" ++ joined (decimal worker ∷ decimal task ∷ decimal asked ∷ decimal moved ∷ decimal evictions
+    codes "attempt" ++ fields_joined (decimal worker ∷ decimal task ∷ decimal asked ∷ decimal moved ∷ decimal evictions
     ∷ got_text got ∷ [])
-event_text worker (Release task freed) = codes "release" ++ joined (decimal worker ∷ decimal task ∷ decimal freed ∷ [])
-event_text worker (End task freed) = codes "end" ++ joined (decimal worker ∷ decimal task ∷ decimal freed ∷ [])
+event_text worker (Release task freed) = codes "release" ++ fields_joined (decimal worker ∷ decimal task ∷ decimal freed ∷ [])
+event_text worker (End task freed) = codes "end" ++ fields_joined (decimal worker ∷ decimal task ∷ decimal freed ∷ [])
 event_text worker event = block_text worker event
 
 -- the text of an entry, without its line feed
@@ -87,7 +87,7 @@ lines_text entries = flat_map (λ entry. entry_text entry ++ 10 ∷ []) entries
 -- the text of the sizes that a pool started with, without its line feed
 abbrev pub head_text : Sizes → List ℕ
 head_text setup =
-    codes "memory journal 1" ++ joined (decimal setup.maximum ∷ decimal setup.region ∷ decimal setup.workers ∷ [])
+    codes "memory journal 1" ++ fields_joined (decimal setup.maximum ∷ decimal setup.region ∷ decimal setup.workers ∷ [])
 
 -- the text of a journal
 abbrev pub text_of : Sizes → List Entry → List ℕ

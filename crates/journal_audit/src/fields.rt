@@ -4,7 +4,7 @@ ghost use Rattle.std.specs.Prelude.{◌≡◌, ◌≤◌, length};
 ghost use Rattle.std.specs.List.{prefix_len};
 ghost use Rattle.std.specs.Str.{bytes_eq};
 ghost use Rattle.std.specs.Option.{option_map};
-ghost use Rattle.journal_audit.specs.Fields.{is_plain, split, field_at, whole, long_at, short_at, got_of, got_at, fate_of, fate_at, level_of, level_at, form_of, form_at};
+ghost use Rattle.journal_audit.specs.Fields.{is_no_comma, split, field_at, whole, long_at, short_at, got_of, got_at, fate_of, fate_at, level_of, level_at, form_of, form_at};
 
 use crate::numbers::number_of;
 use pool_ledger::{Fate, Level};
@@ -18,7 +18,7 @@ pub(crate) fn is_word(text: &[u8], word: &[u8]) -> bool
 
 // How many bytes stand before the first comma.
 fn plain_length(bytes: &[u8]) -> usize
-    ensures length { result ≡ prefix_len is_plain bytes.now }
+    ensures length { result ≡ prefix_len is_no_comma bytes.now }
     ensures within { result ≤ length bytes.now }
 {
     bytes.iter().take_while(|b| **b != b',').count()

@@ -1,7 +1,7 @@
 //! The lines of a journal's text, written.
 
 ghost use Rattle.std.specs.Prelude.{◌≡◌, ◌++◌, OnOk};
-ghost use Rattle.journal_audit.specs.Text.{number, field, entry_text, block_text, stored_text, head_text, got_text, fate_word, level_word, form_word};
+ghost use Rattle.journal_audit.specs.Text.{number_field, field, entry_text, block_text, stored_text, head_text, got_text, fate_word, level_word, form_word};
 
 use itoa::Buffer;
 use pool_ledger::{Entry, Event, Fate, Level, Setup};
@@ -116,7 +116,7 @@ fn put_stored(out: &mut Vec<u8>, worker: u32, event: Event) -> Result<(), AllocE
 
 // A word, a worker and its task.
 fn put_task(out: &mut Vec<u8>, word: &[u8], worker: u32, task: u32) -> Result<(), AllocError>
-    ensures ok { OnOk result (out.new.items ≡ out.old.items ++ word.now ++ number worker ++ number task) }
+    ensures ok { OnOk result (out.new.items ≡ out.old.items ++ word.now ++ number_field worker ++ number_field task) }
 {
     out.extend_from_slice(word)?;
     put_number(out, u64::from(worker))?;
@@ -132,7 +132,8 @@ fn put_block(
     part: u32,
 ) -> Result<(), AllocError>
     ensures ok { OnOk result
-        (out.new.items ≡ out.old.items ++ word.now ++ number worker ++ number dataset ++ number part) }
+        (out.new.items ≡ out.old.items ++ word.now ++ number_field worker ++ number_field dataset
+        ++ number_field part) }
 {
     put_task(out, word, worker, dataset)?;
     put_number(out, u64::from(part))
@@ -148,7 +149,8 @@ fn put_sized(
     size: u64,
 ) -> Result<(), AllocError>
     ensures ok { OnOk result (out.new.items
-        ≡ out.old.items ++ word.now ++ number worker ++ number dataset ++ number part ++ number size) }
+        ≡ out.old.items ++ word.now ++ number_field worker ++ number_field dataset
+        ++ number_field part ++ number_field size) }
 {
     put_block(out, word, worker, dataset, part)?;
     put_number(out, size)
@@ -156,7 +158,7 @@ fn put_sized(
 
 // A comma and the decimal of a number.
 fn put_number(out: &mut Vec<u8>, value: u64) -> Result<(), AllocError>
-    ensures ok { OnOk result (out.new.items ≡ out.old.items ++ number value) }
+    ensures ok { OnOk result (out.new.items ≡ out.old.items ++ number_field value) }
 {
     out.push(b',')?;
     out.extend_from_slice(Buffer::new().format(value).as_bytes())

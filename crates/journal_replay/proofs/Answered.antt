@@ -20,13 +20,13 @@ use Rattle.journal_audit.proofs.Tests.{is_not_waiting, none_waits}
 use Rattle.journal_replay.specs.declared.replay.Replay.{Replay}
 use Rattle.journal_replay.specs.declared.verdict.Verdict.{Verdict}
 use Rattle.journal_replay.specs.declared.verdict.Verdict.TheVariants.{Yes, No, BadLine}
-use Rattle.journal_replay.specs.Replays.{history_of, setup_of, Tells}
+use Rattle.journal_replay.specs.Replays.{history_of, setup_of, TellsHistory}
 use Rattle.journal_replay.specs.Verdicts.{IsAnswer, IsBad, IsVerdict}
 use Rattle.journal_replay.proofs.OneVerdict.{line_more}
 
 module _ (setup : Sizes) (entries : List Entry) (replay : Replay) (same : setup_of replay ≡ setup) where
   -- an entry that breaks a rule
-  pub answer_no : (i : ℕ) (any : Entry) (rule : Rule) → Tells replay (after i entries) → i < length entries
+  pub answer_no : (i : ℕ) (any : Entry) (rule : Rule) → TellsHistory replay (after i entries) → i < length entries
       → first_broken (setup_of replay) (history_of replay) (get_or entries i any) ≡ Some rule → IsAnswer setup entries (No (i + 1) rule)
   answer_no i any rule tells below breaks =
       let behind : drop i entries ≡ get_or entries i any ∷ drop (i + 1) entries = at_drop_more (λ (es : List Entry). es) entries i any below in
@@ -45,7 +45,7 @@ module _ (setup : Sizes) (entries : List Entry) (replay : Replay) (same : setup_
       })
 
   -- evictions that wait at the end
-  pub answer_amid : (n : ℕ) → Tells replay (after n entries) → length entries ≤ n → is_some replay.turns.waits ≡ true → IsAnswer setup entries (No (length entries + 1) Pending)
+  pub answer_amid : (n : ℕ) → TellsHistory replay (after n entries) → length entries ≤ n → is_some replay.turns.waits ≡ true → IsAnswer setup entries (No (length entries + 1) Pending)
   answer_amid n tells all waits =
       let whole : after n entries ≡ reverse entries = ap reverse (take_all n entries all) in
       inr (record {
@@ -56,7 +56,7 @@ module _ (setup : Sizes) (entries : List Entry) (replay : Replay) (same : setup_
       })
 
   -- a legal journal
-  pub answer_yes : (n : ℕ) → Tells replay (after n entries) → length entries ≤ n → is_some replay.turns.waits ≡ false → IsAnswer setup entries (Yes (length entries))
+  pub answer_yes : (n : ℕ) → TellsHistory replay (after n entries) → length entries ≤ n → is_some replay.turns.waits ≡ false → IsAnswer setup entries (Yes (length entries))
   answer_yes n tells all waits =
       let whole : after n entries ≡ reverse entries = ap reverse (take_all n entries all) in (
         record {
@@ -67,10 +67,10 @@ module _ (setup : Sizes) (entries : List Entry) (replay : Replay) (same : setup_
       )
 
 -- the entries so far with one more
-pub tells_more : (replay new : Replay) (entries : List Entry) (i : ℕ) (any : Entry) → Tells replay (after i entries) → i < length entries
-    → Tells new (get_or entries i any ∷ history_of replay) → Tells new (after (i + 1) entries)
+pub tells_more : (replay new : Replay) (entries : List Entry) (i : ℕ) (any : Entry) → TellsHistory replay (after i entries) → i < length entries
+    → TellsHistory new (get_or entries i any ∷ history_of replay) → TellsHistory new (after (i + 1) entries)
 tells_more replay new entries i any tells below after_it =
-    subst (Tells new) (sym (after-more i entries any below ∙ ap (λ (h : History). get_or entries i any ∷ h) (sym tells.turns.same))) after_it
+    subst (TellsHistory new) (sym (after-more i entries any below ∙ ap (λ (h : History). get_or entries i any ∷ h) (sym tells.turns.same))) after_it
 
 -- the verdict of the text
 pub of_answer : (text : List ℕ) (setup : Sizes) (lines : List ℕ) (entries : List Entry) (verdict : Verdict) → IsSetup setup → text ≡ head_text setup ++ (10 ∷ lines)

@@ -14,14 +14,14 @@ use Rattle.pool_laws.proofs.Settled.{absent_settled}
 use Rattle.pool_plans.specs.Listed.{listed, seen_in}
 use Rattle.pool_laws.specs.Growing.{entry_by}
 use Rattle.journal_replay.specs.declared.replay.Replay.{Replay}
-use Rattle.journal_replay.specs.Replays.{history_of, IsReplay, Tells}
-use Rattle.journal_replay.specs.Tables.{candidate_in, is_pin, IsFree}
+use Rattle.journal_replay.specs.Replays.{history_of, IsReplay, TellsHistory}
+use Rattle.journal_replay.specs.Tables.{candidate_in, is_pin, IsNewBlock}
 use Rattle.journal_replay.specs.UseOrder.{candidates_of, residents_in}
 use Rattle.journal_replay.proofs.Noted.{pinned_is}
 
 -- a replay of a history is that of its own entries
-pub is_replay : (replay : Replay) (h : History) → Tells replay h → IsReplay replay
-is_replay replay h tells = subst (Tells replay) (sym tells.turns.same) tells
+pub is_replay : (replay : Replay) (h : History) → TellsHistory replay h → IsReplay replay
+is_replay replay h tells = subst (TellsHistory replay) (sym tells.turns.same) tells
 
 map_same : (f g : Resident → Candidate) → ((block : Resident) → f block ≡ g block) → (blocks : List Resident) → map f blocks ≡ map g blocks
 map_same f g same [] = refl
@@ -54,9 +54,9 @@ listed_before replay tells =
 
 -- An admission is of a block that isn't in memory
 
-free_at : (s : Sizes) (h : History) (w : ℕ) (e : Event) → MayCome s h w e → IsFree e (residents h)
+free_at : (s : Sizes) (h : History) (w : ℕ) (e : Event) → MayCome s h w e → IsNewBlock e (residents h)
 free_at s h w (Admit d p size level borrowed evictions) may = absent_settled h d p may.absent
 free_at s h w _ may = tt
 
-pub is_free : (s : Sizes) (h : History) (entry : Entry) (blocks : List Resident) → blocks ≡ residents h → MayFollow s h entry → IsFree entry.event blocks
-is_free s h entry blocks same may = subst (IsFree entry.event) (sym same) (free_at s h entry.worker entry.event may.event)
+pub is_free : (s : Sizes) (h : History) (entry : Entry) (blocks : List Resident) → blocks ≡ residents h → MayFollow s h entry → IsNewBlock entry.event blocks
+is_free s h entry blocks same may = subst (IsNewBlock entry.event) (sym same) (free_at s h entry.worker entry.event may.event)

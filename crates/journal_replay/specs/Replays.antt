@@ -60,7 +60,7 @@ pub record TellsTables (tables : Tables) (history : History) : Type 0 where
   pub copies : TellsCopies tables.copies history
 
 -- the replay is this history's
-pub record Tells (replay : Replay) (history : History) : Type 0 where
+pub record TellsHistory (replay : Replay) (history : History) : Type 0 where
   pub turns : TellsTurns replay.turns history
   pub tables : TellsTables replay.tables history
 
@@ -74,4 +74,4 @@ history_of replay = seen replay.turns
 
 -- the replay is that of its own entries
 abbrev pub IsReplay : Replay → Type 0
-IsReplay replay = Tells replay (history_of replay)
+IsReplay replay = TellsHistory replay (history_of replay)

@@ -104,9 +104,9 @@ blocks_in [] = []
 blocks_in (entry ∷ entries) = blocks_in entries ++ block_of entry ∷ []
 
 -- an admission is of a block that isn't among these
-abbrev pub IsFree : Event → List Resident → Type 0
-IsFree (Admit dataset part size level borrowed evictions) blocks = list_any (is_block dataset part) blocks ≡ false
-IsFree _ blocks = ⊤
+abbrev pub IsNewBlock : Event → List Resident → Type 0
+IsNewBlock (Admit dataset part size level borrowed evictions) blocks = list_any (is_block dataset part) blocks ≡ false
+IsNewBlock _ blocks = ⊤
 
 -- a block as a choice of victims sees it, with these pins
 abbrev pub candidate_in : List (Option BlockName) → Resident → Candidate

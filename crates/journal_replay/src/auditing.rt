@@ -4,7 +4,7 @@ ghost use Rattle.std.specs.Prelude.{◌≡◌, ◌++◌, ◌∷◌, All, None, I
 ghost use Rattle.journal_audit.specs.Text.{lines_text, Fits};
 ghost use Rattle.journal_audit.specs.Lines.{IsBadLine};
 ghost use Rattle.journal_audit.specs.Rules.{first_broken};
-ghost use Rattle.journal_replay.specs.Replays.{history_of, setup_of, IsReplay, Tells};
+ghost use Rattle.journal_replay.specs.Replays.{history_of, setup_of, IsReplay, TellsHistory};
 ghost use Rattle.journal_replay.specs.Verdicts.{IsAnswer, IsVerdict};
 
 use crate::check::check;
@@ -75,7 +75,7 @@ fn replay_all(alloc: Global, setup: Setup, entries: &[Entry]) -> Result<Verdict,
 fn step(replay: &mut Replay, entry: Entry) -> Result<Option<Rule>, AllocError>
     requires { IsReplay replay.old }
     ensures broken { IfOk result (λ broken. broken ≡ first_broken (setup_of replay.old) (history_of replay.old) entry) }
-    ensures next { IfOk result (λ broken. broken ≡ None → Tells replay.new (entry ∷ history_of replay.old)) }
+    ensures next { IfOk result (λ broken. broken ≡ None → TellsHistory replay.new (entry ∷ history_of replay.old)) }
     ensures setup { IfOk result (λ broken. broken ≡ None → setup_of replay.new ≡ setup_of replay.old) }
 {
     // For the proof: an entry that breaks no rule may follow those before it.

@@ -4,7 +4,7 @@ ghost use Rattle.std.specs.Prelude.{◌≡◌, ◌++◌, ◌∷◌, [], ◌^◌,
 ghost use Rattle.std.specs.List.{find, list_any};
 ghost use Rattle.std.specs.Option.{option_map};
 ghost use Rattle.pool_ledger.specs.Blocks.{is_block, only, residents_after, without};
-ghost use Rattle.journal_replay.specs.Tables.{block_of, blocks_in, candidate_in, resident_of, IsFree};
+ghost use Rattle.journal_replay.specs.Tables.{block_of, blocks_in, candidate_in, resident_of, IsNewBlock};
 
 use crate::block_name::BlockName;
 use crate::pins::{Pins, is_pinned};
@@ -42,7 +42,7 @@ pub(crate) fn has_block(blocks: &Blocks, dataset: u32, part: u32) -> bool
 
 /// Notes what an event does to the blocks in memory. An `Err` is want of memory.
 pub(crate) fn note_use(blocks: &mut Blocks, event: Event) -> Result<(), AllocError>
-    requires free { IsFree event (blocks_in blocks.old.entries) }
+    requires free { IsNewBlock event (blocks_in blocks.old.entries) }
     requires unbounded { blocks.old.cap ≡ 2 ^ 64 - 1 }
     ensures ok { OnOk result
         (blocks_in blocks.new.entries ≡ residents_after event (blocks_in blocks.old.entries)) }

@@ -2,7 +2,7 @@
 
 ghost use Rattle.std.specs.Prelude.{◌≡◌, ◌∷◌, [], IfOk, OnOk};
 ghost use Rattle.pool_ledger.specs.Legal.{MayFollow};
-ghost use Rattle.journal_replay.specs.Replays.{history_of, setup_of, IsReplay, Tells};
+ghost use Rattle.journal_replay.specs.Replays.{history_of, setup_of, IsReplay, TellsHistory};
 
 use crate::tables::{Tables, empty_tables, note};
 use crate::turns::{Turns, add_turn, no_turns};
@@ -19,7 +19,7 @@ pub(crate) struct Replay {
 /// A replay of no entries. An `Err` is want of memory.
 pub(crate) fn start(alloc: Global, setup: Setup) -> Result<Replay, AllocError>
     ensures setup { IfOk result (λ replay. setup_of replay ≡ setup) }
-    ensures tells { IfOk result (λ replay. Tells replay []) }
+    ensures tells { IfOk result (λ replay. TellsHistory replay []) }
 {
     Ok(Replay {
         turns: no_turns(alloc, setup)?,
@@ -31,7 +31,7 @@ pub(crate) fn start(alloc: Global, setup: Setup) -> Result<Replay, AllocError>
 pub(crate) fn add(replay: &mut Replay, entry: Entry) -> Result<(), AllocError>
     requires tells { IsReplay replay.old }
     requires next { MayFollow (setup_of replay.old) (history_of replay.old) entry }
-    ensures ok { OnOk result (Tells replay.new (entry ∷ history_of replay.old)) }
+    ensures ok { OnOk result (TellsHistory replay.new (entry ∷ history_of replay.old)) }
     ensures setup { OnOk result (setup_of replay.new ≡ setup_of replay.old) }
 {
     // For the proof: no more than 16 workers.

@@ -4,7 +4,7 @@ ghost use Rattle.std.specs.Prelude.{◌≡◌, ◌≤◌, ◌<◌, ◌^◌, ◌-
 ghost use Rattle.pool_ledger.specs.Sizes.{Sizes};
 ghost use Rattle.pool_ledger.specs.History.{History};
 ghost use Rattle.pool_ledger.specs.Legal.{MayFollow};
-ghost use Rattle.journal_replay.specs.Tables.{blocks_in, IsFree};
+ghost use Rattle.journal_replay.specs.Tables.{blocks_in, IsNewBlock};
 ghost use Rattle.journal_replay.specs.Replays.{TellsTables};
 
 use crate::block_name::BlockName;
@@ -41,7 +41,7 @@ pub(crate) fn empty_tables(alloc: Global) -> Result<Tables, AllocError>
 /// Notes an entry that may follow. After an `Err`, which is want of memory, the tables are only dropped.
 pub(crate) fn note(tables: &mut Tables, entry: Entry) -> Result<(), AllocError>
     requires worker { entry.worker < 16 }
-    requires free { IsFree entry.event (blocks_in tables.old.blocks.entries) }
+    requires free { IsNewBlock entry.event (blocks_in tables.old.blocks.entries) }
     requires unbounded { tables.old.blocks.cap ≡ 2 ^ 64 - 1 }
     ensures ok { OnOk result ((setup : Sizes) (history : History)
         → MayFollow setup history entry → TellsTables tables.old history → TellsTables tables.new (entry ∷ history)) }

@@ -5,7 +5,7 @@ ghost use Rattle.std.specs.Prelude.{◌≡◌, ◌≤◌, ◌+◌, ◌<◌, ◌+
 ghost use Rattle.std.specs.List.{list_any};
 ghost use Rattle.std.specs.Option.{option_map_or};
 ghost use Rattle.pool_ledger.specs.Blocks.{is_block, only, residents_after, sizes, without};
-ghost use Rattle.journal_replay.specs.Tables.{IsFree};
+ghost use Rattle.journal_replay.specs.Tables.{IsNewBlock};
 ghost use Rattle.journal_replay.specs.UseOrder.{block_by, is_start, resident_in, residents_in, AreKnown, AreStretches, IsInOrder};
 
 use crate::block_name::BlockName;
@@ -39,7 +39,7 @@ pub(crate) fn no_order(alloc: Global) -> UseOrder
 /// Notes what the event at this place of the journal does to the blocks. An `Err` is want of memory.
 pub(crate) fn note_order(order: &mut UseOrder, place: u64, event: Event) -> Result<(), AllocError>
     requires in_order { IsInOrder order.old place }
-    requires free { IsFree event (residents_in order.old.placed.entries) }
+    requires free { IsNewBlock event (residents_in order.old.placed.entries) }
     ensures blocks { OnOk result
         (residents_in order.new.placed.entries ≡ residents_after event (residents_in order.old.placed.entries)) }
     ensures in_order { OnOk result (IsInOrder order.new (place + 1)) }

@@ -10,7 +10,7 @@ use Rattle.job_plan.specs.Columns.{Fields}
 use Rattle.landing.specs.Checks.{Refused, checked, first_of_two, first_refusal, is_too_long, number_heads, refusal_of}
 use Rattle.landing.specs.Explaining.{Explains, FailsAmong}
 use Rattle.landing.specs.Filling.{LandsRows}
-use Rattle.landing.specs.Landed.{AreRowsOf, HasCauseAmong, IsOfInput, Lands}
+use Rattle.landing.specs.Landed.{PassChecks, HasCauseAmong, IsOfInput, Lands}
 use Rattle.landing.specs.Ruling.{ArePassed, AreRules, first_refusal_in, refusal_by, refusal_in}
 use Rattle.landing.specs.declared.fault.LandFault.{LandFault}
 use Rattle.landing.specs.declared.fault.LandFault.TheVariants.{NoHeader, NoColumn, Ragged, RowTooLong, BadNumber, TooManyRows, ReadFault, DiskFault, NoMemory}
@@ -52,7 +52,7 @@ refused_below job max_rows rules (Some records) (Some rows) header why given are
 
 known_rows : (job : Job) (max_rows : ℕ) (rules : Rules) (landed : List Fields) (before after : Option (List Fields)) (header : Row)
     → GivesRow before after (Some header) → AreRules job (fields_of header) rules → rules.max_rows ≡ max_rows → is_too_long (fields_of header) ≡ false
-    → IfSome after (ArePassed rules 1 landed) → IfSome before (AreRowsOf job max_rows rules.plan landed)
+    → IfSome after (ArePassed rules 1 landed) → IfSome before (PassChecks job max_rows rules.plan landed)
 known_rows job max_rows rules landed None after header given are most short passed = tt
 known_rows job max_rows rules landed (Some records) None header given are most short passed = absurd given
 known_rows job max_rows rules landed (Some records) (Some rows) header given are most short passed =

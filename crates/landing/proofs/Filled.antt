@@ -5,7 +5,7 @@ use Rattle.std.proofs.lemmas.List.{length-append}
 use Rattle.csv.specs.Records.{Row, fields_of}
 use Rattle.byte_io.specs.Records.{GivesRow}
 use Rattle.spill_disk.specs.Files.{Files}
-use Rattle.run_file.specs.declared.form.Form.{Form}
+use Rattle.row_form.specs.declared.form.Form.{Form}
 use Rattle.run_file.specs.Writing.{IsSoFar, WriterView}
 use Rattle.run_file.proofs.Among.{all_join}
 use Rattle.job_plan.specs.Columns.{Fields}

@@ -11,10 +11,10 @@ use Rattle.std.proofs.lemmas.List.FromFn.{length-range_with_len}
 use Rattle.std.proofs.lemmas.List.Sums.{sum_by-cons, sum_by_more_le}
 use Rattle.std.proofs.lemmas.Simd.{pick_l_whole}
 use Rattle.row_page.specs.Spelling.{row_length}
-use Rattle.run_file.specs.Forms.{HasForm}
-use Rattle.run_file.specs.Numbers.{is_number}
-use Rattle.run_file.specs.declared.form.Form.{Form}
-use Rattle.run_file.specs.declared.form.Form.TheVariants.{Landed}
+use Rattle.row_form.specs.Forms.{HasForm}
+use Rattle.row_form.specs.Numbers.{is_number}
+use Rattle.row_form.specs.declared.form.Form.{Form}
+use Rattle.row_form.specs.declared.form.Form.TheVariants.{Landed}
 use Rattle.job_text.specs.declared.job.Job.{Job}
 use Rattle.job_plan.specs.Columns.{Fields, is_number_place, kept, number_columns, number_places, stands_at}
 use Rattle.job_plan.specs.Entries.{field_bytes}

@@ -12,11 +12,11 @@ use Rattle.std.proofs.lemmas.Nat.{div-mul-add}
 use Rattle.csv.specs.Records.{Row}
 use Rattle.row_page.specs.Spelling.{row_length}
 use Rattle.spill_disk.specs.Files.{Files}
-use Rattle.run_file.specs.declared.form.Form.{Form}
-use Rattle.run_file.specs.declared.form.Form.TheVariants.{Landed}
+use Rattle.row_form.specs.declared.form.Form.{Form}
+use Rattle.row_form.specs.declared.form.Form.TheVariants.{Landed}
 use Rattle.run_file.specs.declared.run.Run.{Run}
-use Rattle.run_file.specs.Forms.{HasForm}
-use Rattle.run_file.specs.Runs.{Counts, Stands, greatest_cost}
+use Rattle.row_form.specs.Forms.{HasForm}
+use Rattle.run_file.specs.Runs.{CountsRows, Stands, greatest_cost}
 use Rattle.run_file.specs.Several.{KeepsFile, no_run, run_at}
 use Rattle.job_plan.specs.Columns.{Fields, kept, number_places}
 use Rattle.job_plan.specs.Entries.{field_bytes}
@@ -98,7 +98,7 @@ cost_within : (columns : ℕ) (numbers : List ℕ) (rows : List Fields) → AllB
 cost_within columns numbers [] formed short = omega arith
 cost_within columns numbers (row ∷ rows) formed short = omega (arith, row_cost columns numbers row formed.0 short.0, cost_within columns numbers rows formed.1 short.1)
 
-run_short : (form : Form) (columns : ℕ) (numbers : List ℕ) (run : Run) (rows : List Fields) → form ≡ Landed columns numbers → Counts run rows → AreChecked form rows → run.greatest ≤ 36 + 4 * columns_of form + 65536
+run_short : (form : Form) (columns : ℕ) (numbers : List ℕ) (run : Run) (rows : List Fields) → form ≡ Landed columns numbers → CountsRows run rows → AreChecked form rows → run.greatest ≤ 36 + 4 * columns_of form + 65536
 run_short form columns numbers run rows is counts checked =
     let formed = subst (λ (f : Form). AllByRecursion (HasForm f) rows) is checked.formed in
     rw is (omega (arith, counts.greatest, cost_within columns numbers rows formed checked.short))

@@ -1,11 +1,11 @@
 -- A header, and the plan of a job over it.
 use Rattle.std.proofs.Common.{◌≡◌, ◌∷◌, List, [], Option, Some, None, false, refl}
-use Rattle.std.specs.Prelude.{IfSome, take}
+use Rattle.std.specs.Prelude.{IfSome}
 use Rattle.csv.specs.Records.{Row, fields_of}
 use Rattle.byte_io.specs.Records.{GivesRow}
 use Rattle.job_text.specs.declared.job.Job.{Job}
 use Rattle.job_plan.specs.Columns.{Fields}
-use Rattle.landing.specs.Checks.{Refused, Rows, checked, first_refusal, is_too_long}
+use Rattle.landing.specs.Checks.{Refused, checked, first_refusal, is_too_long}
 use Rattle.landing.specs.Headers.{IsPlanOver, checked_header}
 use Rattle.landing.specs.Ruling.{AreRules}
 use Rattle.landing.specs.declared.fault.LandFault.{LandFault}

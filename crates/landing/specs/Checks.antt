@@ -2,7 +2,7 @@
 -- This project's own.
 use Rattle.std.specs.Prelude.{ℕ, Bool, not, ◌+◌, ◌==◌, ◌||◌, List, [], ◌∷◌, Option, Some, None, length, map, option_map, slice_index_or, sum_by, if◌then◌else◌, nat_lt}
 use Rattle.std.specs.List.{find}
-use Rattle.run_file.specs.Numbers.{is_number}
+use Rattle.row_form.specs.Numbers.{is_number}
 use Rattle.job_text.specs.declared.job.Job.{Job}
 use Rattle.job_plan.specs.Columns.{Fields, kept, missing, number_places}
 use Rattle.landing.specs.declared.fault.LandFault.{LandFault}
@@ -28,6 +28,7 @@ refusal_of job header max_rows n row =
     else (if not (length row == length header) then Some (fault.Ragged n)
     else option_map (fault.BadNumber n) (bad_place (number_heads job header) row)))
 
+-- the earlier refusal where there is one, else the later
 abbrev pub first_of_two : Option LandFault → Option LandFault → Option LandFault
 first_of_two None later = later
 first_of_two (Some why) later = Some why
@@ -43,10 +44,12 @@ pub data Checked : Type 0 where
   Refused : (why : LandFault) → Checked
   Rows : (header : Fields) (rows : List Fields) → Checked
 
+-- the header and its rows, or the refusal of one of them, if there is one
 abbrev pub checked_rows : Fields → List Fields → Option LandFault → Checked
 checked_rows header rows None = Rows header rows
 checked_rows header rows (Some why) = Refused why
 
+-- what is made of a header and its rows: a column that it lacks is told before any row is looked at
 abbrev pub checked_below : Job → Fields → ℕ → List Fields → Option (List ℕ) → Checked
 checked_below job header max_rows rows None = checked_rows header rows (first_refusal job header max_rows 1 rows)
 checked_below job header max_rows rows (Some name) = Refused (fault.NoColumn name)

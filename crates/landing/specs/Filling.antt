@@ -3,7 +3,7 @@
 use Rattle.std.specs.Prelude.{◌≡◌, ℕ, ◌+◌, ◌*◌, ◌≤◌, Bool, true, List, Option, IsSome, IfSome, length}
 use Rattle.spill_disk.specs.Files.{Files}
 use Rattle.run_file.specs.declared.run.Run.{Run}
-use Rattle.run_file.specs.Runs.{Counts, Stands}
+use Rattle.run_file.specs.Runs.{CountsRows, Stands}
 use Rattle.run_file.specs.Writing.{IsSoFar, WriterView}
 use Rattle.job_plan.specs.Columns.{Fields}
 use Rattle.job_plan.specs.Plans.{form_in}
@@ -38,7 +38,7 @@ pub record Fills (files : Option Files) (rules : Rules) (first part_rows : ℕ) 
 -- a run stands with them, where the disk tells
 pub record LandsPart (files : Option Files) (rules : Rules) (first part_rows : ℕ) (run : Run) (more : Bool) (before after : Option (List Fields)) : Type 0 where
   pub rows : List Fields
-  pub counts : Counts run rows
+  pub counts : CountsRows run rows
   pub stands : IsSome files → Stands files run rows
   pub are : AreOfPart rules first part_rows more before after rows
 

@@ -1,6 +1,6 @@
 -- What a job makes of an input's header alone, whatever rows stand below it.
 -- This project's own.
-use Rattle.std.specs.Prelude.{◌≡◌, ℕ, List, [], ◌∷◌, take, ⊤}
+use Rattle.std.specs.Prelude.{◌≡◌, List, [], take, ⊤}
 use Rattle.job_text.specs.declared.job.Job.{Job}
 use Rattle.job_plan.specs.Columns.{Fields}
 use Rattle.job_plan.specs.Plans.{IsPlanOf}

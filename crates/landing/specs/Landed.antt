@@ -4,9 +4,9 @@ use Rattle.std.specs.Prelude.{◌≡◌, ℕ, ◌+◌, ◌-◌, ◌*◌, ◌/◌
 use Rattle.std.specs.List.{AllByRecursion}
 use Rattle.fault_count.specs.Faults.{Rose}
 use Rattle.spill_disk.specs.Files.{Files}
-use Rattle.run_file.specs.Forms.{HasForm}
+use Rattle.row_form.specs.Forms.{HasForm}
 use Rattle.run_file.specs.Runs.{Stands}
-use Rattle.run_file.specs.declared.form.Form.{Form}
+use Rattle.row_form.specs.declared.form.Form.{Form}
 use Rattle.run_file.specs.declared.run.Run.{Run}
 use Rattle.run_file.specs.Several.{AreApart, KeepsFile, run_at}
 use Rattle.run_file.specs.Shelved.{IsGoneOn}
@@ -47,7 +47,7 @@ abbrev pub AreShort : Form → List Run → Type 0
 AreShort form parts = All (λ run. run.greatest ≤ 36 + 4 * columns_of form + 65536) parts
 
 -- records that pass the job's checks: the plan is that of their header, and these are their landed rows
-pub record AreRowsOf (job : Job) (max_rows : ℕ) (plan : Plan) (landed : List Fields) (records : List Fields) : Type 0 where
+pub record PassChecks (job : Job) (max_rows : ℕ) (plan : Plan) (landed : List Fields) (records : List Fields) : Type 0 where
   pub header : Fields
   pub rows : List Fields
   pub passed : checked job max_rows records ≡ Rows header rows
@@ -65,7 +65,7 @@ pub record Lands (files : ℕ → Option Files) (job : Job) (max_rows part_rows 
   pub are_checked : AreChecked (form_in plan) rows
   pub are_landed : AreLanded files part_rows workers parts rows
   pub are_short : AreShort (form_in plan) parts
-  pub are_known : IfSome records (AreRowsOf job max_rows plan rows)
+  pub are_known : IfSome records (PassChecks job max_rows plan rows)
 
 -- the runs' files are new: none was on its disk before, and no two are one where their disks tell
 pub record AreMade (named : ℕ → ℕ) (before : ℕ → Option Files) (parts : List Run) : Type 0 where

@@ -22,14 +22,11 @@ use crate::rules::{Rules, rules_of};
 use byte_io::{Origin, RecordFault, Records, Source, Tap};
 use job_plan::Plan;
 use job_text::Job;
-use row_page::Page;
+use row_page::{PAGE_ROOM, Page};
 use run_file::Run;
 use spill_disk::{Disk, Shelf};
 use std::alloc::Global;
 use std::marker::Brand;
-
-/// The bytes of a page that is written.
-const PAGE_ROOM: u64 = 262144;
 
 /// What was landed: the plan of the job over the header, the landed run of each partition, that of
 /// partition `p` on disk `p % workers`, and how many rows there are.

@@ -16,8 +16,8 @@ use crate::length::is_long;
 use csv::ByteRecord;
 use job_plan::{Plan, PlanFault, plan};
 use job_text::Job;
+use row_form::{Form, is_decimal};
 use row_page::RowBuf;
-use run_file::{Form, is_decimal};
 use std::alloc::{AllocError, Global};
 
 /// What the rows below a header are held to: the job's plan, where its number columns stand in the header,

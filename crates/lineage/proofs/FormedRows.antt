@@ -4,7 +4,7 @@ use Rattle.std.specs.List.{AllByRecursion, filter}
 use Rattle.std.proofs.lemmas.Bool.{cases_Bool}
 use Rattle.std.proofs.lemmas.List.Filters.{sum_by-filter_both}
 use Rattle.row_page.specs.Spelling.{page_length, row_length}
-use Rattle.run_file.specs.Forms.{IsWellFormed}
+use Rattle.row_form.specs.Forms.{IsWellFormed}
 use Rattle.row_filter.specs.declared.chain.Chain.{Chain}
 use Rattle.row_filter.specs.declared.filter.Filter.{Filter}
 use Rattle.row_filter.specs.Chains.{filter_at}

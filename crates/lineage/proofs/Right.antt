@@ -1,8 +1,8 @@
 -- The rows of a block are checked one after another.
 use Rattle.std.proofs.Common.{ℕ, ◌+◌, List, [], ◌∷◌}
 use Rattle.std.specs.List.{AllByRecursion}
-use Rattle.run_file.specs.Forms.{IsWellFormed}
-use Rattle.run_file.specs.declared.form.Form.{Form}
+use Rattle.row_form.specs.Forms.{IsWellFormed}
+use Rattle.row_form.specs.declared.form.Form.{Form}
 use Rattle.lineage.specs.Checking.{AreRight, AreRightFor, number_of}
 use Rattle.lineage.specs.Handed.{AreFormed}
 use Rattle.lineage.specs.LineageViews.{LineageView, form_for, run_for}

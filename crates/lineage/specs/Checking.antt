@@ -2,8 +2,8 @@
 -- This project's own.
 use Rattle.std.specs.Prelude.{ℕ, ◌+◌, ◌*◌, ◌≤◌, List, [], ◌∷◌, length, slice_index_or, ⊤}
 use Rattle.std.specs.Int.{w64, from_be_bytes}
-use Rattle.run_file.specs.declared.form.Form.{Form}
-use Rattle.run_file.specs.Forms.{IsWellFormed}
+use Rattle.row_form.specs.declared.form.Form.{Form}
+use Rattle.row_form.specs.Forms.{IsWellFormed}
 use Rattle.lineage.specs.LineageViews.{LineageView, form_for, run_for}
 
 -- a landed row's number: its first field, the greatest byte first

@@ -6,7 +6,7 @@ use Rattle.std.specs.List.{AllByRecursion}
 use Rattle.fault_count.specs.Faults.{Rose}
 use Rattle.row_page.specs.Pages.{PageView}
 use Rattle.spill_disk.specs.Files.{Files}
-use Rattle.run_file.specs.Forms.{IsWellFormed}
+use Rattle.row_form.specs.Forms.{IsWellFormed}
 use Rattle.run_file.specs.declared.run.Run.{Run}
 use Rattle.row_filter.specs.declared.chain.Chain.{Chain}
 use Rattle.row_filter.specs.Chains.{level_at}

@@ -2,15 +2,15 @@
 -- This project's own; after the lineage of Spark's resilient distributed datasets.
 use Rattle.std.specs.Prelude.{◌≡◌, ℕ, ◌+◌, ◌<◌, ◌^◌, All, Bool, true, false, IfSome, List, length}
 use Rattle.std.specs.List.{filter}
-use Rattle.run_file.specs.declared.form.Form.{Form}
-use Rattle.run_file.specs.declared.form.Form.TheVariants.{Entries, Landed}
+use Rattle.row_form.specs.declared.form.Form.{Form}
+use Rattle.row_form.specs.declared.form.Form.TheVariants.{Entries, Landed}
 use Rattle.run_file.specs.declared.run.Run.{Run}
 use Rattle.run_file.specs.Several.{run_at}
 use Rattle.row_filter.specs.declared.chain.Chain.{Chain}
 use Rattle.row_filter.specs.Chains.{base_of, form_of, links_of}
 use Rattle.row_filter.specs.Derived.{passes_own}
 use Rattle.row_filter.specs.Lines.{AreOrdered}
-use Rattle.row_filter.specs.Rows.{Covers}
+use Rattle.row_filter.specs.Rows.{HasTestedColumns}
 
 -- the datasets, the landed run of each partition, and how many rows a partition has, but for the last
 pub record LineageView : Type 0 where
@@ -44,7 +44,7 @@ columns_of (Entries kind) = 0
 pub record IsLineage (lineage : LineageView) : Type 0 where
   pub landed : is_landed (form_for lineage) ≡ true
   pub ordered : AreOrdered (links_of lineage.chain)
-  pub covered : All (λ link. IfSome link.filter (Covers (columns_of (form_for lineage) + 1))) (links_of lineage.chain)
+  pub covered : All (λ link. IfSome link.filter (HasTestedColumns (columns_of (form_for lineage) + 1))) (links_of lineage.chain)
   pub named : name_for lineage.chain (length (links_of lineage.chain)) < 2 ^ 32
 
 -- what a dataset's own filter keeps of its parent's rows

@@ -3,9 +3,9 @@
 use Rattle.std.specs.Prelude.{◌≡◌, ℕ, ◌≤◌, ◌<◌, List, length, Option, Some, IsSome}
 use Rattle.std.specs.List.{AllByRecursion}
 use Rattle.spill_disk.specs.Files.{Files}
-use Rattle.run_file.specs.Forms.{HasForm}
+use Rattle.row_form.specs.Forms.{HasForm}
 use Rattle.run_file.specs.Runs.{Stands}
-use Rattle.run_file.specs.declared.form.Form.{Form}
+use Rattle.row_form.specs.declared.form.Form.{Form}
 use Rattle.run_file.specs.declared.run.Run.{Run}
 use Rattle.row_filter.specs.declared.chain.Chain.{Chain}
 use Rattle.row_filter.specs.Chains.{level_at, links_of}

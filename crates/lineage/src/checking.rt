@@ -2,13 +2,13 @@
 
 ghost use Rattle.std.specs.Prelude.{◌≡◌, ◌<◌, ◌+◌, ◌↔◌, true, length, IfNone, IfSome, IsTrue};
 ghost use Rattle.row_page.specs.Views.{fields_in};
-ghost use Rattle.run_file.specs.Forms.{IsWellFormed};
+ghost use Rattle.row_form.specs.Forms.{IsWellFormed};
 ghost use Rattle.lineage.specs.Checking.{AreRight, AreRightFor, number_of};
 ghost use Rattle.lineage.specs.LineageViews.{form_for, is_landed};
 
 use crate::lineage::Lineage;
+use row_form::Form;
 use row_page::{Page, RowView};
-use run_file::Form;
 
 // The number of a landed row that is well formed, or none.
 fn right_number(form: &Form, greatest: u64, row: RowView<'_>) -> Option<u64>

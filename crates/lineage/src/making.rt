@@ -2,9 +2,9 @@
 
 ghost use Rattle.std.specs.Prelude.{◌≡◌, ◌≤◌, All, IfOk, length};
 ghost use Rattle.std.specs.List.{AllByRecursion};
-ghost use Rattle.run_file.specs.Forms.{HasForm};
+ghost use Rattle.row_form.specs.Forms.{HasForm};
 ghost use Rattle.row_filter.specs.Chains.{links_of};
-ghost use Rattle.row_filter.specs.Rows.{Covers, kept_rows};
+ghost use Rattle.row_filter.specs.Rows.{HasTestedColumns, kept_rows};
 ghost use Rattle.lineage.specs.LineageViews.{IsLineage, form_for, own_rows};
 
 use crate::lineage::Lineage;
@@ -32,7 +32,7 @@ pub(crate) fn make_page(
 
 // The rows that the filter keeps, on a page of their own.
 fn filter_page(alloc: Global, filter: &Filter, from: &Page) -> Result<Page, AllocError>
-    requires covers { All (λ row. Covers (length row) filter.now) from.now.rows }
+    requires covers { All (λ row. HasTestedColumns (length row) filter.now) from.now.rows }
     ensures { IfOk result (λ page. page.rows ≡ kept_rows filter.now from.now.rows) }
 {
     // What is kept takes no more bytes than all.

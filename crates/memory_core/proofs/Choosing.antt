@@ -11,7 +11,7 @@ use Rattle.pool_ledger.specs.Blocks.{Resident, evictable as evictable_by, is_exc
 use Rattle.pool_plans.specs.Listed.{listed, seen_in}
 use Rattle.eviction.specs.Victims.{evictable, is_evictable}
 use Rattle.eviction.specs.declared.candidate.Candidate.{Candidate}
-use Rattle.block_store.specs.Stores.{AreApart, Held, candidate_of, held_at, is_held, pins_at}
+use Rattle.block_store.specs.Stores.{AreApart, HeldBlock, candidate_of, held_at, is_held, pins_at}
 use Rattle.block_store.proofs.Places.{any_parts}
 use Rattle.block_store.proofs.UseOrder.{name_is}
 use Rattle.memory_core.specs.Caches.{Cache, resident_of}
@@ -20,16 +20,16 @@ use Rattle.memory_core.specs.Steady.{IsInStep}
 -- ---- each block is the one of its name
 
 -- each of these is the one of its name in the whole
-abbrev pub AreFound : List Held → List Held → Type 0
+abbrev pub AreFound : List HeldBlock → List HeldBlock → Type 0
 AreFound whole [] = ⊤
 AreFound whole (held ∷ others) = (held_at whole held.dataset held.part ≡ Some held) × AreFound whole others
 
 -- a block has its own name
-own_name : (held : Held) → is_held held.dataset held.part held ≡ true
+own_name : (held : HeldBlock) → is_held held.dataset held.part held ≡ true
 own_name held = rw (eq-eqb held.dataset held.dataset refl, eq-eqb held.part held.part refl) refl
 
 -- two blocks of different names
-other_name : (one two : Held) → is_held one.dataset one.part two ≡ false → is_held two.dataset two.part one ≡ false
+other_name : (one two : HeldBlock) → is_held one.dataset one.part two ≡ false → is_held two.dataset two.part one ≡ false
 other_name one two other = elim (cases_Bool (is_held two.dataset two.part one)) [
   | inl same ↦
       let name = name_is two.dataset two.part one same in
@@ -38,7 +38,7 @@ other_name one two other = elim (cases_Bool (is_held two.dataset two.part one)) 
 ]
 
 -- blocks that are found are found behind one of another name
-found_behind : (first : Held) (whole part : List Held) → list_any (is_held first.dataset first.part) part ≡ false → AreFound whole part → AreFound (first ∷ whole) part
+found_behind : (first : HeldBlock) (whole part : List HeldBlock) → list_any (is_held first.dataset first.part) part ≡ false → AreFound whole part → AreFound (first ∷ whole) part
 found_behind first whole [] apart found = tt
 found_behind first whole (held ∷ others) apart found =
     let parts = any_parts (is_held first.dataset first.part) held others apart in (
@@ -47,18 +47,18 @@ found_behind first whole (held ∷ others) apart found =
     )
 
 -- where no two have one name, each is found
-pub all_found : (blocks : List Held) → AreApart blocks → AreFound blocks blocks
+pub all_found : (blocks : List HeldBlock) → AreApart blocks → AreFound blocks blocks
 all_found [] apart = tt
 all_found (b ∷ bs) apart = (cond-true (is_held b.dataset b.part b) (Some b) (held_at bs b.dataset b.part) (own_name b), found_behind b bs bs apart.0 (all_found bs apart.1))
 
 -- ---- the same blocks may go
 
 -- the blocks that may go
-abbrev pub goers : Option ℕ → List Held → List Held
-goers except blocks = filter (λ (held : Held). is_evictable except (candidate_of held)) blocks
+abbrev pub goers : Option ℕ → List HeldBlock → List HeldBlock
+goers except blocks = filter (λ (held : HeldBlock). is_evictable except (candidate_of held)) blocks
 
 -- as a choice sees them
-pub goers_seen : (except : Option ℕ) (blocks : List Held) → evictable except (map candidate_of blocks) ≡ map candidate_of (goers except blocks)
+pub goers_seen : (except : Option ℕ) (blocks : List HeldBlock) → evictable except (map candidate_of blocks) ≡ map candidate_of (goers except blocks)
 goers_seen except [] = refl
 goers_seen except (b ∷ bs) = elim (cases_Bool (is_evictable except (candidate_of b))) [
   | inl goes ↦
@@ -82,20 +82,20 @@ more_pins kept unpins pins is = elim (cases_Bool (nat_lt 0 kept)) [
 abbrev pub may_go : History → Option ℕ → Resident → Bool
 may_go history except block = not (is_pinned history block.dataset block.part) && not (is_excepted except block.dataset)
 
-module _ (history : History) (whole : List Held)
+module _ (history : History) (whole : List HeldBlock)
     (step : (d p : ℕ) → pins_at whole d p + total (unpin_of d p) history ≡ total (pin_of d p) history) where
   -- a block that is found is pinned in the history where a pin keeps it
-  pub pinned_as_kept : (held : Held) → held_at whole held.dataset held.part ≡ Some held → is_pinned history held.dataset held.part ≡ nat_lt 0 held.pins
+  pub pinned_as_kept : (held : HeldBlock) → held_at whole held.dataset held.part ≡ Some held → is_pinned history held.dataset held.part ≡ nat_lt 0 held.pins
   pinned_as_kept held found =
       more_pins held.pins (total (unpin_of held.dataset held.part) history) (total (pin_of held.dataset held.part) history)
-      (ap (λ (o : Option Held). option_map_or (λ h. h.pins) o 0 + total (unpin_of held.dataset held.part) history) (sym found) ∙ step held.dataset held.part)
+      (ap (λ (o : Option HeldBlock). option_map_or (λ h. h.pins) o 0 + total (unpin_of held.dataset held.part) history) (sym found) ∙ step held.dataset held.part)
 
   -- the history lets it go where the choice does
-  both_let_go : (except : Option ℕ) (held : Held) → held_at whole held.dataset held.part ≡ Some held → may_go history except (resident_of held) ≡ is_evictable except (candidate_of held)
+  both_let_go : (except : Option ℕ) (held : HeldBlock) → held_at whole held.dataset held.part ≡ Some held → may_go history except (resident_of held) ≡ is_evictable except (candidate_of held)
   both_let_go except held found = ap (λ pinned. not pinned && not (is_excepted except held.dataset)) (pinned_as_kept held found)
 
   -- so do those of a part of the blocks
-  goers_in_part : (except : Option ℕ) (part : List Held) → AreFound whole part → filter (may_go history except) (map resident_of part) ≡ map resident_of (goers except part)
+  goers_in_part : (except : Option ℕ) (part : List HeldBlock) → AreFound whole part → filter (may_go history except) (map resident_of part) ≡ map resident_of (goers except part)
   goers_in_part except [] found = refl
   goers_in_part except (b ∷ bs) found = elim (cases_Bool (is_evictable except (candidate_of b))) [
     | inl goes ↦
@@ -121,13 +121,13 @@ pub record IsSeen (cache : Cache) (list : List Candidate) : Type 0 where
   pub apart : AreApart cache.blocks
 
 -- the list that a store gives
-pub seen_of : (cache : Cache) (blocks : List Held) (list : List Candidate) → blocks ≡ cache.blocks → list ≡ map candidate_of blocks → AreApart blocks → IsSeen cache list
+pub seen_of : (cache : Cache) (blocks : List HeldBlock) (list : List Candidate) → blocks ≡ cache.blocks → list ≡ map candidate_of blocks → AreApart blocks → IsSeen cache list
 seen_of cache blocks list same is apart = record { list_is = is ∙ ap (map candidate_of) same; apart = subst AreApart same apart }
 
 -- ---- the list that a plan asks for
 
 -- the blocks of a part, as a choice sees them, are those that the history names
-seen_in_part : (history : History) (whole part : List Held) → ((d p : ℕ) → pins_at whole d p + total (unpin_of d p) history ≡ total (pin_of d p) history) → AreFound whole part
+seen_in_part : (history : History) (whole part : List HeldBlock) → ((d p : ℕ) → pins_at whole d p + total (unpin_of d p) history ≡ total (pin_of d p) history) → AreFound whole part
     → map candidate_of part ≡ map (seen_in history) (map resident_of part)
 seen_in_part history whole [] step found = refl
 seen_in_part history whole (b ∷ bs) step found =

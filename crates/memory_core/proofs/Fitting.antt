@@ -14,12 +14,12 @@ use Rattle.pool_laws.specs.Evicting.{eviction_by}
 use Rattle.spill_disk.specs.Files.{Files}
 use Rattle.block_store.specs.declared.block.Block.{Block}
 use Rattle.block_store.specs.declared.block_copy.BlockCopy.{BlockCopy}
-use Rattle.block_store.specs.Stores.{Held, Rows, held_at, held_of, is_held, rows_at, unpinned, without}
+use Rattle.block_store.specs.Stores.{HeldBlock, Rows, held_at, held_of, is_held, rows_at, unpinned, without}
 use Rattle.block_store.specs.Copies.{copy_rows, has_copy}
 use Rattle.block_store.specs.Evictions.{KeepsDatasets, is_name}
 use Rattle.memory_core.specs.Caches.{AreGiven, Cache, FitsRows, Memory, RowsByName}
 use Rattle.memory_core.specs.Changes.{Clears, ReadsAlone, RemovesInTurn, StillFits, StillFitsWith}
-use Rattle.memory_core.specs.Evictions.{Drops, EvictsInTurn, WritesNothing}
+use Rattle.memory_core.specs.Evictions.{Drops, EvictsInTurn, KeepsStore}
 use Rattle.memory_core.proofs.RowsFound.{Gone≢Disk, NoMemory≢Disk, None≢Some, and_left, and_right, gone_named, name_left, name_right, rows_others, rows_uncopied, rows_untold, same_Some}
 
 -- ---- evictions
@@ -59,7 +59,7 @@ dropped_copy given block fate before after drops fits rows has =
 
 drops_fits : (block : Resident) (fate : Fate) (before after : Cache) → Drops block fate before after → StillFits before after
 drops_fits block fate before after drops given fits = record {
-  resident = λ d p rows has. resident d p rows (ap (λ (bs : List Held). rows_at bs d p) (sym drops.blocks) ∙ has);
+  resident = λ d p rows has. resident d p rows (ap (λ (bs : List HeldBlock). rows_at bs d p) (sym drops.blocks) ∙ has);
   copied = copied;
   untold = λ silent. fits.untold (sym drops.tells ∙ silent);
 }
@@ -92,16 +92,16 @@ evicts_fits worker (block ∷ blocks) before after had has gone given fits =
 
 pub reads_fits : (before after : Cache) → ReadsAlone before after → StillFits before after
 reads_fits before after reads given fits = record {
-  resident = λ d p rows has. fits.resident d p rows (ap (λ (bs : List Held). rows_at bs d p) (sym reads.blocks) ∙ has);
+  resident = λ d p rows has. fits.resident d p rows (ap (λ (bs : List HeldBlock). rows_at bs d p) (sym reads.blocks) ∙ has);
   copied = λ d p rows has. fits.copied d p rows (ap (λ (f : Option Files). copy_rows f before.copies d p) (sym reads.files) ∙ ap (λ (c : List BlockCopy). copy_rows after.files c d p) (sym reads.copies) ∙ has);
   untold = λ silent. fits.untold (ap is_some (sym reads.files) ∙ silent);
 }
 
 -- ---- removals
 
-removed_rows : (worker dataset from end : ℕ) (gone : List Resident) (before after : History) (had has : List Held) → RemovesInTurn worker dataset from end gone before had after has
+removed_rows : (worker dataset from end : ℕ) (gone : List Resident) (before after : History) (had has : List HeldBlock) → RemovesInTurn worker dataset from end gone before had after has
     → (d p : ℕ) (rows : Rows) → rows_at has d p ≡ Some rows → rows_at had d p ≡ Some rows
-removed_rows worker dataset from end [] before after had has gone d p rows is = ap (λ (bs : List Held). rows_at bs d p) (sym gone.2) ∙ is
+removed_rows worker dataset from end [] before after had has gone d p rows is = ap (λ (bs : List HeldBlock). rows_at bs d p) (sym gone.2) ∙ is
 removed_rows worker dataset from end (block ∷ blocks) before after had has gone d p rows is =
     let rest = removed_rows worker dataset (block.part + 1) end blocks _ after (without dataset block.part had) has gone.2 d p rows is in
     elim (cases_Bool (is_name dataset block.part d p)) [
@@ -124,10 +124,10 @@ clears_fits worker dataset before after clears given fits = record {
 
 -- the same call by call: the removals write nothing, and then the copies are forgotten
 pub cleared_fits : (worker dataset end : ℕ) (gone : List Resident) (before after : History) (had amid has : Cache) → RemovesInTurn worker dataset 0 end gone before had.blocks after amid.blocks
-    → WritesNothing had amid → has.blocks ≡ amid.blocks → ((part : ℕ) → has_copy has.copies dataset part ≡ false)
+    → KeepsStore had amid → has.blocks ≡ amid.blocks → ((part : ℕ) → has_copy has.copies dataset part ≡ false)
     → KeepsDatasets dataset amid.files amid.copies has.files has.copies → is_some has.files ≡ is_some amid.files → StillFits had has
 cleared_fits worker dataset end gone before after had amid has removes same blocks forgotten others tells given fits = record {
-  resident = λ d p rows is. fits.resident d p rows (removed_rows worker dataset 0 end gone before after had.blocks amid.blocks removes d p rows (ap (λ (bs : List Held). rows_at bs d p) (sym blocks) ∙ is));
+  resident = λ d p rows is. fits.resident d p rows (removed_rows worker dataset 0 end gone before after had.blocks amid.blocks removes d p rows (ap (λ (bs : List HeldBlock). rows_at bs d p) (sym blocks) ∙ is));
   copied = copied;
   untold = λ silent. fits.untold (ap is_some (sym same.files) ∙ sym tells ∙ silent);
 }
@@ -141,7 +141,7 @@ cleared_fits worker dataset end gone before after had amid has removes same bloc
 -- ---- admissions and pins
 
 -- rows behind others are those of the others, or its own
-rows_behind : (blocks : List Held) (held : Held) (d p : ℕ) (rows : Rows) → rows_at (blocks ++ held ∷ []) d p ≡ Some rows
+rows_behind : (blocks : List HeldBlock) (held : HeldBlock) (d p : ℕ) (rows : Rows) → rows_at (blocks ++ held ∷ []) d p ≡ Some rows
     → (rows_at blocks d p ≡ Some rows) ⊎ ((is_held d p held ≡ true) × (held.rows ≡ rows))
 rows_behind [] held d p rows has = elim (cases_Bool (is_held d p held)) [
   | inl is ↦ inr (is, same_Some (sym (rw (is) refl) ∙ has))
@@ -177,7 +177,7 @@ found_passes test (y ∷ ys) x has = elim (cases_Bool (test y)) [
 ]
 
 -- blocks without one have no rows that weren't there
-rows_without : (dataset part : ℕ) (blocks : List Held) (d p : ℕ) (rows : Rows) → rows_at (without dataset part blocks) d p ≡ Some rows → rows_at blocks d p ≡ Some rows
+rows_without : (dataset part : ℕ) (blocks : List HeldBlock) (d p : ℕ) (rows : Rows) → rows_at (without dataset part blocks) d p ≡ Some rows → rows_at blocks d p ≡ Some rows
 rows_without dataset part blocks d p rows has = elim (cases_Bool (is_name dataset part d p)) [
   | inl same ↦ absurd (None≢Some (sym (gone_named dataset part d p blocks same) ∙ has))
   | inr apart ↦ sym (rows_others dataset part d p blocks apart) ∙ has
@@ -202,17 +202,17 @@ pins_fits dataset part was now block before after value is given fits = subst (�
         let d_is : d ≡ dataset = sym (eqb-true block.dataset d (and_left (block.dataset == d) (block.part == p) named)) ∙ eqb-true block.dataset dataset (and_left (block.dataset == dataset) (block.part == part) found) in
         let p_is : p ≡ part = sym (eqb-true block.part p (and_right (block.dataset == d) (block.part == p) named)) ∙ eqb-true block.part part (and_right (block.dataset == dataset) (block.part == part) found) in
         ap (λ (e : ℕ). rows_at before.blocks e p) d_is ∙ ap (λ (q : ℕ). rows_at before.blocks dataset q) p_is
-        ∙ ap (option_map (λ (h : Held). h.rows)) value ∙ ap (λ (r : Rows). Some r) same
+        ∙ ap (option_map (λ (h : HeldBlock). h.rows)) value ∙ ap (λ (r : Rows). Some r) same
 
 -- a pin less changes no rows
-rows_unpinned : (dataset part : ℕ) (blocks : List Held) (d p : ℕ) → rows_at (map (unpinned dataset part) blocks) d p ≡ rows_at blocks d p
+rows_unpinned : (dataset part : ℕ) (blocks : List HeldBlock) (d p : ℕ) → rows_at (map (unpinned dataset part) blocks) d p ≡ rows_at blocks d p
 rows_unpinned dataset part [] d p = refl
 rows_unpinned dataset part (held ∷ blocks) d p = elim (cases_Bool (is_held dataset part held)) [
   | inl is ↦ rw (is) (next (record held { pins = held.pins - 1 }) refl refl (rows_unpinned dataset part blocks d p))
   | inr other ↦ rw (other) (next held refl refl (rows_unpinned dataset part blocks d p))
 ]
   where
-    next : (h : Held) → is_held d p h ≡ is_held d p held → h.rows ≡ held.rows → rows_at (map (unpinned dataset part) blocks) d p ≡ rows_at blocks d p
+    next : (h : HeldBlock) → is_held d p h ≡ is_held d p held → h.rows ≡ held.rows → rows_at (map (unpinned dataset part) blocks) d p ≡ rows_at blocks d p
         → rows_at (h ∷ map (unpinned dataset part) blocks) d p ≡ rows_at (held ∷ blocks) d p
     next h named rows rest = elim (cases_Bool (is_held d p held)) [
       | inl here ↦ rw (named ∙ here, here) (ap (λ (r : Rows). Some r) rows)
@@ -237,7 +237,7 @@ None_given o rows wanted none some = absurd (None≢Some (sym none ∙ some))
 
 pub hit_given : (dataset part was : ℕ) (block : Block) (before : Cache) → held_at before.blocks dataset part ≡ Some (held_of was block)
     → (given : RowsByName) → FitsRows given before → AreGiven given dataset part block.page.rows
-hit_given dataset part was block before value given fits = fits.resident dataset part block.page.rows (ap (option_map (λ (h : Held). h.rows)) value)
+hit_given dataset part was block before value given fits = fits.resident dataset part block.page.rows (ap (option_map (λ (h : HeldBlock). h.rows)) value)
 
 pub read_given : (dataset part : ℕ) (block : Block) (before : Cache) → (is_some before.files ≡ true → copy_rows before.files before.copies dataset part ≡ Some block.page.rows)
     → (given : RowsByName) → FitsRows given before → AreGiven given dataset part block.page.rows

@@ -15,11 +15,11 @@ use Rattle.pool_ledger.specs.Legal.{IsLegal, pending}
 use Rattle.pool_ledger.specs.Workers.{Continues}
 use Rattle.pool_laws.specs.Growing.{Grows, entry_by}
 use Rattle.pool_laws.specs.Evicting.{EvictsOneByOne, eviction_by, evicting_attempt_by}
-use Rattle.block_store.specs.Stores.{Held, without}
+use Rattle.block_store.specs.Stores.{HeldBlock, without}
 use Rattle.memory_core.specs.Caches.{Cache}
 use Rattle.memory_core.specs.Changes.{RemovesInTurn}
 use Rattle.memory_core.specs.Evictions.{EvictsInTurn, admission_by, refusal_by}
-use Rattle.memory_core.specs.Steady.{Goes, IsSteady, StatesGoOn, end_owed, owed, unpin_owed}
+use Rattle.memory_core.specs.Steady.{GoesSteadily, IsSteady, StatesGoOn, end_owed, owed, unpin_owed}
 use Rattle.memory_core.proofs.Owing.{owed-own, owed_same, owes, owes_few, owes_nothing}
 use Rattle.memory_core.proofs.Fitting.{admits_fits, clears_fits, evicts_fits, hit_given, pins_fits, read_given, reads_fits, unpins_fits}
 
@@ -65,21 +65,21 @@ evicts_owed workers worker (block ∷ blocks) before after had has known gone =
     evicts_owed workers worker blocks (eviction_by worker block gone.0 ∷ before) after gone.1 has known gone.3
     ∙ owed_same workers before worker (Evict block.dataset block.part block.size gone.0) known refl refl
 
-removes_own : (worker dataset from end : ℕ) (gone : List Resident) (before after : History) (had has : List Held) → RemovesInTurn worker dataset from end gone before had after has
+removes_own : (worker dataset from end : ℕ) (gone : List Resident) (before after : History) (had has : List HeldBlock) → RemovesInTurn worker dataset from end gone before had after has
     → Continues worker (journal_of before) (journal_of after)
 removes_own worker dataset from end [] before after had has gone = subst (λ (h : History). Continues worker (journal_of before) (journal_of h)) (sym gone.1) (goes_on_nothing worker before)
 removes_own worker dataset from end (block ∷ blocks) before after had has gone =
     goes_on_more worker (entry_by worker (Remove dataset block.part block.size)) before after refl
     (removes_own worker dataset (block.part + 1) end blocks (entry_by worker (Remove dataset block.part block.size) ∷ before) after (without dataset block.part had) has gone.2)
 
-removes_owed : (workers worker dataset from end : ℕ) (gone : List Resident) (before after : History) (had has : List Held) → worker < workers → RemovesInTurn worker dataset from end gone before had after has
+removes_owed : (workers worker dataset from end : ℕ) (gone : List Resident) (before after : History) (had has : List HeldBlock) → worker < workers → RemovesInTurn worker dataset from end gone before had after has
     → owed workers after ≡ owed workers before
 removes_owed workers worker dataset from end [] before after had has known gone = ap (owed workers) gone.1
 removes_owed workers worker dataset from end (block ∷ blocks) before after had has known gone =
     removes_owed workers worker dataset (block.part + 1) end blocks (entry_by worker (Remove dataset block.part block.size) ∷ before) after (without dataset block.part had) has known gone.2
     ∙ owed_same workers before worker (Remove dataset block.part block.size) known refl refl
 
-removes_whole : (worker dataset from end : ℕ) (gone : List Resident) (before after : History) (had has : List Held) → pending before ≡ [] → RemovesInTurn worker dataset from end gone before had after has
+removes_whole : (worker dataset from end : ℕ) (gone : List Resident) (before after : History) (had has : List HeldBlock) → pending before ≡ [] → RemovesInTurn worker dataset from end gone before had after has
     → pending after ≡ []
 removes_whole worker dataset from end [] before after had has whole gone = ap pending gone.1 ∙ whole
 removes_whole worker dataset from end (block ∷ blocks) before after had has whole gone =
@@ -90,7 +90,7 @@ removes_whole worker dataset from end (block ∷ blocks) before after had has wh
 -- an event that is no eviction
 goes : (setup : Sizes) (history : History) (worker : ℕ) (event : Event) (was now : ℕ) → worker < setup.workers → pending (entry_by worker event ∷ history) ≡ []
     → owes (open_task history worker) (worker_pin history worker) + now ≡ owes (task_after event (open_task history worker)) (pin_after event (worker_pin history worker)) + was
-    → Goes setup history (entry_by worker event ∷ history) worker was now
+    → GoesSteadily setup history (entry_by worker event ∷ history) worker was now
 goes setup history worker event was now known whole same = record {
   whole = whole;
   owed_is = omega (arith, owed-own setup.workers history worker event known, same);
@@ -101,7 +101,7 @@ goes setup history worker event was now known whole same = record {
 goes_behind : (setup : Sizes) (base amid : History) (had has : Cache) (worker : ℕ) (blocks : List Resident) (event : Event) → worker < setup.workers
     → pending (entry_by worker event ∷ amid) ≡ [] → EvictsInTurn worker blocks base had amid has
     → task_after event (open_task amid worker) ≡ open_task amid worker → pin_after event (worker_pin amid worker) ≡ worker_pin amid worker
-    → Goes setup base (entry_by worker event ∷ amid) worker 0 0
+    → GoesSteadily setup base (entry_by worker event ∷ amid) worker 0 0
 goes_behind setup base amid had has worker blocks event known whole gone task pin = record {
   whole = whole;
   owed_is = omega (arith, owed_same setup.workers amid worker event known task pin, evicts_owed setup.workers worker blocks base amid had has known gone);

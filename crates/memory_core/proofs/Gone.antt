@@ -5,7 +5,7 @@ use Rattle.std.proofs.lemmas.Bool.{cases_Bool, cases_eq, cond-false, ltb-false, 
 use Rattle.pool_ledger.specs.declared.entry.Entry.{Entry}
 use Rattle.pool_ledger.specs.History.{History, total}
 use Rattle.pool_ledger.specs.Blocks.{Resident, is_pinned, leaves_copy, pin_of, residents, unpin_of, without as residents_without}
-use Rattle.block_store.specs.Stores.{Held, held_at, is_held, pins_at, without}
+use Rattle.block_store.specs.Stores.{HeldBlock, held_at, is_held, pins_at, without}
 use Rattle.block_store.specs.Copies.{has_copy}
 use Rattle.block_store.proofs.Places.{find_none, none_kept}
 use Rattle.block_store.proofs.UseOrder.{name_is}
@@ -13,7 +13,7 @@ use Rattle.memory_core.specs.Caches.{Cache, resident_of}
 use Rattle.memory_core.specs.Steady.{IsInStep}
 
 -- what the history says of the blocks without one of them
-pub without_mapped : (d p : ℕ) (blocks : List Held) → map resident_of (without d p blocks) ≡ residents_without d p (map resident_of blocks)
+pub without_mapped : (d p : ℕ) (blocks : List HeldBlock) → map resident_of (without d p blocks) ≡ residents_without d p (map resident_of blocks)
 without_mapped d p [] = refl
 without_mapped d p (b ∷ bs) = elim (cases_Bool (is_held d p b)) [
   | inl holds ↦
@@ -27,11 +27,11 @@ without_mapped d p (b ∷ bs) = elim (cases_Bool (is_held d p b)) [
 ]
 
 -- the block that is gone isn't found
-pub gone_at : (d p : ℕ) (blocks : List Held) → held_at (without d p blocks) d p ≡ None
+pub gone_at : (d p : ℕ) (blocks : List HeldBlock) → held_at (without d p blocks) d p ≡ None
 gone_at d p blocks = find_none (is_held d p) (without d p blocks) (none_kept (is_held d p) blocks)
 
 -- the others are found as before
-others_at : (d p e q : ℕ) (blocks : List Held) → ((b : Held) → is_held e q b ≡ true → is_held d p b ≡ false) → held_at (without d p blocks) e q ≡ held_at blocks e q
+others_at : (d p e q : ℕ) (blocks : List HeldBlock) → ((b : HeldBlock) → is_held e q b ≡ true → is_held d p b ≡ false) → held_at (without d p blocks) e q ≡ held_at blocks e q
 others_at d p e q [] apart = refl
 others_at d p e q (b ∷ bs) apart = elim (cases_Bool (is_held d p b)) [
   | inl holds ↦
@@ -47,26 +47,26 @@ others_at d p e q (b ∷ bs) apart = elim (cases_Bool (is_held d p b)) [
       ∙ ap (λ found. cond (is_held e q b) (Some b) found) (others_at d p e q bs apart)
 ]
 
-pub other_dataset : (d p e q : ℕ) (blocks : List Held) → d ≢ e → held_at (without d p blocks) e q ≡ held_at blocks e q
+pub other_dataset : (d p e q : ℕ) (blocks : List HeldBlock) → d ≢ e → held_at (without d p blocks) e q ≡ held_at blocks e q
 other_dataset d p e q blocks apart = others_at d p e q blocks (λ b holds. not_this b holds)
   where
-    not_this : (b : Held) → is_held e q b ≡ true → is_held d p b ≡ false
+    not_this : (b : HeldBlock) → is_held e q b ≡ true → is_held d p b ≡ false
     not_this b holds = elim (cases_Bool (is_held d p b)) [
       | inl here ↦ absurd (apart (sym (name_is d p b here).0 ∙ (name_is e q b holds).0))
       | inr fails ↦ fails
     ]
 
-pub other_part : (d p e q : ℕ) (blocks : List Held) → p ≢ q → held_at (without d p blocks) e q ≡ held_at blocks e q
+pub other_part : (d p e q : ℕ) (blocks : List HeldBlock) → p ≢ q → held_at (without d p blocks) e q ≡ held_at blocks e q
 other_part d p e q blocks apart = others_at d p e q blocks (λ b holds. not_this b holds)
   where
-    not_this : (b : Held) → is_held e q b ≡ true → is_held d p b ≡ false
+    not_this : (b : HeldBlock) → is_held e q b ≡ true → is_held d p b ≡ false
     not_this b holds = elim (cases_Bool (is_held d p b)) [
       | inl here ↦ absurd (apart (sym (name_is d p b here).1 ∙ (name_is e q b holds).1))
       | inr fails ↦ fails
     ]
 
 -- the pins of a block that is found as before
-abbrev pub pins_found : Option Held → ℕ
+abbrev pub pins_found : Option HeldBlock → ℕ
 pins_found found = option_map_or (λ held. held.pins) found 0
 
 -- a block whose pins are at most its unpins has no pin left
@@ -74,7 +74,7 @@ no_pin_left : (h : History) (d p : ℕ) → is_pinned h d p ≡ false → total 
 no_pin_left h d p unpinned = omega (arith, ltb-false (total (unpin_of d p) h) (total (pin_of d p) h) unpinned)
 
 -- without the block that is gone each block has its pins
-pub pins_gone : (h : History) (d p : ℕ) (blocks : List Held) → is_pinned h d p ≡ false
+pub pins_gone : (h : History) (d p : ℕ) (blocks : List HeldBlock) → is_pinned h d p ≡ false
     → ((e q : ℕ) → pins_at blocks e q + total (unpin_of e q) h ≡ total (pin_of e q) h)
     → (e q : ℕ) → pins_at (without d p blocks) e q + total (unpin_of e q) h ≡ total (pin_of e q) h
 pins_gone h d p blocks unpinned pins e q = elim (cases_eq d e) [

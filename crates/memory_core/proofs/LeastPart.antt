@@ -7,7 +7,7 @@ use Rattle.std.proofs.lemmas.List.Sums.{sum_by-cons}
 use Rattle.std.proofs.lemmas.Option.{none-some, same_Some}
 use Rattle.eviction.specs.declared.candidate.Candidate.{Candidate}
 use Rattle.eviction.specs.Victims.{is_evictable}
-use Rattle.block_store.specs.Stores.{Held, candidate_of}
+use Rattle.block_store.specs.Stores.{HeldBlock, candidate_of}
 use Rattle.memory_core.specs.Choices.{least_from, least_in, lesser, may_go_of}
 use Rattle.memory_core.specs.Changes.{may_be_removed, may_be_removed_below}
 
@@ -73,7 +73,7 @@ least_passes dataset least now block kept is = is ∙ sym (cond-false (may_go_of
 -- ---- the one of the least part
 
 -- what a choice sees of a block says whether it may be removed
-same_test : (dataset : ℕ) (held : Held) → may_go_of dataset (candidate_of held) ≡ may_be_removed dataset held
+same_test : (dataset : ℕ) (held : HeldBlock) → may_go_of dataset (candidate_of held) ≡ may_be_removed dataset held
 same_test dataset held = turned (not (ltb 0 held.pins)) (eqb held.dataset dataset)
   where
     turned : (a b : Bool) → (a && b) ≡ (b && a)
@@ -83,29 +83,29 @@ same_test dataset held = turned (not (ltb 0 held.pins)) (eqb held.dataset datase
     turned false false = refl
 
 -- a block that may be removed stands at a place of the list
-pub record Stands (dataset : ℕ) (blocks : List Held) (next : Candidate) : Type 0 where
+pub record Stands (dataset : ℕ) (blocks : List HeldBlock) (next : Candidate) : Type 0 where
   pub place : ℕ
-  pub held : Held
+  pub held : HeldBlock
   pub here : slice_get blocks place ≡ Some held
   pub may_go : may_be_removed dataset held ≡ true
   pub seen : candidate_of held ≡ next
 
 -- the one of the least part is the one that there was before, or stands in the list; no other has a lesser part
-record IsLeast (dataset : ℕ) (least : Option Candidate) (blocks : List Held) (next : Candidate) : Type 0 where
+record IsLeast (dataset : ℕ) (least : Option Candidate) (blocks : List HeldBlock) (next : Candidate) : Type 0 where
   among : (least ≡ Some next) ⊎ Stands dataset blocks next
   before : (other : Candidate) → least ≡ Some other → next.part ≤ other.part
   others : list_any (may_be_removed_below dataset next.part) blocks ≡ false
 
 -- a block that isn't below a part
-pub not_below : (dataset end : ℕ) (held : Held) → end ≤ held.part → may_be_removed_below dataset end held ≡ false
+pub not_below : (dataset end : ℕ) (held : HeldBlock) → end ≤ held.part → may_be_removed_below dataset end held ≡ false
 not_below dataset end held above = and_right (may_be_removed dataset held) (ltb held.part end) (le-ltb held.part end above)
 
 -- it stands one place further behind one more block
-later : (dataset : ℕ) (block : Held) (blocks : List Held) (next : Candidate) → Stands dataset blocks next → Stands dataset (block ∷ blocks) next
+later : (dataset : ℕ) (block : HeldBlock) (blocks : List HeldBlock) (next : Candidate) → Stands dataset blocks next → Stands dataset (block ∷ blocks) next
 later dataset block blocks next found = record { place = suc found.place; held = found.held; here = found.here; may_go = found.may_go; seen = found.seen }
 
 -- what a walk finds from here on
-least_is : (dataset : ℕ) (least : Option Candidate) (blocks : List Held) (next : Candidate)
+least_is : (dataset : ℕ) (least : Option Candidate) (blocks : List HeldBlock) (next : Candidate)
     → least_from dataset least (map candidate_of blocks) ≡ Some next → IsLeast dataset least blocks next
 least_is dataset least [] next is = record {
   among = inl is;
@@ -156,20 +156,20 @@ least_is dataset least (b ∷ bs) next is = elim (cases_Bool (may_be_removed dat
     ]
 
 -- what was found stands in the list, and no other has a lesser part
-pub least_stands : (dataset : ℕ) (blocks : List Held) (next : Candidate) → least_in dataset (map candidate_of blocks) ≡ Some next
+pub least_stands : (dataset : ℕ) (blocks : List HeldBlock) (next : Candidate) → least_in dataset (map candidate_of blocks) ≡ Some next
     → Stands dataset blocks next × (list_any (may_be_removed_below dataset next.part) blocks ≡ false)
 least_stands dataset blocks next is =
     let least = least_is dataset None blocks next is in
     (elim least.among [ inl was ↦ absurd (none-some next was) | inr found ↦ found ], least.others)
 
 -- where nothing was found none may be removed
-none_counted : (dataset : ℕ) (least : Option Candidate) (blocks : List Held) → least_from dataset least (map candidate_of blocks) ≡ None
+none_counted : (dataset : ℕ) (least : Option Candidate) (blocks : List HeldBlock) → least_from dataset least (map candidate_of blocks) ≡ None
     → (least ≡ None) × (count_by (may_be_removed dataset) blocks ≡ 0)
 none_counted dataset least [] is = (is, refl)
 none_counted dataset least (b ∷ bs) is = elim (cases_Bool (may_be_removed dataset b)) [
   | inr kept ↦
       let rest = none_counted dataset least bs (subst (λ (l : Option Candidate). least_from dataset l (map candidate_of bs) ≡ None) (cond-false (may_go_of dataset (candidate_of b)) (lesser least (candidate_of b)) least (same_test dataset b ∙ kept)) is) in
-      (rest.0, omega (arith, rest.1, sum_by-cons (λ (x : Held). cond {A = ℕ} (may_be_removed dataset x) 1 0) b bs, cond-false {A = ℕ} (may_be_removed dataset b) 1 0 kept))
+      (rest.0, omega (arith, rest.1, sum_by-cons (λ (x : HeldBlock). cond {A = ℕ} (may_be_removed dataset x) 1 0) b bs, cond-false {A = ℕ} (may_be_removed dataset b) 1 0 kept))
   | inl may ↦
       let rest = none_counted dataset (lesser least (candidate_of b)) bs (subst (λ (l : Option Candidate). least_from dataset l (map candidate_of bs) ≡ None) (cond-true (may_go_of dataset (candidate_of b)) (lesser least (candidate_of b)) least (same_test dataset b ∙ may)) is) in
       absurd (some_lesser least rest.0)
@@ -185,5 +185,5 @@ none_counted dataset least (b ∷ bs) is = elim (cases_Bool (may_be_removed data
         some_either false x y a c p q none = none-some c (sym none ∙ q)
 
 -- the same of a whole list
-pub nothing_least : (dataset : ℕ) (blocks : List Held) → least_in dataset (map candidate_of blocks) ≡ None → count_by (may_be_removed dataset) blocks ≡ 0
+pub nothing_least : (dataset : ℕ) (blocks : List HeldBlock) → least_in dataset (map candidate_of blocks) ≡ None → count_by (may_be_removed dataset) blocks ≡ 0
 nothing_least dataset blocks is = (none_counted dataset None blocks is).1

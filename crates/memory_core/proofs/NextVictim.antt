@@ -17,11 +17,11 @@ use Rattle.pool_ledger.specs.Legal.{MayFollow, SuitsLevel}
 use Rattle.pool_laws.specs.Evicting.{IsEvicting, VictimsMayGo, eviction_by}
 use Rattle.eviction.specs.Victims.{is_evictable}
 use Rattle.eviction.specs.declared.candidate.Candidate.{Candidate}
-use Rattle.block_store.specs.Stores.{Held, candidate_of, held_at, level_at, rows_at, without}
+use Rattle.block_store.specs.Stores.{HeldBlock, candidate_of, held_at, level_at, rows_at, without}
 use Rattle.block_store.specs.Copies.{copy_rows, has_copy}
 use Rattle.block_store.specs.Evictions.{BeginsAtMost, KeepsOthers, WritesRows, is_name}
 use Rattle.memory_core.specs.Caches.{Cache, resident_of}
-use Rattle.memory_core.specs.Evictions.{Drops, EvictsInTurn, WritesNothing}
+use Rattle.memory_core.specs.Evictions.{Drops, EvictsInTurn, KeepsStore}
 use Rattle.memory_core.specs.Steady.{IsAmid, IsInStep}
 use Rattle.memory_core.proofs.Choosing.{AreFound, IsSeen, all_found, goers, goers_named, goers_seen, pinned_as_kept}
 use Rattle.memory_core.proofs.Gone.{in_step_gone}
@@ -50,7 +50,7 @@ found_passes test (y ∷ ys) x found = elim (cases_Bool (test y)) [
 ]
 
 -- those that pass are found as well
-found_in_part : (test : Held → Bool) (whole part : List Held) → AreFound whole part → AreFound whole (filter test part)
+found_in_part : (test : HeldBlock → Bool) (whole part : List HeldBlock) → AreFound whole part → AreFound whole (filter test part)
 found_in_part test whole [] found = tt
 found_in_part test whole (b ∷ bs) found = elim (cases_Bool (test b)) [
   | inl holds ↦ subst (AreFound whole) (sym (cond-true (test b) (b ∷ filter test bs) (filter test bs) holds)) (found.0, found_in_part test whole bs found.1)
@@ -58,14 +58,14 @@ found_in_part test whole (b ∷ bs) found = elim (cases_Bool (test b)) [
 ]
 
 -- the block in memory that a choice gives: it is there, no pin keeps it, and it is the first that the history lets go
-pub record IsNext (history : History) (cache : Cache) (except : Option ℕ) (next : Candidate) (held : Held) : Type 0 where
+pub record IsNext (history : History) (cache : Cache) (except : Option ℕ) (next : Candidate) (held : HeldBlock) : Type 0 where
   pub next_is : next ≡ candidate_of held
   pub found : held_at cache.blocks held.dataset held.part ≡ Some held
   pub unpinned : held.pins ≡ 0
   pub is_first : (block : Resident) (others : List Resident) → evictable_by history except ≡ block ∷ others → block ≡ resident_of held
 
 -- a block that may go has no pin
-no_pins : (held : Held) (except : Option ℕ) → is_evictable except (candidate_of held) ≡ true → held.pins ≡ 0
+no_pins : (held : HeldBlock) (except : Option ℕ) → is_evictable except (candidate_of held) ≡ true → held.pins ≡ 0
 no_pins held except goes =
     let none : nat_lt 0 held.pins ≡ false = isn't (nat_lt 0 held.pins) (and_parts (not (nat_lt 0 held.pins)) (not (is_excepted except held.dataset)) goes).0 in
     omega (arith, ltb-false 0 held.pins none)
@@ -84,10 +84,10 @@ module _ (history : History) (cache : Cache) (list : List Candidate) (except : O
   first_named = goers_named history cache except seen.apart step
 
   -- what was found is the next to go
-  pub next_goes : (next : Candidate) → find (is_evictable except) list ≡ Some next → (held : Held) × IsNext history cache except next held
+  pub next_goes : (next : Candidate) → find (is_evictable except) list ≡ Some next → (held : HeldBlock) × IsNext history cache except next held
   next_goes next is = with_goers (goers except cache.blocks) (sym first_seen ∙ is) first_named (found_in_part (λ held. is_evictable except (candidate_of held)) cache.blocks cache.blocks (all_found cache.blocks seen.apart))
     where
-      with_goers : (go : List Held) → first_in (map candidate_of go) ≡ Some next → evictable_by history except ≡ map resident_of go → AreFound cache.blocks go → (held : Held) × IsNext history cache except next held
+      with_goers : (go : List HeldBlock) → first_in (map candidate_of go) ≡ Some next → evictable_by history except ≡ map resident_of go → AreFound cache.blocks go → (held : HeldBlock) × IsNext history cache except next held
       with_goers [] first named found = absurd (cc first)
       with_goers (b ∷ bs) first named found =
           let same : next ≡ candidate_of b = cc first in (
@@ -104,7 +104,7 @@ module _ (history : History) (cache : Cache) (list : List Candidate) (except : O
   pub some_goes : (block : Resident) (others : List Resident) → evictable_by history except ≡ block ∷ others → find (is_evictable except) list ≡ None → ⊥
   some_goes block others shown none = with_goers (goers except cache.blocks) (sym first_seen ∙ none) (sym shown ∙ first_named)
     where
-      with_goers : (go : List Held) → first_in (map candidate_of go) ≡ None → block ∷ others ≡ map resident_of go → ⊥
+      with_goers : (go : List HeldBlock) → first_in (map candidate_of go) ≡ None → block ∷ others ≡ map resident_of go → ⊥
       with_goers [] first named = cc named
       with_goers (b ∷ bs) first named = cc first
 
@@ -113,8 +113,8 @@ module _ (history : History) (cache : Cache) (list : List Candidate) (except : O
 -- a block was put out of memory, as a store does it
 pub record IsPutOut (dataset part : ℕ) (fate : Fate) (before after : Cache) : Type 0 where
   pub blocks : after.blocks ≡ without dataset part before.blocks
-  pub memory : level_at before.blocks dataset part ≡ Some InMemory → (fate ≡ Gone) × WritesNothing before after
-  pub copied : level_at before.blocks dataset part ≡ Some OnDisk → has_copy before.copies dataset part ≡ true → (fate ≡ ToDisk) × WritesNothing before after
+  pub memory : level_at before.blocks dataset part ≡ Some InMemory → (fate ≡ Gone) × KeepsStore before after
+  pub copied : level_at before.blocks dataset part ≡ Some OnDisk → has_copy before.copies dataset part ≡ true → (fate ≡ ToDisk) × KeepsStore before after
   pub gone : level_at before.blocks dataset part ≡ Some OnDisk → fate ≡ Gone → Rose before.faults after.faults
   pub copy : fate ≡ ToDisk → has_copy after.copies dataset part ≡ true
   pub rows : fate ≡ ToDisk → has_copy before.copies dataset part ≡ false → is_some before.files ≡ true
@@ -141,10 +141,10 @@ copied_here d p e q size same =
     rw (eq-eqb d e (sym (eqb-true e d parts.0)), eq-eqb p q (sym (eqb-true q p parts.1))) refl
 
 module _ (history : History) (before after : Cache) (except : Option ℕ) (next : Candidate) (fate : Fate)
-    (held : Held) (goes : IsNext history before except next held) (out : IsPutOut held.dataset held.part fate before after) where
+    (held : HeldBlock) (goes : IsNext history before except next held) (out : IsPutOut held.dataset held.part fate before after) where
   -- its level in memory
   level_of : (level : Level) → held.level ≡ level → level_at before.blocks held.dataset held.part ≡ Some level
-  level_of level is = ap (option_map (λ (h : Held). h.level)) goes.found ∙ ap Some is
+  level_of level is = ap (option_map (λ (h : HeldBlock). h.level)) goes.found ∙ ap Some is
 
   -- it was dropped as an eviction drops it
   drops : Drops (resident_of held) fate before after
@@ -192,7 +192,7 @@ module _ (history : History) (before after : Cache) (except : Option ℕ) (next 
         (λ e q has. copies_left fate refl e q has)
 
 -- what follows: its eviction may come next, the state stays in step, and whichever victims are left, it was the first of them
-pub record IsFollowed (setup : Sizes) (history : History) (before after : Cache) (worker : ℕ) (except : Option ℕ) (held : Held) (fate : Fate) : Type 0 where
+pub record IsFollowed (setup : Sizes) (history : History) (before after : Cache) (worker : ℕ) (except : Option ℕ) (held : HeldBlock) (fate : Fate) : Type 0 where
   pub may : MayFollow setup history (eviction_by worker (resident_of held) fate)
   pub amid : IsAmid setup (eviction_by worker (resident_of held) fate ∷ history) after
   pub evicts : (base : History) (gone left : List Resident) (block : Resident) → IsEvicting history base worker except gone (block ∷ left)
@@ -200,7 +200,7 @@ pub record IsFollowed (setup : Sizes) (history : History) (before after : Cache)
       × IsEvicting (eviction_by worker (resident_of held) fate ∷ history) base worker except (gone ++ block ∷ []) left
 
 module _ (setup : Sizes) (history : History) (before after : Cache) (worker : ℕ) (except : Option ℕ) (next : Candidate) (fate : Fate)
-    (held : Held) (goes : IsNext history before except next held) (out : IsPutOut held.dataset held.part fate before after)
+    (held : HeldBlock) (goes : IsNext history before except next held) (out : IsPutOut held.dataset held.part fate before after)
     (may : VictimsMayGo setup) (amid : IsAmid setup history before) (known : worker < setup.workers) where
   -- the first of the victims that are left is this block, and it may go
   by_law : (base : History) (gone left : List Resident) (block : Resident) → IsEvicting history base worker except gone (block ∷ left)

@@ -16,7 +16,7 @@ use Rattle.pool_ledger.proofs.Residents.{different}
 use Rattle.pool_laws.specs.Growing.{entry_by}
 use Rattle.pool_laws.proofs.Passing.{holds}
 use Rattle.block_store.specs.declared.block.Block.{Block}
-use Rattle.block_store.specs.Stores.{Held, held_at, held_of, is_held, pins_at, unpinned, without}
+use Rattle.block_store.specs.Stores.{HeldBlock, held_at, held_of, is_held, pins_at, unpinned, without}
 use Rattle.block_store.specs.Copies.{has_copy}
 use Rattle.block_store.proofs.UseOrder.{name_is}
 use Rattle.memory_core.specs.Caches.{Cache, resident_of}
@@ -48,7 +48,7 @@ module _ {X : Type 0} where
   ]
 
 -- the block alone, as the history has it
-only_one : (setup : Sizes) (h : History) (cache : Cache) (d p : ℕ) (held : Held) → setup.region ≤ setup.maximum → IsPermitted setup h → IsInStep h cache
+only_one : (setup : Sizes) (h : History) (cache : Cache) (d p : ℕ) (held : HeldBlock) → setup.region ≤ setup.maximum → IsPermitted setup h → IsInStep h cache
     → held_at cache.blocks d p ≡ Some held → only d p (residents h) ≡ resident_of held ∷ []
 only_one setup h cache d p held region permitted step here =
     let recorded = (holds setup h region permitted).recorded in
@@ -71,7 +71,7 @@ names_same : (d p : ℕ) → (nat_eq d d && nat_eq p p) ≡ true
 names_same d p = and_from (nat_eq d d) (nat_eq p p) (eq-eqb d d refl) (eq-eqb p p refl)
 
 -- a block of one name hasn't the other
-not_that : (d p e q : ℕ) (held : Held) → AreApartNames d p e q → is_held d p held ≡ true → is_held e q held ≡ false
+not_that : (d p e q : ℕ) (held : HeldBlock) → AreApartNames d p e q → is_held d p held ≡ true → is_held e q held ≡ false
 not_that d p e q held apart holds = elim (cases_Bool (is_held e q held)) [
   | inl both ↦ absurd (differs apart both)
   | inr fails ↦ fails
@@ -81,7 +81,7 @@ not_that d p e q held apart holds = elim (cases_Bool (is_held e q held)) [
     differs (inl other) both = other (sym (name_is d p held holds).0 ∙ (name_is e q held both).0)
     differs (inr other) both = other (sym (name_is d p held holds).1 ∙ (name_is e q held both).1)
 
-others_found : (d p e q : ℕ) (blocks : List Held) → AreApartNames d p e q → held_at (without d p blocks) e q ≡ held_at blocks e q
+others_found : (d p e q : ℕ) (blocks : List HeldBlock) → AreApartNames d p e q → held_at (without d p blocks) e q ≡ held_at blocks e q
 others_found d p e q blocks (inl apart) = other_dataset d p e q blocks apart
 others_found d p e q blocks (inr apart) = other_part d p e q blocks apart
 
@@ -109,7 +109,7 @@ in_step_pinned setup h worker d p block had has region permitted step here block
   copies = λ e q there. omega (arith, step.copies e q (sym (ap (λ cs. has_copy cs e q) copies) ∙ there));
 }
   where
-    last : Held
+    last : HeldBlock
     last = held_of (pins_at had.blocks d p + 1) block
 
     Agrees : ℕ → ℕ → Type 0
@@ -131,7 +131,7 @@ in_step_pinned setup h worker d p block had has region permitted step here block
 
 -- ---- an unpin
 
-same_name : (e q d p : ℕ) (held : Held) → is_held e q (unpinned d p held) ≡ is_held e q held
+same_name : (e q d p : ℕ) (held : HeldBlock) → is_held e q (unpinned d p held) ≡ is_held e q held
 same_name e q d p held = either (is_held d p held)
   where
     either : (t : Bool) → is_held e q (cond t (record held { pins = held.pins - 1 }) held) ≡ is_held e q held
@@ -139,7 +139,7 @@ same_name e q d p held = either (is_held d p held)
     either false = refl
 
 -- what the history says of the blocks stays
-unpinned_mapped : (d p : ℕ) (blocks : List Held) → map resident_of (map (unpinned d p) blocks) ≡ map resident_of blocks
+unpinned_mapped : (d p : ℕ) (blocks : List HeldBlock) → map resident_of (map (unpinned d p) blocks) ≡ map resident_of blocks
 unpinned_mapped d p [] = refl
 unpinned_mapped d p (b ∷ bs) = ap (λ (r : Resident). r ∷ map resident_of (map (unpinned d p) bs)) (either (is_held d p b)) ∙ ap (λ (rs : List Resident). resident_of b ∷ rs) (unpinned_mapped d p bs)
   where
@@ -148,7 +148,7 @@ unpinned_mapped d p (b ∷ bs) = ap (λ (r : Resident). r ∷ map resident_of (m
     either false = refl
 
 -- the block has a pin less
-pin_less : (d p : ℕ) (blocks : List Held) → pins_at (map (unpinned d p) blocks) d p ≡ pins_at blocks d p - 1
+pin_less : (d p : ℕ) (blocks : List HeldBlock) → pins_at (map (unpinned d p) blocks) d p ≡ pins_at blocks d p - 1
 pin_less d p [] = refl
 pin_less d p (b ∷ bs) = elim (cases_Bool (is_held d p b)) [
   | inl holds ↦
@@ -162,7 +162,7 @@ pin_less d p (b ∷ bs) = elim (cases_Bool (is_held d p b)) [
 ]
 
 -- the others have theirs
-pins_stay : (d p e q : ℕ) (blocks : List Held) → AreApartNames d p e q → pins_at (map (unpinned d p) blocks) e q ≡ pins_at blocks e q
+pins_stay : (d p e q : ℕ) (blocks : List HeldBlock) → AreApartNames d p e q → pins_at (map (unpinned d p) blocks) e q ≡ pins_at blocks e q
 pins_stay d p e q [] apart = refl
 pins_stay d p e q (b ∷ bs) apart = elim (cases_Bool (is_held e q b)) [
   | inl holds ↦

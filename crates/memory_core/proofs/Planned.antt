@@ -16,12 +16,12 @@ use Rattle.pool_ledger.specs.Legal.{MayFollow, pending}
 use Rattle.pool_ledger.specs.Workers.{Continues}
 use Rattle.pool_laws.specs.Growing.{entry_by}
 use Rattle.pool_laws.specs.Evicting.{IsEvicting, evicting_attempt_by}
-use Rattle.block_store.specs.Stores.{Held, held_at, is_held, pins_at}
+use Rattle.block_store.specs.Stores.{HeldBlock, held_at, is_held, pins_at}
 use Rattle.block_store.proofs.Places.{any_parts}
 use Rattle.memory_core.specs.Caches.{Cache}
 use Rattle.memory_core.specs.Changes.{HasPinnedAlone, may_be_removed}
 use Rattle.memory_core.specs.Evictions.{EvictsInTurn, admission_by, refusal_by}
-use Rattle.memory_core.specs.Steady.{Goes, IsAmid, IsInStep, IsSteady, owed}
+use Rattle.memory_core.specs.Steady.{GoesSteadily, IsAmid, IsInStep, IsSteady, owed}
 use Rattle.memory_core.proofs.Fitting.{found_passes}
 use Rattle.memory_core.proofs.RowsFound.{None≢Some, and_left, same_Some}
 use Rattle.memory_core.proofs.Going.{goes_on_nothing}
@@ -48,7 +48,7 @@ turned base begun had kept worker except count blocks amid has b k first gone ev
 pub record MayAttempt (setup : Sizes) (base : History) (had : Cache) (worker task asked : ℕ) (amid : History) (has : Cache) : Type 0 where
   pub gone : EvictsInTurn worker (growth setup base asked).evicted base had amid has
   pub may : MayFollow setup amid (evicting_attempt_by setup base worker task asked)
-  pub goes : Goes setup base (evicting_attempt_by setup base worker task asked ∷ amid) worker 0 0
+  pub goes : GoesSteadily setup base (evicting_attempt_by setup base worker task asked ∷ amid) worker 0 0
 
 -- the entry of a plan
 pub attempt_entry : (setup : Sizes) (base : History) (worker task asked moved evictions : ℕ) (got : Option ℕ)
@@ -87,14 +87,14 @@ history_planned amid after entry planned a e = a ∙ ap (λ (v : Entry). v ∷ a
 
 -- the state goes on, as its fields show it
 pub goes_inside : (setup inside now : Sizes) (base begun planned after : History) (cache : Cache) (worker kept : ℕ) → now ≡ setup → inside ≡ setup → begun ≡ base → after ≡ planned
-    → IsAmid now after cache → Goes setup base planned worker 0 0 → kept ≡ owed inside.workers begun
+    → IsAmid now after cache → GoesSteadily setup base planned worker 0 0 → kept ≡ owed inside.workers begun
     → IsSteady now after cache × (kept ≡ owed now.workers after)
 goes_inside setup inside now base begun planned after cache worker kept n i b a amid goes owes =
     let at_base : kept ≡ owed setup.workers base = owes ∙ ap (λ (s : Sizes). owed s.workers begun) i ∙ ap (owed setup.workers) b in
     let at_after : owed now.workers after ≡ owed setup.workers planned = ap (λ (s : Sizes). owed s.workers after) n ∙ ap (owed setup.workers) a in
     (record { amid = amid; whole = ap pending a ∙ goes.whole }, omega (arith, at_base, at_after, goes.owed_is))
 
-pub own_planned : (setup : Sizes) (base planned after : History) (worker was next : ℕ) → after ≡ planned → Goes setup base planned worker was next → Continues worker (journal_of base) (journal_of after)
+pub own_planned : (setup : Sizes) (base planned after : History) (worker was next : ℕ) → after ≡ planned → GoesSteadily setup base planned worker was next → Continues worker (journal_of base) (journal_of after)
 own_planned setup base planned after worker was next a goes = subst (λ (h : History). Continues worker (journal_of base) (journal_of h)) (sym a) goes.own
 
 -- the same of an event that may change what the worker owes
@@ -103,7 +103,7 @@ pub record SteadyAfter (setup now : Sizes) (base after : History) (cache : Cache
   pub owed_is : owed now.workers after + was ≡ owed setup.workers base + next
 
 pub steady_after : (setup now : Sizes) (base planned after : History) (cache : Cache) (worker was next : ℕ) → IsAmid now after cache → now ≡ setup → after ≡ planned
-    → Goes setup base planned worker was next → SteadyAfter setup now base after cache was next
+    → GoesSteadily setup base planned worker was next → SteadyAfter setup now base after cache was next
 steady_after setup now base planned after cache worker was next amid n a goes =
     let at_after : owed now.workers after ≡ owed setup.workers planned = ap (λ (s : Sizes). owed s.workers after) n ∙ ap (owed setup.workers) a in
     record { steady = record { amid = amid; whole = ap pending a ∙ goes.whole }; owed_is = omega (arith, at_after, goes.owed_is) }
@@ -130,10 +130,10 @@ pinned_alone dataset history cache step none part resident = at_block (held_at c
     kept_of true false is fails = absurd (true≢false fails)
     kept_of false b is fails = absurd (true≢false (sym is))
 
-    at_block : (o : Option Held) → held_at cache.blocks dataset part ≡ o → is_pinned history dataset part ≡ true
+    at_block : (o : Option HeldBlock) → held_at cache.blocks dataset part ≡ o → is_pinned history dataset part ≡ true
     at_block None is = absurd (true≢false (sym resident ∙ resident_is history cache dataset part step ∙ ap is_some is))
     at_block (Some held) is =
         let named : held.dataset == dataset ≡ true = and_left (held.dataset == dataset) (held.part == part) (found_passes (is_held dataset part) cache.blocks held is) in
         let kept : nat_lt 0 held.pins ≡ true = kept_of (held.dataset == dataset) (nat_lt 0 held.pins) named (found_fails (is_held dataset part) (may_be_removed dataset) cache.blocks held is none) in
-        let pins : pins_at cache.blocks dataset part ≡ held.pins = ap (λ (o : Option Held). option_map_or (λ (h : Held). h.pins) o 0) is in
+        let pins : pins_at cache.blocks dataset part ≡ held.pins = ap (λ (o : Option HeldBlock). option_map_or (λ (h : HeldBlock). h.pins) o 0) is in
         lt-ltb (total (unpin_of dataset part) history) (total (pin_of dataset part) history) (omega (arith, step.pins dataset part, pins, ltb-true 0 held.pins kept))

@@ -19,7 +19,7 @@ use Rattle.pool_laws.specs.Growing.{entry_by}
 use Rattle.pool_laws.proofs.NextEntries.{whole}
 use Rattle.block_store.specs.declared.block_copy.BlockCopy.{BlockCopy}
 use Rattle.block_store.specs.Copies.{has_copy}
-use Rattle.block_store.specs.Stores.{Held, AreApart, held_at, is_held, pins_at, without}
+use Rattle.block_store.specs.Stores.{HeldBlock, AreApart, held_at, is_held, pins_at, without}
 use Rattle.block_store.proofs.Places.{any_parts}
 use Rattle.block_store.proofs.UseOrder.{stands}
 use Rattle.memory_core.specs.Caches.{Cache, resident_of}
@@ -31,56 +31,56 @@ use Rattle.memory_core.proofs.LeastPart.{Stands, not_below}
 -- ---- the block that goes
 
 -- a block that may be removed is of the dataset
-pub its_dataset : (dataset : ℕ) (held : Held) → may_be_removed dataset held ≡ true → held.dataset ≡ dataset
+pub its_dataset : (dataset : ℕ) (held : HeldBlock) → may_be_removed dataset held ≡ true → held.dataset ≡ dataset
 its_dataset dataset held may = eqb-true held.dataset dataset (and_parts (eqb held.dataset dataset) (not (ltb 0 held.pins)) may).0
 
 -- and no pin keeps it
-its_pins : (dataset : ℕ) (held : Held) → may_be_removed dataset held ≡ true → held.pins ≡ 0
+its_pins : (dataset : ℕ) (held : HeldBlock) → may_be_removed dataset held ≡ true → held.pins ≡ 0
 its_pins dataset held may =
     omega (arith, ltb-false 0 held.pins (not-true (ltb 0 held.pins) (and_parts (eqb held.dataset dataset) (not (ltb 0 held.pins)) may).1))
 
 -- a block has its own name
-its_name : (held : Held) → is_held held.dataset held.part held ≡ true
+its_name : (held : HeldBlock) → is_held held.dataset held.part held ≡ true
 its_name held = and_from (eqb held.dataset held.dataset) (eqb held.part held.part) (eq-eqb held.dataset held.dataset refl) (eq-eqb held.part held.part refl)
 
 -- it is found by its name
-pub found_at : (dataset : ℕ) (blocks : List Held) (next : Candidate) (found : Stands dataset blocks next) → AreApart blocks
+pub found_at : (dataset : ℕ) (blocks : List HeldBlock) (next : Candidate) (found : Stands dataset blocks next) → AreApart blocks
     → held_at blocks next.dataset next.part ≡ Some found.held
 found_at dataset blocks next found apart =
     subst (λ (c : Candidate). held_at blocks c.dataset c.part ≡ Some found.held) found.seen
     ((stands found.held.dataset found.held.part blocks found.place apart (record { item = found.held; here = found.here; passes = its_name found.held })).found ∙ found.here)
 
 -- and has no pins there
-pub unpinned_at : (dataset : ℕ) (blocks : List Held) (next : Candidate) (found : Stands dataset blocks next) → AreApart blocks
+pub unpinned_at : (dataset : ℕ) (blocks : List HeldBlock) (next : Candidate) (found : Stands dataset blocks next) → AreApart blocks
     → pins_at blocks next.dataset next.part ≡ 0
 unpinned_at dataset blocks next found apart =
-    ap (λ (o : Option Held). option_map_or (λ (h : Held). h.pins) o 0) (found_at dataset blocks next found apart) ∙ its_pins dataset found.held found.may_go
+    ap (λ (o : Option HeldBlock). option_map_or (λ (h : HeldBlock). h.pins) o 0) (found_at dataset blocks next found apart) ∙ its_pins dataset found.held found.may_go
 
 -- the history says the same of it
-pub resident_found : (d p : ℕ) (blocks : List Held) (held : Held) → held_at blocks d p ≡ Some held → find (is_block d p) (map resident_of blocks) ≡ Some (resident_of held)
+pub resident_found : (d p : ℕ) (blocks : List HeldBlock) (held : HeldBlock) → held_at blocks d p ≡ Some held → find (is_block d p) (map resident_of blocks) ≡ Some (resident_of held)
 resident_found d p [] held is = absurd (none-some held is)
 resident_found d p (b ∷ bs) held is = elim (cases_Bool (is_held d p b)) [
   | inl holds ↦
       cond-true (is_held d p b) (Some (resident_of b)) (find (is_block d p) (map resident_of bs)) holds
-      ∙ ap (λ (h : Held). Some (resident_of h)) (same_Some b held (sym (cond-true (is_held d p b) (Some b) (held_at bs d p) holds) ∙ is))
+      ∙ ap (λ (h : HeldBlock). Some (resident_of h)) (same_Some b held (sym (cond-true (is_held d p b) (Some b) (held_at bs d p) holds) ∙ is))
   | inr fails ↦
       cond-false (is_held d p b) (Some (resident_of b)) (find (is_block d p) (map resident_of bs)) fails
       ∙ resident_found d p bs held (sym (cond-false (is_held d p b) (Some b) (held_at bs d p) fails) ∙ is)
 ]
 
 -- where none that may be removed is below a part, the block at a place isn't
-pub from_part : (dataset from place : ℕ) (blocks : List Held) (held : Held) → list_any (may_be_removed_below dataset from) blocks ≡ false
+pub from_part : (dataset from place : ℕ) (blocks : List HeldBlock) (held : HeldBlock) → list_any (may_be_removed_below dataset from) blocks ≡ false
     → slice_get blocks place ≡ Some held → may_be_removed dataset held ≡ true → from ≤ held.part
 from_part dataset from place [] held none here may = absurd (none-some held here)
 from_part dataset from zero (b ∷ bs) held none here may =
     let first : may_be_removed_below dataset from b ≡ false = (any_parts (may_be_removed_below dataset from) b bs none).0 in
-    let this : (may_be_removed dataset held && ltb held.part from) ≡ false = subst (λ (h : Held). may_be_removed_below dataset from h ≡ false) (same_Some b held here) first in
+    let this : (may_be_removed dataset held && ltb held.part from) ≡ false = subst (λ (h : HeldBlock). may_be_removed_below dataset from h ≡ false) (same_Some b held here) first in
     ltb-false held.part from (sym (ap (λ t. t && ltb held.part from) may) ∙ this)
 from_part dataset from (suc place) (b ∷ bs) held none here may =
     from_part dataset from place bs held (any_parts (may_be_removed_below dataset from) b bs none).1 here may
 
 -- without it no part is below the next one
-pub none_below : (dataset part : ℕ) (blocks : List Held) → list_any (may_be_removed_below dataset part) blocks ≡ false
+pub none_below : (dataset part : ℕ) (blocks : List HeldBlock) → list_any (may_be_removed_below dataset part) blocks ≡ false
     → list_any (may_be_removed_below dataset (part + 1)) (without dataset part blocks) ≡ false
 none_below dataset part [] none = refl
 none_below dataset part (b ∷ bs) none =
@@ -103,26 +103,26 @@ none_below dataset part (b ∷ bs) none =
     ]
 
 -- where one that may be removed is taken from its place, one less may be
-one_less : (dataset place : ℕ) (blocks : List Held) (held : Held) → slice_get blocks place ≡ Some held → may_be_removed dataset held ≡ true
+one_less : (dataset place : ℕ) (blocks : List HeldBlock) (held : HeldBlock) → slice_get blocks place ≡ Some held → may_be_removed dataset held ≡ true
     → count_by (may_be_removed dataset) (remove blocks place) + 1 ≡ count_by (may_be_removed dataset) blocks
 one_less dataset place blocks held here may =
     omega (
       arith,
-      sum_by-remove (λ (x : Held). cond {A = ℕ} (may_be_removed dataset x) 1 0) blocks place held (slice_get_within blocks place held here),
+      sum_by-remove (λ (x : HeldBlock). cond {A = ℕ} (may_be_removed dataset x) 1 0) blocks place held (slice_get_within blocks place held here),
       cond-true {A = ℕ} (may_be_removed dataset (get_or blocks place held)) 1 0 (ap (may_be_removed dataset) (get_or_from_slice_get blocks place held held here) ∙ may),
     )
 
 -- without the block that goes one less may be removed
-pub fewer : (dataset : ℕ) (blocks : List Held) (next : Candidate) (found : Stands dataset blocks next) → AreApart blocks
+pub fewer : (dataset : ℕ) (blocks : List HeldBlock) (next : Candidate) (found : Stands dataset blocks next) → AreApart blocks
     → count_by (may_be_removed dataset) (without next.dataset next.part blocks) + 1 ≡ count_by (may_be_removed dataset) blocks
 fewer dataset blocks next found apart =
     let held = found.held in
     let place = stands held.dataset held.part blocks found.place apart (record { item = held; here = found.here; passes = its_name held }) in
     subst (λ (c : Candidate). count_by (may_be_removed dataset) (without c.dataset c.part blocks) + 1 ≡ count_by (may_be_removed dataset) blocks) found.seen
-    (ap (λ (bs : List Held). count_by (may_be_removed dataset) bs + 1) (sym place.others) ∙ one_less dataset found.place blocks held found.here found.may_go)
+    (ap (λ (bs : List HeldBlock). count_by (may_be_removed dataset) bs + 1) (sym place.others) ∙ one_less dataset found.place blocks held found.here found.may_go)
 
 -- its dataset, as a choice sees it
-pub named : (dataset : ℕ) (blocks : List Held) (next : Candidate) (found : Stands dataset blocks next) → next.dataset ≡ dataset
+pub named : (dataset : ℕ) (blocks : List HeldBlock) (next : Candidate) (found : Stands dataset blocks next) → next.dataset ≡ dataset
 named dataset blocks next found = sym (ap (λ (c : Candidate). c.dataset) found.seen) ∙ its_dataset dataset found.held found.may_go
 
 -- its entry may follow
@@ -159,29 +159,29 @@ amid_gone setup history had has worker dataset next amid none known found apart 
     }
 
 -- where none is counted none may be removed
-pub none_left : (dataset : ℕ) (blocks : List Held) → count_by (may_be_removed dataset) blocks ≡ 0 → list_any (may_be_removed dataset) blocks ≡ false
+pub none_left : (dataset : ℕ) (blocks : List HeldBlock) → count_by (may_be_removed dataset) blocks ≡ 0 → list_any (may_be_removed dataset) blocks ≡ false
 none_left dataset [] none = refl
 none_left dataset (b ∷ bs) none = elim (cases_Bool (may_be_removed dataset b)) [
-  | inl may ↦ absurd (omega (arith, none, sum_by-cons (λ (x : Held). cond {A = ℕ} (may_be_removed dataset x) 1 0) b bs, cond-true {A = ℕ} (may_be_removed dataset b) 1 0 may))
-  | inr kept ↦ or_from (may_be_removed dataset b) (list_any (may_be_removed dataset) bs) kept (none_left dataset bs (omega (arith, none, sum_by-cons (λ (x : Held). cond {A = ℕ} (may_be_removed dataset x) 1 0) b bs)))
+  | inl may ↦ absurd (omega (arith, none, sum_by-cons (λ (x : HeldBlock). cond {A = ℕ} (may_be_removed dataset x) 1 0) b bs, cond-true {A = ℕ} (may_be_removed dataset b) 1 0 may))
+  | inr kept ↦ or_from (may_be_removed dataset b) (list_any (may_be_removed dataset) bs) kept (none_left dataset bs (omega (arith, none, sum_by-cons (λ (x : HeldBlock). cond {A = ℕ} (may_be_removed dataset x) 1 0) b bs)))
 ]
 
 -- no part is below the first
-pub none_below_0 : (dataset : ℕ) (blocks : List Held) → list_any (may_be_removed_below dataset 0) blocks ≡ false
+pub none_below_0 : (dataset : ℕ) (blocks : List HeldBlock) → list_any (may_be_removed_below dataset 0) blocks ≡ false
 none_below_0 dataset [] = refl
 none_below_0 dataset (b ∷ bs) = or_from (may_be_removed_below dataset 0 b) (list_any (may_be_removed_below dataset 0) bs) (not_below dataset 0 b (omega arith)) (none_below_0 dataset bs)
 
 -- ---- removals in turn
 
 -- one more after the others
-pub removes_more : (worker dataset from amid end : ℕ) (gone : List Resident) (block : Resident) (before between after : History) (had has left : List Held)
+pub removes_more : (worker dataset from amid end : ℕ) (gone : List Resident) (block : Resident) (before between after : History) (had has left : List HeldBlock)
     → RemovesInTurn worker dataset from amid gone before had between has
     → RemovesInTurn worker dataset amid end (block ∷ []) between has after left
     → RemovesInTurn worker dataset from end (gone ++ block ∷ []) before had after left
 removes_more worker dataset from amid end [] block before between after had has left first more =
     let start : RemovesInTurn worker dataset amid end (block ∷ []) before had after left =
     subst (λ (h : History). RemovesInTurn worker dataset amid end (block ∷ []) h had after left) first.1
-    (subst (λ (bs : List Held). RemovesInTurn worker dataset amid end (block ∷ []) between bs after left) first.2 more) in
+    (subst (λ (bs : List HeldBlock). RemovesInTurn worker dataset amid end (block ∷ []) between bs after left) first.2 more) in
     (start.0, omega (arith, first.0, start.1), start.2)
 removes_more worker dataset from amid end (b ∷ gone) block before between after had has left first more =
     (first.0, first.1, removes_more worker dataset (b.part + 1) amid end gone block (entry_by worker (Remove dataset b.part b.size) ∷ before) between after (without dataset b.part had) has left first.2 more)
@@ -189,14 +189,14 @@ removes_more worker dataset from amid end (b ∷ gone) block before between afte
 -- ---- each that may be removed goes, and no other
 
 -- the block at a place and those that may be removed without it
-taken_at : (dataset place : ℕ) (blocks : List Held) (held : Held) → slice_get blocks place ≡ Some held → may_be_removed dataset held ≡ true
+taken_at : (dataset place : ℕ) (blocks : List HeldBlock) (held : HeldBlock) → slice_get blocks place ≡ Some held → may_be_removed dataset held ≡ true
     → IsPermutation (resident_of held ∷ removable_of dataset (remove blocks place)) (removable_of dataset blocks)
 taken_at dataset place [] held here may = absurd (none-some held here)
 taken_at dataset zero (b ∷ bs) held here may =
     let this : b ≡ held = same_Some b held here in
     let goes : may_be_removed dataset b ≡ true = ap (may_be_removed dataset) this ∙ may in
     subst (λ (rs : List Resident). IsPermutation (resident_of held ∷ removable_of dataset bs) rs)
-    (ap (λ (h : Held). resident_of h ∷ removable_of dataset bs) (sym this) ∙ sym (ap (map resident_of) (cond-true (may_be_removed dataset b) (b ∷ filter (may_be_removed dataset) bs) (filter (may_be_removed dataset) bs) goes)))
+    (ap (λ (h : HeldBlock). resident_of h ∷ removable_of dataset bs) (sym this) ∙ sym (ap (map resident_of) (cond-true (may_be_removed dataset b) (b ∷ filter (may_be_removed dataset) bs) (filter (may_be_removed dataset) bs) goes)))
     (IsPermutation-refl (resident_of held ∷ removable_of dataset bs))
 taken_at dataset (suc place) (b ∷ bs) held here may =
     let rest : IsPermutation (resident_of held ∷ removable_of dataset (remove bs place)) (removable_of dataset bs) = taken_at dataset place bs held here may in
@@ -221,13 +221,13 @@ taken_at dataset (suc place) (b ∷ bs) held here may =
     ]
 
 -- the same of the block that goes
-pub goes_one : (dataset : ℕ) (blocks has : List Held) (next : Candidate) (found : Stands dataset blocks next) → AreApart blocks → has ≡ without next.dataset next.part blocks
+pub goes_one : (dataset : ℕ) (blocks has : List HeldBlock) (next : Candidate) (found : Stands dataset blocks next) → AreApart blocks → has ≡ without next.dataset next.part blocks
     → IsPermutation (resident_of found.held ∷ removable_of dataset has) (removable_of dataset blocks)
 goes_one dataset blocks has next found apart is =
     let held = found.held in
     let place = stands held.dataset held.part blocks found.place apart (record { item = held; here = found.here; passes = its_name held }) in
     let left : has ≡ remove blocks found.place = is ∙ sym (ap (λ (c : Candidate). without c.dataset c.part blocks) found.seen) ∙ sym place.others in
-    subst (λ (bs : List Held). IsPermutation (resident_of held ∷ removable_of dataset bs) (removable_of dataset blocks)) (sym left)
+    subst (λ (bs : List HeldBlock). IsPermutation (resident_of held ∷ removable_of dataset bs) (removable_of dataset blocks)) (sym left)
     (taken_at dataset found.place blocks held found.here found.may_go)
 
 -- and of one more, behind those that went
@@ -237,19 +237,19 @@ goes_more gone left next all block before more =
     (IsPermutation-trans _ _ _ (IsPermutation-append_right gone (block ∷ next) left more) before)
 
 -- where none is left that may be removed, those that went are all
-pub goes_all : (dataset : ℕ) (gone all : List Resident) (blocks : List Held) → list_any (may_be_removed dataset) blocks ≡ false
+pub goes_all : (dataset : ℕ) (gone all : List Resident) (blocks : List HeldBlock) → list_any (may_be_removed dataset) blocks ≡ false
     → IsPermutation (gone ++ removable_of dataset blocks) all → IsPermutation gone all
 goes_all dataset gone all blocks none before =
     subst (λ (rs : List Resident). IsPermutation rs all) (ap (λ (rs : List Resident). gone ++ rs) (nothing blocks none) ∙ append-nil gone) before
   where
-    nothing : (bs : List Held) → list_any (may_be_removed dataset) bs ≡ false → removable_of dataset bs ≡ []
+    nothing : (bs : List HeldBlock) → list_any (may_be_removed dataset) bs ≡ false → removable_of dataset bs ≡ []
     nothing [] is = refl
     nothing (b ∷ bs) is =
         let parts = any_parts (may_be_removed dataset) b bs is in
         ap (map resident_of) (cond-false (may_be_removed dataset b) (b ∷ filter (may_be_removed dataset) bs) (filter (may_be_removed dataset) bs) parts.0) ∙ nothing bs parts.1
 
 -- the removal of one alone
-pub removes_one : (worker dataset from : ℕ) (next : Candidate) (before after : History) (had has : List Held) → Stands dataset had next → AreApart had
+pub removes_one : (worker dataset from : ℕ) (next : Candidate) (before after : History) (had has : List HeldBlock) → Stands dataset had next → AreApart had
     → list_any (may_be_removed_below dataset from) had ≡ false → after ≡ entry_by worker (Remove next.dataset next.part next.size) ∷ before → has ≡ without next.dataset next.part had
     → (block : Resident) × (block.part ≡ next.part) × RemovesInTurn worker dataset from (next.part + 1) (block ∷ []) before had after has
     × IsPermutation (block ∷ removable_of dataset has) (removable_of dataset had)

@@ -8,7 +8,7 @@ use Rattle.pool_ledger.specs.declared.entry.Fate.{Fate}
 use Rattle.pool_ledger.specs.declared.entry.Fate.TheVariants.{Disk as ToDisk, Gone, NoMemory}
 use Rattle.spill_disk.specs.Files.{Files}
 use Rattle.block_store.specs.declared.block_copy.BlockCopy.{BlockCopy}
-use Rattle.block_store.specs.Stores.{Held, is_held, rows_at, without}
+use Rattle.block_store.specs.Stores.{HeldBlock, is_held, rows_at, without}
 use Rattle.block_store.specs.Copies.{copy_rows, has_copy, is_copy}
 use Rattle.block_store.specs.Evictions.{is_name}
 use Rattle.block_store.proofs.Places.{find_none, none_kept}
@@ -38,15 +38,15 @@ and_right true b e = e
 and_right false b e = absurd (true≢false (sym e))
 
 -- a block of this name isn't one of another
-one_name : (dataset part d p : ℕ) (held : Held) → is_name dataset part d p ≡ false → is_held d p held ≡ true → not (is_held dataset part held) ≡ true
+one_name : (dataset part d p : ℕ) (held : HeldBlock) → is_name dataset part d p ≡ false → is_held d p held ≡ true → not (is_held dataset part held) ≡ true
 one_name dataset part d p held apart is =
     let d_is : held.dataset ≡ d = eqb-true held.dataset d (and_left (held.dataset == d) (held.part == p) is) in
     let p_is : held.part ≡ p = eqb-true held.part p (and_right (held.dataset == d) (held.part == p) is) in
     not_false (is_held dataset part held) (rw (d_is, p_is) (apart))
 
-pub rows_others : (dataset part d p : ℕ) (blocks : List Held) → is_name dataset part d p ≡ false → rows_at (without dataset part blocks) d p ≡ rows_at blocks d p
+pub rows_others : (dataset part d p : ℕ) (blocks : List HeldBlock) → is_name dataset part d p ≡ false → rows_at (without dataset part blocks) d p ≡ rows_at blocks d p
 rows_others dataset part d p blocks apart =
-    ap (option_map (λ (h : Held). h.rows)) (find_filtered (is_held d p) (λ h. not (is_held dataset part h)) blocks (λ h is. one_name dataset part d p h apart is))
+    ap (option_map (λ (h : HeldBlock). h.rows)) (find_filtered (is_held d p) (λ h. not (is_held dataset part h)) blocks (λ h is. one_name dataset part d p h apart is))
 
 -- what one name says of two
 pub name_left : (dataset part d p : ℕ) → is_name dataset part d p ≡ true → d ≡ dataset
@@ -55,10 +55,10 @@ name_left dataset part d p is = eqb-true d dataset (and_left (d == dataset) (p =
 pub name_right : (dataset part d p : ℕ) → is_name dataset part d p ≡ true → p ≡ part
 name_right dataset part d p is = eqb-true p part (and_right (d == dataset) (p == part) is)
 
-pub rows_gone : (dataset part : ℕ) (blocks : List Held) → rows_at (without dataset part blocks) dataset part ≡ None
-rows_gone dataset part blocks = ap (option_map (λ (h : Held). h.rows)) (find_none (is_held dataset part) (without dataset part blocks) (none_kept (is_held dataset part) blocks))
+pub rows_gone : (dataset part : ℕ) (blocks : List HeldBlock) → rows_at (without dataset part blocks) dataset part ≡ None
+rows_gone dataset part blocks = ap (option_map (λ (h : HeldBlock). h.rows)) (find_none (is_held dataset part) (without dataset part blocks) (none_kept (is_held dataset part) blocks))
 
-pub gone_named : (dataset part d p : ℕ) (blocks : List Held) → is_name dataset part d p ≡ true → rows_at (without dataset part blocks) d p ≡ None
+pub gone_named : (dataset part d p : ℕ) (blocks : List HeldBlock) → is_name dataset part d p ≡ true → rows_at (without dataset part blocks) d p ≡ None
 gone_named dataset part d p blocks same =
     ap (λ (e : ℕ). rows_at (without dataset part blocks) e p) (name_left dataset part d p same)
     ∙ ap (λ (q : ℕ). rows_at (without dataset part blocks) dataset q) (name_right dataset part d p same) ∙ rows_gone dataset part blocks

@@ -18,7 +18,7 @@ use Rattle.pool_laws.specs.Growing.{entry_by}
 use Rattle.pool_laws.proofs.NextEntries.{whole}
 use Rattle.pool_laws.proofs.Passing.{holds}
 use Rattle.block_store.specs.declared.block.Block.{Block}
-use Rattle.block_store.specs.Stores.{Held, held_at, is_held, pins_at}
+use Rattle.block_store.specs.Stores.{HeldBlock, held_at, is_held, pins_at}
 use Rattle.block_store.specs.Copies.{has_copy}
 use Rattle.memory_core.specs.Caches.{Cache, resident_of}
 use Rattle.memory_core.specs.Steady.{IsAmid, IsInStep, is_quiet}
@@ -27,7 +27,7 @@ use Rattle.memory_core.proofs.Gone.{pins_found}
 -- ---- what is found
 
 -- what the history says of the block that is found
-pub find_mapped : (d p : ℕ) (blocks : List Held) → find (is_block d p) (map resident_of blocks) ≡ option_map resident_of (held_at blocks d p)
+pub find_mapped : (d p : ℕ) (blocks : List HeldBlock) → find (is_block d p) (map resident_of blocks) ≡ option_map resident_of (held_at blocks d p)
 find_mapped d p [] = refl
 find_mapped d p (b ∷ bs) = elim (cases_Bool (is_held d p b)) [
   | inl holds ↦ cond-true (is_held d p b) (Some (resident_of b)) (find (is_block d p) (map resident_of bs)) holds ∙ sym (ap (λ t. option_map resident_of (cond t (Some b) (held_at bs d p))) holds)
@@ -35,7 +35,7 @@ find_mapped d p (b ∷ bs) = elim (cases_Bool (is_held d p b)) [
 ]
 
 -- the block is in memory where it is found
-pub any_mapped : (d p : ℕ) (blocks : List Held) → list_any (is_block d p) (map resident_of blocks) ≡ is_some (held_at blocks d p)
+pub any_mapped : (d p : ℕ) (blocks : List HeldBlock) → list_any (is_block d p) (map resident_of blocks) ≡ is_some (held_at blocks d p)
 any_mapped d p [] = refl
 any_mapped d p (b ∷ bs) = elim (cases_Bool (is_held d p b)) [
   | inl holds ↦ ap (λ t. t || list_any (is_block d p) (map resident_of bs)) holds ∙ sym (ap (λ t. is_some (cond t (Some b) (held_at bs d p))) holds)
@@ -46,7 +46,7 @@ pub resident_is : (h : History) (cache : Cache) (d p : ℕ) → IsInStep h cache
 resident_is h cache d p step = ap (list_any (is_block d p)) (sym step.blocks) ∙ any_mapped d p cache.blocks
 
 -- what is found has the name
-pub found_name : (d p : ℕ) (blocks : List Held) (held : Held) → held_at blocks d p ≡ Some held → is_held d p held ≡ true
+pub found_name : (d p : ℕ) (blocks : List HeldBlock) (held : HeldBlock) → held_at blocks d p ≡ Some held → is_held d p held ≡ true
 found_name d p [] held e = absurd (none-some held e)
 found_name d p (b ∷ bs) held e = elim (cases_Bool (is_held d p b)) [
   | inl holds ↦ ap (is_held d p) (sym (same_Some b held (sym (ap (λ t. cond t (Some b) (held_at bs d p)) holds) ∙ e))) ∙ holds
@@ -54,7 +54,7 @@ found_name d p (b ∷ bs) held e = elim (cases_Bool (is_held d p b)) [
 ]
 
 -- one without pins that is put behind the others changes no pins
-pins_behind : (blocks : List Held) (held : Held) (e q : ℕ) → held.pins ≡ 0 → pins_at (blocks ++ held ∷ []) e q ≡ pins_at blocks e q
+pins_behind : (blocks : List HeldBlock) (held : HeldBlock) (e q : ℕ) → held.pins ≡ 0 → pins_at (blocks ++ held ∷ []) e q ≡ pins_at blocks e q
 pins_behind [] held e q none = elim (cases_Bool (is_held e q held)) [
   | inl holds ↦ ap (λ t. pins_found (cond t (Some held) None)) holds ∙ none
   | inr fails ↦ ap (λ t. pins_found (cond t (Some held) None)) fails
@@ -65,12 +65,12 @@ pins_behind (b ∷ bs) held e q none = elim (cases_Bool (is_held e q b)) [
 ]
 
 -- one of another name behind the others isn't found
-pub found_before : (blocks : List Held) (held : Held) (e q : ℕ) → is_held e q held ≡ false → held_at (blocks ++ held ∷ []) e q ≡ held_at blocks e q
+pub found_before : (blocks : List HeldBlock) (held : HeldBlock) (e q : ℕ) → is_held e q held ≡ false → held_at (blocks ++ held ∷ []) e q ≡ held_at blocks e q
 found_before [] held e q other = ap (λ t. cond t (Some held) None) other
 found_before (b ∷ bs) held e q other = ap (λ found. cond (is_held e q b) (Some b) found) (found_before bs held e q other)
 
 -- one of the name behind others that haven't it is found
-pub found_last : (blocks : List Held) (held : Held) (e q : ℕ) → is_held e q held ≡ true → held_at blocks e q ≡ None → held_at (blocks ++ held ∷ []) e q ≡ Some held
+pub found_last : (blocks : List HeldBlock) (held : HeldBlock) (e q : ℕ) → is_held e q held ≡ true → held_at blocks e q ≡ None → held_at (blocks ++ held ∷ []) e q ≡ Some held
 found_last [] held e q holds none = ap (λ t. cond t (Some held) None) holds
 found_last (b ∷ bs) held e q holds none = elim (cases_Bool (is_held e q b)) [
   | inl here ↦ absurd (none-some b (sym none ∙ ap (λ t. cond t (Some b) (held_at bs e q)) here))
@@ -114,7 +114,7 @@ in_step_quiet h worker (Remove d p size) cache quiet step = absurd (cc quiet)
 -- ---- an admission
 
 -- a block without pins is put behind the others
-pub in_step_admitted : (h : History) (worker borrowed evictions : ℕ) (block : Held) (had has : Cache) → IsInStep h had → block.pins ≡ 0
+pub in_step_admitted : (h : History) (worker borrowed evictions : ℕ) (block : HeldBlock) (had has : Cache) → IsInStep h had → block.pins ≡ 0
     → has.blocks ≡ had.blocks ++ block ∷ [] → has.copies ≡ had.copies
     → IsInStep (entry_by worker (Admit block.dataset block.part block.size block.level borrowed evictions) ∷ h) has
 in_step_admitted h worker borrowed evictions block had has step none blocks copies = record {
@@ -162,12 +162,12 @@ amid_more setup h had has entry amid may step = record { range = amid.range; per
 pub none_found : (h : History) (cache : Cache) (d p : ℕ) → IsInStep h cache → is_resident h d p ≡ false → held_at cache.blocks d p ≡ None
 none_found h cache d p step absent = none_of (held_at cache.blocks d p) (sym (resident_is h cache d p step) ∙ absent)
   where
-    none_of : (found : Option Held) → is_some found ≡ false → found ≡ None
+    none_of : (found : Option HeldBlock) → is_some found ≡ false → found ≡ None
     none_of None fails = refl
     none_of (Some held) fails = absurd (cc fails)
 
 -- a call that tells the pins of a block tells whether it is in memory
-pub told_resident : (found : Option Held) (pins : Option ℕ) → IfSome pins (λ _. IsSome found) → IfNone pins (found ≡ None) → is_some pins ≡ is_some found
+pub told_resident : (found : Option HeldBlock) (pins : Option ℕ) → IfSome pins (λ _. IsSome found) → IfNone pins (found ≡ None) → is_some pins ≡ is_some found
 told_resident None None some none = refl
 told_resident None (Some n) some none = absurd (cc some)
 told_resident (Some held) None some none = absurd (cc none)

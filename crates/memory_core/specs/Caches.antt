@@ -8,7 +8,7 @@ use Rattle.pool_ledger.specs.Sizes.{Sizes}
 use Rattle.pool_ledger.specs.History.{History}
 use Rattle.pool_ledger.specs.Blocks.{Resident}
 use Rattle.block_store.specs.declared.block_copy.BlockCopy.{BlockCopy}
-use Rattle.block_store.specs.Stores.{Held, Rows, rows_at}
+use Rattle.block_store.specs.Stores.{HeldBlock, Rows, rows_at}
 use Rattle.block_store.specs.Copies.{copy_rows}
 
 -- files as a ghost value
@@ -16,13 +16,13 @@ abbrev pub files_coded : Coded Files
 files_coded = map.code coded_ℕ (coded_list coded_ℕ)
 
 -- what a history says of a block in memory
-abbrev pub resident_of : Held → Resident
+abbrev pub resident_of : HeldBlock → Resident
 resident_of held = record { dataset = held.dataset; part = held.part; size = held.size; level = held.level }
 
 -- what is kept of blocks: those in memory in use order, the copies of evicted ones, and of the store disk its files,
 -- where it tells them, and its count of faults
 pub record Cache : Type 0 where
-  pub blocks : List Held
+  pub blocks : List HeldBlock
   pub copies : List BlockCopy
   pub files : Option Files
   pub faults : ℕ

@@ -11,7 +11,7 @@ use Rattle.pool_ledger.specs.History.{History}
 use Rattle.pool_ledger.specs.Blocks.{Resident, is_pinned, is_resident}
 use Rattle.pool_laws.specs.Growing.{entry_by}
 use Rattle.block_store.specs.declared.block.Block.{Block}
-use Rattle.block_store.specs.Stores.{Held, held_at, held_of, pins_at, without}
+use Rattle.block_store.specs.Stores.{HeldBlock, held_at, held_of, pins_at, without}
 use Rattle.block_store.specs.Copies.{copy_rows, has_copy, has_file, only_of}
 use Rattle.block_store.specs.Evictions.{KeepsDatasets, file_at}
 use Rattle.memory_core.specs.declared.pinned.Pinned.{Pinned}
@@ -76,7 +76,7 @@ IsNamed Miss dataset part = Unit {0}
 -- Removals
 
 -- a worker removed these blocks of a dataset, ascending by part, from this part up to before that one
-abbrev pub RemovesInTurn : ℕ → ℕ → ℕ → ℕ → List Resident → History → List Held → History → List Held → Type 0
+abbrev pub RemovesInTurn : ℕ → ℕ → ℕ → ℕ → List Resident → History → List HeldBlock → History → List HeldBlock → Type 0
 RemovesInTurn worker dataset from end [] before had after has = (from ≤ end) × (after ≡ before) × (has ≡ had)
 RemovesInTurn worker dataset from end (block ∷ blocks) before had after has =
     (block.dataset ≡ dataset) × (from ≤ block.part)
@@ -84,15 +84,15 @@ RemovesInTurn worker dataset from end (block ∷ blocks) before had after has =
     (entry_by worker (Remove dataset block.part block.size) ∷ before) (without dataset block.part had) after has
 
 -- whether a block in memory is of this dataset and no pin keeps it
-abbrev pub may_be_removed : ℕ → Held → Bool
+abbrev pub may_be_removed : ℕ → HeldBlock → Bool
 may_be_removed dataset held = held.dataset == dataset && not (nat_lt 0 held.pins)
 
 -- the same, and its part is below this
-abbrev pub may_be_removed_below : ℕ → ℕ → Held → Bool
+abbrev pub may_be_removed_below : ℕ → ℕ → HeldBlock → Bool
 may_be_removed_below dataset end held = may_be_removed dataset held && nat_lt held.part end
 
 -- the blocks of the dataset that may be removed, as a history names them, in use order
-abbrev pub removable_of : ℕ → List Held → List Resident
+abbrev pub removable_of : ℕ → List HeldBlock → List Resident
 removable_of dataset blocks = map resident_of (filter (may_be_removed dataset) blocks)
 
 -- the dataset's blocks are gone but for pinned ones, and so are all its copies; the others stay

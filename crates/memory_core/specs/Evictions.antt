@@ -25,7 +25,7 @@ use Rattle.memory_core.specs.Caches.{Cache, Memory}
 -- Evictions
 
 -- the copies, the files and the count of faults are as before
-pub record WritesNothing (before after : Cache) : Type 0 where
+pub record KeepsStore (before after : Cache) : Type 0 where
   pub copies : after.copies ≡ before.copies
   pub files : after.files ≡ before.files
   pub faults : after.faults ≡ before.faults
@@ -35,9 +35,9 @@ pub record Drops (block : Resident) (fate : Fate) (before after : Cache) : Type 
   -- it went, and the others stay in their order
   pub blocks : after.blocks ≡ without block.dataset block.part before.blocks
   -- one of level memory is dropped
-  pub memory : block.level ≡ InMemory → (fate ≡ Gone) × WritesNothing before after
+  pub memory : block.level ≡ InMemory → (fate ≡ Gone) × KeepsStore before after
   -- for one of level disk that has a copy nothing is written
-  pub copied : block.level ≡ OnDisk → has_copy before.copies block.dataset block.part ≡ true → (fate ≡ ToDisk) × WritesNothing before after
+  pub copied : block.level ≡ OnDisk → has_copy before.copies block.dataset block.part ≡ true → (fate ≡ ToDisk) × KeepsStore before after
   -- one that has none is dropped only where the disk failed in its write, want of memory aside
   pub gone : block.level ≡ OnDisk → fate ≡ Gone → Rose before.faults after.faults
   -- one that went to disk has a copy, with the rows that it had in memory if it had no copy before
@@ -88,8 +88,8 @@ Admits worker block size before after =
     × (after.cache ≡ record room { blocks = room.blocks ++ held_of 0 block ∷ [] })
 
 -- the victims of a block's admission were evicted, and there was still no room for it
-abbrev pub Refuses : ℕ → Block → ℕ → Memory → Memory → Type 0
-Refuses worker block size before after =
+abbrev pub EvictsInVain : ℕ → Block → ℕ → Memory → Memory → Type 0
+EvictsInVain worker block size before after =
     (amid : History) × EvictsInTurn worker (admission before.setup before.history block.dataset size).evicted before.history before.cache amid after.cache
     × (after.history ≡ refusal_by before.setup before.history worker block.dataset block.part size ∷ amid)
 
@@ -100,6 +100,6 @@ IsAnswered Admitted worker block size before after =
     × ((admission before.setup before.history block.dataset size).admitted ≡ true) × Admits worker block size before after
 IsAnswered Refused worker block size before after =
     (is_resident before.history block.dataset block.part ≡ false)
-    × ((admission before.setup before.history block.dataset size).admitted ≡ false) × Refuses worker block size before after
+    × ((admission before.setup before.history block.dataset size).admitted ≡ false) × EvictsInVain worker block size before after
 IsAnswered AlreadyResident worker block size before after =
     (is_resident before.history block.dataset block.part ≡ true) × (after ≡ before)

@@ -14,7 +14,7 @@ use Rattle.pool_ledger.specs.Workers.{Continues}
 use Rattle.pool_laws.specs.Growing.{entry_by}
 use Rattle.pool_laws.specs.Evicting.{IsEvicting, evicting_attempt_by}
 use Rattle.block_store.specs.declared.block.Block.{Block}
-use Rattle.block_store.specs.Stores.{Held, held_at, held_of, pins_at, unpinned, without}
+use Rattle.block_store.specs.Stores.{HeldBlock, held_at, held_of, pins_at, unpinned, without}
 use Rattle.block_store.specs.Copies.{copy_rows, has_copy}
 use Rattle.memory_core.specs.Caches.{AreGiven, Cache, FitsRows, Memory, RowsByName, resident_of}
 use Rattle.memory_core.specs.Changes.{Clears, ReadsAlone, RemovesInTurn, StillFits, StillFitsWith}
@@ -65,7 +65,7 @@ is_quiet _ = false
 -- how the state goes on
 
 -- nothing is pending after, the worker, who owed so many entries, then owes so many, and all that was added is its own
-pub record Goes (setup : Sizes) (before after : History) (worker was now : ℕ) : Type 0 where
+pub record GoesSteadily (setup : Sizes) (before after : History) (worker was now : ℕ) : Type 0 where
   pub whole : pending after ≡ []
   pub owed_is : owed setup.workers after + was ≡ owed setup.workers before + now
   pub own : Continues worker (journal_of before) (journal_of after)
@@ -77,34 +77,34 @@ pub record StatesGoOn : Type 0 where
   pub owes_few : (workers : ℕ) (history : History) → owed workers history ≤ 2 * workers
   pub begins : (setup : Sizes) (history : History) (cache : Cache) (worker task : ℕ) → IsSteady setup history cache → worker < setup.workers
       → open_task history worker ≡ None → was_begun history task ≡ false
-      → MayFollow setup history (entry_by worker (Begin task)) × Goes setup history (entry_by worker (Begin task) ∷ history) worker 0 1
+      → MayFollow setup history (entry_by worker (Begin task)) × GoesSteadily setup history (entry_by worker (Begin task) ∷ history) worker 0 1
   pub releases : (setup : Sizes) (history : History) (cache : Cache) (worker task bytes : ℕ) → IsSteady setup history cache → worker < setup.workers
       → open_task history worker ≡ Some task
       → MayFollow setup history (entry_by worker (Release task (min bytes (held history task))))
-      × Goes setup history (entry_by worker (Release task (min bytes (held history task))) ∷ history) worker 0 0
+      × GoesSteadily setup history (entry_by worker (Release task (min bytes (held history task))) ∷ history) worker 0 0
   pub ends : (setup : Sizes) (history : History) (cache : Cache) (worker task : ℕ) → IsSteady setup history cache → worker < setup.workers
       → open_task history worker ≡ Some task
-      → MayFollow setup history (entry_by worker (End task (held history task))) × Goes setup history (entry_by worker (End task (held history task)) ∷ history) worker 1 0
+      → MayFollow setup history (entry_by worker (End task (held history task))) × GoesSteadily setup history (entry_by worker (End task (held history task)) ∷ history) worker 1 0
   pub pins : (setup : Sizes) (history : History) (worker dataset part : ℕ) → worker < setup.workers → worker_pin history worker ≡ None
-      → Goes setup history (entry_by worker (Pin dataset part false) ∷ history) worker 0 1
+      → GoesSteadily setup history (entry_by worker (Pin dataset part false) ∷ history) worker 0 1
   pub reads : (setup : Sizes) (history : History) (worker dataset part : ℕ) → worker < setup.workers
-      → Goes setup history (entry_by worker (Pin dataset part true) ∷ history) worker 0 0
+      → GoesSteadily setup history (entry_by worker (Pin dataset part true) ∷ history) worker 0 0
   pub unpins : (setup : Sizes) (history : History) (worker dataset part : ℕ) (name : Name) → worker < setup.workers → worker_pin history worker ≡ Some name
-      → Goes setup history (entry_by worker (Unpin dataset part) ∷ history) worker 1 0
+      → GoesSteadily setup history (entry_by worker (Unpin dataset part) ∷ history) worker 1 0
   pub attempts : (setup : Sizes) (base amid : History) (had has : Cache) (worker task asked : ℕ) → IsSteady setup base had → worker < setup.workers
       → open_task base worker ≡ Some task → 1 ≤ asked → asked ≤ 2 ^ 50
       → EvictsInTurn worker (growth setup base asked).evicted base had amid has → IsEvicting amid base worker None (growth setup base asked).evicted []
-      → MayFollow setup amid (evicting_attempt_by setup base worker task asked) × Goes setup base (evicting_attempt_by setup base worker task asked ∷ amid) worker 0 0
+      → MayFollow setup amid (evicting_attempt_by setup base worker task asked) × GoesSteadily setup base (evicting_attempt_by setup base worker task asked ∷ amid) worker 0 0
   pub admits : (setup : Sizes) (base amid : History) (had has : Cache) (worker dataset part size : ℕ) (level : Level) → IsSteady setup base had → worker < setup.workers
       → is_resident base dataset part ≡ false → (admission setup base dataset size).admitted ≡ true
       → EvictsInTurn worker (admission setup base dataset size).evicted base had amid has → IsEvicting amid base worker (Some dataset) (admission setup base dataset size).evicted []
-      → MayFollow setup amid (admission_by setup base worker dataset part size level) × Goes setup base (admission_by setup base worker dataset part size level ∷ amid) worker 0 0
+      → MayFollow setup amid (admission_by setup base worker dataset part size level) × GoesSteadily setup base (admission_by setup base worker dataset part size level ∷ amid) worker 0 0
   pub refuses : (setup : Sizes) (base amid : History) (had has : Cache) (worker dataset part size : ℕ) → IsSteady setup base had → worker < setup.workers
       → is_resident base dataset part ≡ false → (admission setup base dataset size).admitted ≡ false
       → EvictsInTurn worker (admission setup base dataset size).evicted base had amid has → IsEvicting amid base worker (Some dataset) (admission setup base dataset size).evicted []
-      → MayFollow setup amid (refusal_by setup base worker dataset part size) × Goes setup base (refusal_by setup base worker dataset part size ∷ amid) worker 0 0
-  pub removes : (setup : Sizes) (before after : History) (had has : List Held) (worker dataset from end : ℕ) (gone : List Resident) → worker < setup.workers → pending before ≡ []
-      → RemovesInTurn worker dataset from end gone before had after has → Goes setup before after worker 0 0
+      → MayFollow setup amid (refusal_by setup base worker dataset part size) × GoesSteadily setup base (refusal_by setup base worker dataset part size ∷ amid) worker 0 0
+  pub removes : (setup : Sizes) (before after : History) (had has : List HeldBlock) (worker dataset from end : ℕ) (gone : List Resident) → worker < setup.workers → pending before ≡ []
+      → RemovesInTurn worker dataset from end gone before had after has → GoesSteadily setup before after worker 0 0
   -- rows
   pub evicts : (worker : ℕ) (blocks : List Resident) (before after : History) (had has : Cache) → EvictsInTurn worker blocks before had after has → StillFits had has
   pub clears : (worker dataset : ℕ) (before after : Memory) → Clears worker dataset before after → StillFits before.cache after.cache

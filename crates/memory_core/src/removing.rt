@@ -8,7 +8,7 @@ ghost use Rattle.pool_ledger.specs.Legal.{pending};
 ghost use Rattle.block_store.specs.Copies.{has_copy, has_file, only_of};
 ghost use Rattle.block_store.specs.Evictions.{KeepsDatasets, file_at};
 ghost use Rattle.memory_core.specs.Changes.{RemovesInTurn, may_be_removed, may_be_removed_below, removable_of};
-ghost use Rattle.memory_core.specs.Evictions.{WritesNothing};
+ghost use Rattle.memory_core.specs.Evictions.{KeepsStore};
 ghost use Rattle.memory_core.specs.Steady.{IsAmid};
 
 use crate::pool::Pool;
@@ -30,7 +30,7 @@ impl<K: Disk> Pool<K> {
             × RemovesInTurn worker dataset 0 end gone self.old.history self.old.cache.blocks self.new.history self.new.cache.blocks
             × IsPermutation gone (removable_of dataset self.old.cache.blocks) }
         ensures none_left { list_any (may_be_removed dataset) self.new.cache.blocks ≡ false }
-        ensures disk { WritesNothing self.old.cache self.new.cache }
+        ensures disk { KeepsStore self.old.cache self.new.cache }
         ensures spare { self.new.spare + count ≡ self.old.spare }
         ensures setup { self.new.setup ≡ self.old.setup }
     {
@@ -56,7 +56,7 @@ impl<K: Disk> Pool<K> {
             × IsPermutation (block ∷ removable_of dataset self.new.cache.blocks) (removable_of dataset self.old.cache.blocks) }
         ensures count { count_by (may_be_removed dataset) self.new.cache.blocks + 1 ≡ count_by (may_be_removed dataset) self.old.cache.blocks }
         ensures from { list_any (may_be_removed_below dataset (result + 1)) self.new.cache.blocks ≡ false }
-        ensures disk { WritesNothing self.old.cache self.new.cache }
+        ensures disk { KeepsStore self.old.cache self.new.cache }
         ensures spare { self.new.spare + 1 ≡ self.old.spare }
         ensures setup { self.new.setup ≡ self.old.setup }
     {

@@ -13,7 +13,7 @@ use Rattle.pool_ledger.specs.Journal.{history_of, journal_of}
 use Rattle.pool_ledger.specs.Legal.{IsPermitted}
 use Rattle.pool_ledger.specs.Workers.{entries_of}
 use Rattle.pool_laws.specs.Laws.{KeepsLaws}
-use Rattle.pool_laws.specs.Owners.{AreOwned, IsByOwner, TellsTask, TellsWorker}
+use Rattle.pool_laws.specs.Owners.{AreOwned, IsByOwner, OwnerTells, TellsWorker}
 use Rattle.memory_core.specs.Caches.{Memory, RowsByName}
 use Rattle.memory_lock.specs.Fitting.{FitsBasis, OwnDecides, OwnerDecides, OwnTaskDecides, OwnEntriesDecide, TasksFitPool, own_in}
 
@@ -39,7 +39,7 @@ open_is_owned owner (entry ∷ before) worker task owned now = elim (cases_Bool 
 
 module _ (tells_worker : (journal : List Entry) (worker : ℕ) → TellsWorker (history_of journal) (history_of (entries_of worker journal)) worker)
     (tells_task : (setup : Sizes) (owner : ℕ → Option ℕ) (journal : List Entry) (worker task : ℕ) → IsPermitted setup (history_of journal) → AreOwned owner (history_of journal) → owner task ≡ Some worker
-    → TellsTask (history_of journal) (history_of (entries_of worker journal)) task) where
+    → OwnerTells (history_of journal) (history_of (entries_of worker journal)) task) where
   of_worker : (sizes : Sizes) (owner : ℕ → Option ℕ) (given : RowsByName) (memory : Memory) (number : ℕ) → FitsBasis sizes owner given memory → OwnDecides memory number
   of_worker sizes owner given memory number fits =
       let tells = subst (λ (h : History). TellsWorker h (own_in number memory) number) (twice_reversed memory.history) (tells_worker (journal_of memory.history) number) in
@@ -50,7 +50,7 @@ module _ (tells_worker : (journal : List Entry) (worker : ℕ) → TellsWorker (
       let again = sym (twice_reversed memory.history) in
       let permitted = subst (IsPermitted sizes) again fits.legal.permitted in
       let owned = subst (AreOwned owner) again fits.owned in
-      let tells = subst (λ (h : History). TellsTask h (own_in number memory) task) (twice_reversed memory.history) (tells_task sizes owner (journal_of memory.history) number task permitted owned its) in
+      let tells = subst (λ (h : History). OwnerTells h (own_in number memory) task) (twice_reversed memory.history) (tells_task sizes owner (journal_of memory.history) number task permitted owned its) in
       record { holds = tells.holds; begun = tells.begun }
 
   of_own_task : (sizes : Sizes) (owner : ℕ → Option ℕ) (given : RowsByName) (memory : Memory) (number task : ℕ) → FitsBasis sizes owner given memory → open_task (own_in number memory) number ≡ Some task → OwnTaskDecides memory number task

@@ -10,7 +10,7 @@ use Rattle.pool_ledger.specs.Workers.{entries_of}
 use Rattle.pool_laws.specs.Growing.{entry_by}
 use Rattle.pool_laws.specs.Evicting.{eviction_by}
 use Rattle.pool_laws.specs.Owners.{AreOwned}
-use Rattle.block_store.specs.Stores.{Held, without}
+use Rattle.block_store.specs.Stores.{HeldBlock, without}
 use Rattle.memory_core.specs.Caches.{Cache}
 use Rattle.memory_core.specs.Changes.{EvictsInTurn, RemovesInTurn}
 use Rattle.memory_lock.specs.Workers.{AreEvictions, AreRemovals}
@@ -64,7 +64,7 @@ pub record HasRemoved (worker dataset from : ℕ) (before after : History) : Typ
   pub are : AreRemovals worker dataset from gone
   pub adds : entries_of worker (journal_of after) ≡ entries_of worker (journal_of before) ++ gone
 
-pub removed_of : (worker dataset from end : ℕ) (blocks : List Resident) (before after : History) (had has : List Held) → RemovesInTurn worker dataset from end blocks before had after has
+pub removed_of : (worker dataset from end : ℕ) (blocks : List Resident) (before after : History) (had has : List HeldBlock) → RemovesInTurn worker dataset from end blocks before had after has
     → HasRemoved worker dataset from before after
 removed_of worker dataset from end [] before after had has gone = record {
   gone = [];
@@ -80,7 +80,7 @@ removed_of worker dataset from end (block ∷ blocks) before after had has gone 
       adds = more.adds ∙ ap (λ (es : List Entry). es ++ more.gone) (pushed worker entry before refl) ∙ append_assoc (entries_of worker (journal_of before)) (entry ∷ []) more.gone;
     }
 
-pub removes_owned : (owner : ℕ → Option ℕ) (worker dataset from end : ℕ) (blocks : List Resident) (before after : History) (had has : List Held) → RemovesInTurn worker dataset from end blocks before had after has
+pub removes_owned : (owner : ℕ → Option ℕ) (worker dataset from end : ℕ) (blocks : List Resident) (before after : History) (had has : List HeldBlock) → RemovesInTurn worker dataset from end blocks before had after has
     → AreOwned owner before → AreOwned owner after
 removes_owned owner worker dataset from end [] before after had has gone owned = subst (AreOwned owner) (sym gone.1) owned
 removes_owned owner worker dataset from end (block ∷ blocks) before after had has gone owned =

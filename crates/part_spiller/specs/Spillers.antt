@@ -19,5 +19,5 @@ pub record Told : Type 0 where
   pub early : ℕ
 
 -- what it was told
-abbrev pub told_of : PartSpiller → Told
-told_of spiller = record { asks = spiller.asks; most = spiller.most; part = spiller.part; early = spiller.early }
+abbrev pub was_told : PartSpiller → Told
+was_told spiller = record { asks = spiller.asks; most = spiller.most; part = spiller.part; early = spiller.early }

@@ -5,6 +5,7 @@ ghost use Rattle.std.specs.Ordering.{is_gt};
 ghost use Rattle.aggregate.specs.declared.kind.Kind.TheVariants.{Order};
 ghost use Rattle.aggregate.specs.Rows.{Ascends};
 ghost use Rattle.aggregate.specs.Totals.{costs as costs_of, key_cmp};
+ghost use Rattle.row_page.specs.Pages.{empty_page};
 ghost use Rattle.part_spiller.specs.declared.row.Row.{Row};
 ghost use Rattle.part_spiller.specs.Rows.{entries_of_rows, Puts};
 
@@ -44,7 +45,7 @@ pub fn front_of(rows: &[Row], most: usize) -> usize
 pub fn put_front(rows: &[Row], most: usize, out: &mut Page) -> Result<usize, AllocError>
     requires some { 1 ≤ most }
     requires within { most ≤ length rows.now }
-    requires page { out.old ≡ record { rows = []; room = 262144 } }
+    requires page { out.old ≡ empty_page }
     ensures puts { IfOk result (λ count. Puts rows.now most count out.new.rows) }
     ensures room { out.new.room ≡ out.old.room }
 {

@@ -14,7 +14,7 @@ use Rattle.pool_ledger.specs.Blocks.{worker_pin, pin_after}
 use Rattle.pool_ledger.specs.Journal.{history_of}
 use Rattle.pool_ledger.specs.Legal.{IsPermitted, MayCome}
 use Rattle.pool_ledger.specs.Workers.{entries_of}
-use Rattle.pool_laws.specs.Owners.{AreOwned, IsByOwner, TellsTask, TellsWorker}
+use Rattle.pool_laws.specs.Owners.{AreOwned, IsByOwner, OwnerTells, TellsWorker}
 
 -- ---- a list and its reverse
 
@@ -200,7 +200,7 @@ tells_worker journal worker = record {
 }
 
 pub tells_task : (setup : Sizes) (owner : ℕ → Option ℕ) (journal : List Entry) (worker task : ℕ) → IsPermitted setup (history_of journal) → AreOwned owner (history_of journal)
-    → owner task ≡ Some worker → TellsTask (history_of journal) (history_of (entries_of worker journal)) task
+    → owner task ≡ Some worker → OwnerTells (history_of journal) (history_of (entries_of worker journal)) task
 tells_task setup owner journal worker task permitted owned its =
     let same = subst (IsSameOf task (history_of journal)) (own_journal worker journal) (same_of setup owner (history_of journal) worker task permitted owned its) in
     record { holds = rw (same.grants, same.frees) refl; active = same.active; begun = same.begins }

@@ -23,7 +23,7 @@ pub record TellsWorker (history own : History) (worker : ℕ) : Type 0 where
 
 -- a history and the entries of a task's owner tell the same of the task: what it holds in bytes, whether it is active,
 -- and whether it was begun
-pub record TellsTask (history own : History) (task : ℕ) : Type 0 where
+pub record OwnerTells (history own : History) (task : ℕ) : Type 0 where
   pub holds : held history task ≡ held own task
   pub active : is_active history task ≡ is_active own task
   pub begun : was_begun history task ≡ was_begun own task

@@ -13,7 +13,7 @@ use Rattle.pool_ledger.specs.declared.holding.Holding.{Holding}
 use Rattle.pool_ledger.specs.declared.ledger.Kept.{Kept}
 use Rattle.pool_ledger.specs.Sizes.{Sizes}
 use Rattle.pool_ledger.specs.History.{History, held, exec, begun, is_active, active, open_task, was_begun, total, granted_by, freed_by, task_after, execution_pool, maximum, moved_by, borrowed_by}
-use Rattle.pool_ledger.specs.Recorded.{CanCome, CanFollow, IsRecorded, IsAttempt, IsRelease, IsAdmit}
+use Rattle.pool_ledger.specs.Recorded.{CanCome, CanFollow, IsRecorded, CanAttempt, CanRelease, IsAdmit}
 use Rattle.pool_ledger.specs.Blocks.{stored}
 use Rattle.pool_ledger.specs.Accounts.{seat_of}
 use Rattle.pool_ledger.specs.Kept.{AreKept}
@@ -100,7 +100,7 @@ pub borrowed_fits : (s : Sizes) (h : History) → IsRecorded s h → total borro
 borrowed_fits s [] r = omega arith
 borrowed_fits s (entry ∷ h) r = borrowed_fits-more s h entry.worker entry.event r.1.event_fits (borrowed_fits s h r.0)
 
-pub kept-Attempt : (s : Sizes) (h : History) (w : ℕ) (kept : Kept) (o next : Holding) (t asked moved evictions : ℕ) (got : Option ℕ) (mark : ℕ) → AreKept s h w kept → IsRecorded s h → IsAttempt s h w t moved got → IsSeated s h kept o t → next ≡ seated o.task (o.held + unwrap_or got 0) true → mark ≡ cond o.active 1 0 → AreKept s (entry_of w (Attempt t asked moved evictions got) ∷ h) w (record { seat = Some next; exec = kept.exec - o.held + next.held; stored = kept.stored; pool = kept.pool + moved; active = kept.active - mark + 1 })
+pub kept-Attempt : (s : Sizes) (h : History) (w : ℕ) (kept : Kept) (o next : Holding) (t asked moved evictions : ℕ) (got : Option ℕ) (mark : ℕ) → AreKept s h w kept → IsRecorded s h → CanAttempt s h w t moved got → IsSeated s h kept o t → next ≡ seated o.task (o.held + unwrap_or got 0) true → mark ≡ cond o.active 1 0 → AreKept s (entry_of w (Attempt t asked moved evictions got) ∷ h) w (record { seat = Some next; exec = kept.exec - o.held + next.held; stored = kept.stored; pool = kept.pool + moved; active = kept.active - mark + 1 })
 kept-Attempt s h w kept o next t asked moved evictions got mark sums r can seat is one =
     let e = Attempt t asked moved evictions got in
     let after = entry_of w e ∷ h in
@@ -117,7 +117,7 @@ kept-Attempt s h w kept o next t asked moved evictions got mark sums r can seat 
       active_is = grind (arith, seat.mark_fits, seat.active_is, sums.active_is, one, active-Attempt s h r w t asked moved evictions got can.open_now);
     }
 
-pub kept-Release : (s : Sizes) (h : History) (w : ℕ) (kept : Kept) (o next : Holding) (t freed : ℕ) (mark after : ℕ) → AreKept s h w kept → IsRecorded s h → IsRelease h w t freed → IsSeated s h kept o t → next ≡ seated o.task (o.held - freed) (o.active && not (nat_eq (o.held - freed) 0)) → mark ≡ cond o.active 1 0 → after ≡ cond next.active 1 0 → AreKept s (entry_of w (Release t freed) ∷ h) w (record { seat = Some next; exec = kept.exec - freed; stored = kept.stored; pool = kept.pool; active = kept.active - mark + after })
+pub kept-Release : (s : Sizes) (h : History) (w : ℕ) (kept : Kept) (o next : Holding) (t freed : ℕ) (mark after : ℕ) → AreKept s h w kept → IsRecorded s h → CanRelease h w t freed → IsSeated s h kept o t → next ≡ seated o.task (o.held - freed) (o.active && not (nat_eq (o.held - freed) 0)) → mark ≡ cond o.active 1 0 → after ≡ cond next.active 1 0 → AreKept s (entry_of w (Release t freed) ∷ h) w (record { seat = Some next; exec = kept.exec - freed; stored = kept.stored; pool = kept.pool; active = kept.active - mark + after })
 kept-Release s h w kept o next t freed mark after sums r can seat is one two =
     let h' = entry_of w (Release t freed) ∷ h in
     let held_is : o.held - freed ≡ held h' t = omega (arith, held-Release h w t freed, seat.held_is) in
@@ -134,7 +134,7 @@ kept-Release s h w kept o next t freed mark after sums r can seat is one two =
       active_is = grind (arith, nat_tests, ap (λ (v : Holding). v.active) is, seat.mark_fits, seat.active_is, seat.held_is, sums.active_is, one, two, can.holds, active-Release s h r w t freed can.open_now can.holds);
     }
 
-pub kept-End : (s : Sizes) (h : History) (w : ℕ) (kept : Kept) (o next : Holding) (t freed : ℕ) (mark after : ℕ) → AreKept s h w kept → IsRecorded s h → IsRelease h w t freed → IsSeated s h kept o t → next ≡ seated o.task (o.held - freed) (o.active && not (nat_eq (o.held - freed) 0)) → mark ≡ cond o.active 1 0 → after ≡ cond next.active 1 0 → AreKept s (entry_of w (End t freed) ∷ h) w (record { seat = None; exec = kept.exec - o.held + next.held; stored = kept.stored; pool = kept.pool; active = kept.active - mark + after })
+pub kept-End : (s : Sizes) (h : History) (w : ℕ) (kept : Kept) (o next : Holding) (t freed : ℕ) (mark after : ℕ) → AreKept s h w kept → IsRecorded s h → CanRelease h w t freed → IsSeated s h kept o t → next ≡ seated o.task (o.held - freed) (o.active && not (nat_eq (o.held - freed) 0)) → mark ≡ cond o.active 1 0 → after ≡ cond next.active 1 0 → AreKept s (entry_of w (End t freed) ∷ h) w (record { seat = None; exec = kept.exec - o.held + next.held; stored = kept.stored; pool = kept.pool; active = kept.active - mark + after })
 kept-End s h w kept o next t freed mark after sums r can seat is one two =
     let h' = entry_of w (End t freed) ∷ h in
     let exec_is : kept.exec - o.held + next.held ≡ exec h' = omega (arith, ap (λ (v : Holding). v.held) is, seat.held_fits, seat.held_is, sums.exec_is, exec-Release s h r w t freed can.open_now can.holds) in

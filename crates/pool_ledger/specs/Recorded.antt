@@ -14,13 +14,13 @@ pub record IsBegin (history : History) (worker task : ℕ) : Type 0 where
   pub new : was_begun history task ≡ false
 
 -- the task is the worker's, and neither pool nor sum passes what there is
-pub record IsAttempt (setup : Sizes) (history : History) (worker task moved : ℕ) (got : Option ℕ) : Type 0 where
+pub record CanAttempt (setup : Sizes) (history : History) (worker task moved : ℕ) (got : Option ℕ) : Type 0 where
   pub open_now : open_task history worker ≡ Some task
   pub pool_fits : execution_pool setup history + moved ≤ maximum setup history
   pub sum_fits : exec history + unwrap_or got 0 ≤ maximum setup history
 
 -- the task is the worker's, and frees at most what it holds
-pub record IsRelease (history : History) (worker task freed : ℕ) : Type 0 where
+pub record CanRelease (history : History) (worker task freed : ℕ) : Type 0 where
   pub open_now : open_task history worker ≡ Some task
   pub holds : freed ≤ held history task
 
@@ -38,9 +38,9 @@ pub record IsAdmit (setup : Sizes) (history : History) (dataset part size borrow
 -- the event can be recorded next, by this worker
 abbrev pub CanCome : Sizes → History → ℕ → Event → Type 0
 CanCome setup history worker (Begin task) = IsBegin history worker task
-CanCome setup history worker (Attempt task asked moved evictions got) = IsAttempt setup history worker task moved got
-CanCome setup history worker (Release task freed) = IsRelease history worker task freed
-CanCome setup history worker (End task freed) = IsRelease history worker task freed
+CanCome setup history worker (Attempt task asked moved evictions got) = CanAttempt setup history worker task moved got
+CanCome setup history worker (Release task freed) = CanRelease history worker task freed
+CanCome setup history worker (End task freed) = CanRelease history worker task freed
 CanCome setup history worker (Evict dataset part size fate) = (block : Resident) × IsLeaving history dataset part size block
 CanCome setup history worker (Admit dataset part size level borrowed evictions) = IsAdmit setup history dataset part size borrowed
 CanCome setup history worker (Refused dataset part size borrowed evictions) = borrowed ≤ execution_pool setup history

@@ -7,13 +7,13 @@ use Rattle.aggregate.specs.declared.kind.Kind.{Kind}
 use Rattle.aggregate.specs.Rows.{entries_of, entry_of}
 use Rattle.aggregate.specs.Totals.{Entry}
 use Rattle.spill_disk.specs.Files.{Files}
-use Rattle.run_file.specs.declared.form.Form.{Form}
-use Rattle.run_file.specs.declared.form.Form.TheVariants.{Entries}
+use Rattle.row_form.specs.declared.form.Form.{Form}
+use Rattle.row_form.specs.declared.form.Form.TheVariants.{Entries}
 use Rattle.run_file.specs.declared.run.Run.{Run}
 use Rattle.run_file.specs.declared.run.RunFault.{RunFault}
-use Rattle.run_file.specs.Forms.{HasForm, IsWellFormed}
+use Rattle.row_form.specs.Forms.{HasForm, IsWellFormed}
 use Rattle.run_file.specs.Readers.{ReaderView}
-use Rattle.run_file.specs.Reading.{Begins, GoesOn, IsAhead}
+use Rattle.run_file.specs.Reading.{Begins, ReadsOn, IsAhead}
 use Rattle.run_file.specs.Runs.{Stands, greatest_cost}
 use Rattle.run_file.specs.Several.{HasEntries}
 use Rattle.run_file.proofs.Standing.{row_at-is}
@@ -47,12 +47,12 @@ begins_with kind run after same form begins files entries h =
 
 -- a reader that goes on to the first of its rows goes to the first of its entries
 pub goes_to : (files now : Option Files) (before after : ReaderView) (entries : List Entry) (result : Result Bool RunFault)
-    → ((rows : List Row) → IsAhead files before rows → GoesOn now after rows result)
+    → ((rows : List Row) → IsAhead files before rows → ReadsOn now after rows result)
     → AreAhead files before entries → GoesTo now after entries result
 goes_to files now before after entries result goes h =
     subst (λ (es : List Entry). GoesTo now after es result) (sym h.are) (by_rows h.rows result (goes h.rows h.ahead))
   where
-    by_rows : (rows : List Row) (result : Result Bool RunFault) → GoesOn now after rows result → GoesTo now after (entries_of rows) result
+    by_rows : (rows : List Row) (result : Result Bool RunFault) → ReadsOn now after rows result → GoesTo now after (entries_of rows) result
     by_rows [] (Ok true) gone = absurd gone
     by_rows [] (Ok false) gone = tt
     by_rows [] (Err fault) gone = absurd gone

@@ -11,7 +11,7 @@ use Rattle.job_text.specs.declared.job.Shape.{Shape}
 use Rattle.job_plan.specs.Telling.{IsTold, row_of}
 use Rattle.run_file.specs.AtEntries.{entry_at}
 use Rattle.run_file.specs.Readers.{ReaderView}
-use Rattle.result_table.specs.Ahead.{AreAhead, GoesOn, GoesTo}
+use Rattle.result_table.specs.Ahead.{AreAhead, ReadsOn, GoesTo}
 use Rattle.result_table.specs.Table.{table}
 use Rattle.result_table.specs.Told.{AreFirst, IsUntoldBehind, StopsBehind, TellsEntries, rows_told}
 use Rattle.result_table.proofs.Blocks.{table-append}
@@ -141,7 +141,7 @@ all_told shape was now before after entries told h whole ahead =
     first.are ∙ ap (λ (es : List Entry). told ++ es) (none_ahead now after first.rest whole first.ahead) ∙ append-nil told
 
 -- what was given is among the run's entries
-pub few_left : (before after : ReaderView) (more : Bool) → (more ≡ false → after.found ≡ before.run.count) → (more ≡ true → GoesOn before after) → after.found ≤ before.run.count
+pub few_left : (before after : ReaderView) (more : Bool) → (more ≡ false → after.found ≡ before.run.count) → (more ≡ true → ReadsOn before after) → after.found ≤ before.run.count
 few_left before after true whole on = (on refl).1
 few_left before after false whole on = omega (arith, whole refl)
 

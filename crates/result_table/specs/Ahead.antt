@@ -10,12 +10,12 @@ use Rattle.run_file.specs.Causes.{NotDamaged}
 use Rattle.run_file.specs.Readers.{ReaderView, form_of}
 use Rattle.run_file.specs.Reading.{IsAhead}
 use Rattle.run_file.specs.Several.{HasEntries}
-use Rattle.run_file.specs.declared.form.Form.TheVariants.{Entries}
+use Rattle.row_form.specs.declared.form.Form.TheVariants.{Entries}
 use Rattle.run_file.specs.declared.run.Run.{Run}
 use Rattle.run_file.specs.declared.run.RunFault.{RunFault}
 
 -- it reads this run, of which so many entries are ahead
-pub record IsCounted (reader : ReaderView) (run : Run) (ahead : ℕ) : Type 0 where
+pub record HasAhead (reader : ReaderView) (run : Run) (ahead : ℕ) : Type 0 where
   pub of_run : reader.run ≡ run
   pub counts : reader.found + ahead ≡ run.count
 
@@ -45,13 +45,13 @@ GoesTo files after (entry ∷ entries) (Err fault) = NotDamaged {T = Bool} (Err 
 
 -- an entry that it took is of the kind, and is one more that it gave, of those that its run has; where it took none, it
 -- is as it was, and gave them all
-abbrev pub Takes : ReaderView → ReaderView → Result Bool RunFault → Type 0
-Takes before after (Ok true) =
+abbrev pub TakesEntry : ReaderView → ReaderView → Result Bool RunFault → Type 0
+TakesEntry before after (Ok true) =
     ((kind : Kind) → IsOfKind kind before → IsAtEntry kind after)
     × (after.found ≡ before.found + 1) × (after.found ≤ before.run.count)
-Takes before after (Ok false) = (after ≡ before) × (after.found ≡ before.run.count)
-Takes before after (Err fault) = ⊤
+TakesEntry before after (Ok false) = (after ≡ before) × (after.found ≡ before.run.count)
+TakesEntry before after (Err fault) = ⊤
 
 -- it gave more entries than before, of those that its run has
-abbrev pub GoesOn : ReaderView → ReaderView → Type 0
-GoesOn before after = (before.found < after.found) × (after.found ≤ before.run.count)
+abbrev pub ReadsOn : ReaderView → ReaderView → Type 0
+ReadsOn before after = (before.found < after.found) × (after.found ≤ before.run.count)

@@ -2,7 +2,8 @@
 ghost use Rattle.std.specs.Prelude.{◌≡◌};
 
 use aggregate::Kind;
-use run_file::{Damage, Form, Run, RunFault, RunReader};
+use row_form::Form;
+use run_file::{Damage, Run, RunFault, RunReader};
 use spill_disk::{Disk, Shelf};
 use std::alloc::{AllocError, Global};
 use std::marker::Model;
@@ -17,13 +18,13 @@ pub(crate) struct EntryReader {
 
 impl Model for EntryReader {
     ghost use Rattle.run_file.specs.Readers.{ReaderView};
-    ghost use Rattle.result_table.specs.Ahead.{IsCounted};
+    ghost use Rattle.result_table.specs.Ahead.{HasAhead};
 
     ghost Value = { ReaderView };
 
     ghost view = { λ r. r.reader };
 
-    ghost invariant = { λ r. IsCounted r.reader r.run r.ahead };
+    ghost invariant = { λ r. HasAhead r.reader r.run r.ahead };
 }
 
 impl EntryReader {
@@ -32,10 +33,10 @@ impl EntryReader {
     ghost use Rattle.aggregate.specs.declared.kind.Kind.{Kind};
     ghost use Rattle.run_file.specs.AtEntries.{IsAtEntry, entry_at};
     ghost use Rattle.run_file.specs.Causes.{HasCauseOn, damage_by};
-    ghost use Rattle.run_file.specs.Forms.{IsValueOf};
+    ghost use Rattle.row_form.specs.Forms.{IsValueOf};
     ghost use Rattle.run_file.specs.Reading.{TellsPlace};
     ghost use Rattle.run_file.specs.Shelved.{LeavesFiles, faults_on, files_on};
-    ghost use Rattle.result_table.specs.Ahead.{AreAhead, BeginsWith, GoesTo, IsOfKind, Takes};
+    ghost use Rattle.result_table.specs.Ahead.{AreAhead, BeginsWith, GoesTo, IsOfKind, TakesEntry};
 
     // A reader of a run's entries, which are of this kind. It reads nothing yet.
     pub(crate) fn new(alloc: Global, run: &Run, kind: &Kind) -> Result<EntryReader, AllocError>
@@ -59,7 +60,7 @@ impl EntryReader {
             AreAhead (files_on H.disk_of D.files shelf.old self.old.run.disk) self.old entries →
             GoesTo (files_on H.disk_of D.files shelf.new self.old.run.disk) self.new entries result }
         ensures end { (result ≡ Ok false) ↔ (self.old.run.count ≤ self.old.found) }
-        ensures takes { Takes self.old self.new result }
+        ensures takes { TakesEntry self.old self.new result }
         ensures damaged { TellsPlace self.old result }
         ensures run { self.new.run ≡ self.old.run }
         ensures kind { (kind : Kind) → IsOfKind kind self.old → IsOfKind kind self.new }

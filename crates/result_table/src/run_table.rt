@@ -9,7 +9,7 @@ ghost use Rattle.run_file.specs.Shelved.{LeavesFiles, faults_on, files_on};
 ghost use Rattle.job_plan.specs.Entries.{kind_of};
 ghost use Rattle.job_plan.specs.Plans.{heading_at, kept_at, kept_in, kind_at};
 ghost use Rattle.job_plan.specs.Telling.{IsTold};
-ghost use Rattle.result_table.specs.Ahead.{AreAhead, GoesOn, IsOfKind};
+ghost use Rattle.result_table.specs.Ahead.{AreAhead, ReadsOn, IsOfKind};
 ghost use Rattle.result_table.specs.Faults.{HasCauseRead, HasCauseWritten};
 ghost use Rattle.result_table.specs.Results.{FindsNoDamage, HasCauseIn, HasResult, StopsAmong, TellsAnswer, count_in, table_of};
 ghost use Rattle.result_table.specs.Table.{IsBetweenRows, text_in};
@@ -186,7 +186,7 @@ fn fill_block<D: Disk, H: Shelf<D>>(
         (files_on H.disk_of D.files shelf.new reader.old.run.disk) reader.old reader.new told
         × (p.0.items ≡ text.items ++ rows_told shape.now told)) }
     ensures whole { IfOk result (λ p. p.1 ≡ false → reader.new.found ≡ reader.old.run.count) }
-    ensures more { IfOk result (λ p. p.1 ≡ true → GoesOn reader.old reader.new) }
+    ensures more { IfOk result (λ p. p.1 ≡ true → ReadsOn reader.old reader.new) }
     ensures stops { StopsIn shape.now (files_on H.disk_of D.files shelf.old reader.old.run.disk) reader.old result }
     ensures run { reader.new.run ≡ reader.old.run }
     ensures form { IsOfKind kind.now reader.new }
@@ -220,7 +220,7 @@ fn put_rows<D: Disk, H: Shelf<D>>(
         (files_on H.disk_of D.files shelf.new reader.old.run.disk) reader.old reader.new told
         × (text_in writer.new ≡ text_in writer.old ++ rows_told shape.now told)) }
     ensures whole { IfOk result (λ more. more ≡ false → reader.new.found ≡ reader.old.run.count) }
-    ensures more { IfOk result (λ more. more ≡ true → GoesOn reader.old reader.new) }
+    ensures more { IfOk result (λ more. more ≡ true → ReadsOn reader.old reader.new) }
     ensures stops { StopsIn shape.now (files_on H.disk_of D.files shelf.old reader.old.run.disk) reader.old result }
     ensures run { reader.new.run ≡ reader.old.run }
     ensures form { IsOfKind kind.now reader.new }

@@ -3,7 +3,7 @@ ghost use Rattle.std.specs.Prelude.{◌≡◌, ◌*◌, ◌++◌, List, ℕ, IfO
 ghost use Rattle.std.specs.Fmt.{signed_decimal};
 ghost use Rattle.row_page.specs.Reading.{fields_of};
 ghost use Rattle.row_page.specs.Views.{fields_in};
-ghost use Rattle.run_file.specs.Forms.{IsValueOf};
+ghost use Rattle.row_form.specs.Forms.{IsValueOf};
 ghost use Rattle.job_plan.specs.Entries.{kind_of};
 ghost use Rattle.job_plan.specs.Telling.{IsGroupEntry, IsOrderEntry, IsTold, key_fields, row_of, value_numbers};
 ghost use Rattle.result_table.specs.Table.{EndsRow, IsBetweenRows, text_in};

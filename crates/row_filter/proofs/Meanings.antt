@@ -9,14 +9,14 @@ use Rattle.row_filter.specs.declared.filter.Filter.TheOpen as layers
 use Rattle.row_filter.specs.declared.filter.Filter.TheVariants as filters
 use Rattle.row_filter.specs.declared.filter.Filter.TheVariants.{rolls-And, rolls-Or, rolls-Not, rolls-Test}
 use Rattle.row_filter.specs.declared.filter.Filter.TheFolds.{fold-roll-Filter}
-use Rattle.row_filter.specs.Meaning.{columns_of, columns_step, keeps, keeps_step, order_to, passes}
+use Rattle.row_filter.specs.Meaning.{columns_of, columns_step, keeps, keeps_step, order_to, comparison_holds}
 
 list_any-map : {X Y : Type 0} (p : X → Bool) (h : Y → X) (ys : List Y) → list_any p (map h ys) ≡ list_any (λ y. p (h y)) ys
 list_any-map p h [] = refl
 list_any-map p h (y ∷ ys) = ap (λ b. p (h y) || b) (list_any-map p h ys)
 
 module _ (field_at : ℕ → List ℕ) where
-  pub keeps-test : (column : ℕ) (test : Comparison) (constant : Constant) → keeps field_at (filters.Test column test constant) ≡ passes test (order_to (field_at column) constant)
+  pub keeps-test : (column : ℕ) (test : Comparison) (constant : Constant) → keeps field_at (filters.Test column test constant) ≡ comparison_holds test (order_to (field_at column) constant)
   keeps-test column test constant = ap (keeps field_at) (sym (rolls-Test column test constant)) ∙ fold-roll-Filter Bool (keeps_step field_at) (layers.Test column test constant)
 
   pub keeps-and : (fs : List Filter) → keeps field_at (filters.And fs) ≡ list_all (keeps field_at) fs

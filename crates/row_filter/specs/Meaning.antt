@@ -6,7 +6,7 @@ use Rattle.std.specs.Option.{unwrap_or}
 use Rattle.std.specs.Ordering.{int_cmp, is_eq, is_ge, is_gt, is_le, is_lt, is_ne, nat_cmp}
 use Rattle.std.specs.Cmp.Lexicographic.{slice_cmp}
 use Rattle.std.specs.declared.cmp.Ordering.{Ordering}
-use Rattle.run_file.specs.Numbers.{number}
+use Rattle.row_form.specs.Numbers.{number}
 use Rattle.row_filter.specs.declared.filter.Comparison.{Comparison}
 use Rattle.row_filter.specs.declared.filter.Comparison.TheVariants as tests
 use Rattle.row_filter.specs.declared.filter.Constant.{Constant}
@@ -17,13 +17,13 @@ use Rattle.row_filter.specs.declared.filter.Filter.TheOpen as layers
 use Rattle.row_filter.specs.declared.filter.Filter.TheFolds.{fold-Filter}
 
 -- whether a comparison holds of a field that stands so to the constant
-abbrev pub passes : Comparison → Ordering → Bool
-passes tests.Equal order = is_eq order
-passes tests.NotEqual order = is_ne order
-passes tests.Less order = is_lt order
-passes tests.AtMost order = is_le order
-passes tests.Greater order = is_gt order
-passes tests.AtLeast order = is_ge order
+abbrev pub comparison_holds : Comparison → Ordering → Bool
+comparison_holds tests.Equal order = is_eq order
+comparison_holds tests.NotEqual order = is_ne order
+comparison_holds tests.Less order = is_lt order
+comparison_holds tests.AtMost order = is_le order
+comparison_holds tests.Greater order = is_gt order
+comparison_holds tests.AtLeast order = is_ge order
 
 -- how a field stands to a constant: by the number that it is, 0 where it is none, or byte by byte
 abbrev pub order_to : List ℕ → Constant → Ordering
@@ -32,7 +32,7 @@ order_to field (constants.Text text) = slice_cmp nat_cmp field text
 
 -- whether a filter keeps a row with such a field in each column, where it is told of the filters in it
 abbrev pub keeps_step : (ℕ → List ℕ) → Filter-F Bool → Bool
-keeps_step field_at (layers.Test column test constant) = passes test (order_to (field_at column) constant)
+keeps_step field_at (layers.Test column test constant) = comparison_holds test (order_to (field_at column) constant)
 keeps_step field_at (layers.And parts) = list_all (λ kept. kept) parts
 keeps_step field_at (layers.Or parts) = list_any (λ kept. kept) parts
 keeps_step field_at (layers.Not inner) = not inner

@@ -12,8 +12,8 @@ abbrev pub column_in : List (List ℕ) → ℕ → List ℕ
 column_in row column = slice_index_or row (column + 1) []
 
 -- each column of the filter's tests is a kept column of a row of so many fields
-abbrev pub Covers : ℕ → Filter → Type 0
-Covers fields filter = All (λ column. column + 1 < fields) (columns_of filter)
+abbrev pub HasTestedColumns : ℕ → Filter → Type 0
+HasTestedColumns fields filter = All (λ column. column + 1 < fields) (columns_of filter)
 
 -- whether a filter keeps a landed row
 abbrev pub keeps_row : Filter → List (List ℕ) → Bool

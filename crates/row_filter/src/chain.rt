@@ -7,7 +7,7 @@ ghost use Rattle.row_filter.specs.Lines.{AreOrdered, derives as derives_from};
 use crate::filter::Filter;
 use item_lists::Listed;
 use pool_ledger::Level;
-use run_file::Form;
+use row_form::Form;
 
 /// A dataset that is made from another one: of its rows those that the filter keeps, or all. Where it has a
 /// level, its rows are kept as blocks.

@@ -1,14 +1,14 @@
 //! Whether a row has a filter's columns.
 
 ghost use Rattle.std.specs.Prelude.{◌≡◌, ◌↔◌, All, IsTrue};
-ghost use Rattle.row_filter.specs.Rows.{Covers};
+ghost use Rattle.row_filter.specs.Rows.{HasTestedColumns};
 
 use crate::filter::Filter;
 
 /// Whether a landed row of so many fields has the columns of all of these filters.
 #[cycle(cover)]
 fn all_covered(parts: &[Filter], fields: usize) -> bool
-    ensures { IsTrue result ↔ All (Covers fields) parts.now }
+    ensures { IsTrue result ↔ All (HasTestedColumns fields) parts.now }
 {
     for part in parts {
         if !covers(part, fields) {
@@ -22,7 +22,7 @@ fn all_covered(parts: &[Filter], fields: usize) -> bool
 /// `keeps` and `select` ask for.
 #[cycle(cover)]
 pub fn covers(filter: &Filter, fields: usize) -> bool
-    ensures { IsTrue result ↔ Covers fields filter.now }
+    ensures { IsTrue result ↔ HasTestedColumns fields filter.now }
 {
     match filter {
         Filter::Test { column, .. } => *column as usize + 1 < fields,

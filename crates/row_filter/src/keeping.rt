@@ -3,12 +3,12 @@
 ghost use Rattle.std.specs.Prelude.{◌≡◌, All, length};
 ghost use Rattle.std.specs.List.{list_all, list_any};
 ghost use Rattle.row_page.specs.Views.{fields_in};
-ghost use Rattle.row_filter.specs.Meaning.{order_to as order_of, passes as holds};
-ghost use Rattle.row_filter.specs.Rows.{Covers, keeps_row};
+ghost use Rattle.row_filter.specs.Meaning.{order_to as order_of, comparison_holds as holds};
+ghost use Rattle.row_filter.specs.Rows.{HasTestedColumns, keeps_row};
 
 use crate::filter::{Comparison, Constant, Filter};
+use row_form::parse_number;
 use row_page::RowView;
-use run_file::parse_number;
 use std::cmp::Ordering;
 
 /// Whether a comparison holds of a field that stands so to the constant.
@@ -38,7 +38,7 @@ fn order_to(field: &[u8], constant: &Constant) -> Ordering
 /// Whether each of these filters keeps a row.
 #[cycle(keep)]
 fn all_keep(parts: &[Filter], row: &RowView<'_>) -> bool
-    requires covers { All (Covers (length (fields_in row.now))) parts.now }
+    requires covers { All (HasTestedColumns (length (fields_in row.now))) parts.now }
     ensures { result ≡ list_all (λ part. keeps_row part (fields_in row.now)) parts.now }
 {
     for part in parts {
@@ -52,7 +52,7 @@ fn all_keep(parts: &[Filter], row: &RowView<'_>) -> bool
 /// Whether one of these filters keeps a row.
 #[cycle(keep)]
 fn some_keeps(parts: &[Filter], row: &RowView<'_>) -> bool
-    requires covers { All (Covers (length (fields_in row.now))) parts.now }
+    requires covers { All (HasTestedColumns (length (fields_in row.now))) parts.now }
     ensures { result ≡ list_any (λ part. keeps_row part (fields_in row.now)) parts.now }
 {
     for part in parts {
@@ -66,7 +66,7 @@ fn some_keeps(parts: &[Filter], row: &RowView<'_>) -> bool
 /// Whether a filter keeps a row.
 #[cycle(keep)]
 fn is_kept(filter: &Filter, row: &RowView<'_>) -> bool
-    requires covers { Covers (length (fields_in row.now)) filter.now }
+    requires covers { HasTestedColumns (length (fields_in row.now)) filter.now }
     ensures { result ≡ keeps_row filter.now (fields_in row.now) }
 {
     match filter {
@@ -86,7 +86,7 @@ fn is_kept(filter: &Filter, row: &RowView<'_>) -> bool
 /// field; each test goes over the fields before its own.
 /// Source: the comparisons, `and`, `or` and `not` of SQL, as Spark's predicates have them.
 pub fn keeps(filter: &Filter, row: RowView<'_>) -> bool
-    requires covers { Covers (length (fields_in row)) filter.now }
+    requires covers { HasTestedColumns (length (fields_in row)) filter.now }
     ensures { result ≡ keeps_row filter.now (fields_in row.entry) }
 {
     is_kept(filter, &row)

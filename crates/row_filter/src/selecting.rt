@@ -3,7 +3,7 @@
 ghost use Rattle.std.specs.Prelude.{◌≡◌, ◌<◌, ◌≤◌, ◌++◌, All, Err, OnErr, OnOk, length};
 ghost use Rattle.row_page.specs.declared.page.PageFault.TheVariants as faults;
 ghost use Rattle.row_page.specs.Spelling.{page_length};
-ghost use Rattle.row_filter.specs.Rows.{Covers, TakesFront, TakesWhatFits, kept_rows};
+ghost use Rattle.row_filter.specs.Rows.{HasTestedColumns, TakesFront, TakesWhatFits, kept_rows};
 
 use crate::filter::Filter;
 use crate::keeping::keeps;
@@ -13,7 +13,7 @@ use row_page::{Page, PageFault};
 /// comes at the first of them that passes the room which is left; those before it were put. After any `Err`
 /// the rows that were put stay. A kept row's bytes are copied once.
 pub fn select(filter: &Filter, from: &Page, into: &mut Page) -> Result<(), PageFault>
-    requires covers { All (λ row. Covers (length row) filter.now) from.now.rows }
+    requires covers { All (λ row. HasTestedColumns (length row) filter.now) from.now.rows }
     ensures ok { OnOk result (into.new
         ≡ record into.old { rows = into.old.rows ++ kept_rows filter.now from.now.rows }) }
     ensures fits { OnOk result

@@ -12,7 +12,7 @@ use crate::tests::checks::equals;
 use crate::{Chain, Comparison, Constant, Filter, Link};
 use item_lists::{Boxed, Listed, Name};
 use pool_ledger::Level;
-use run_file::{Form, NumberList};
+use row_form::{Form, NumberList};
 use std::alloc::{AllocError, Global};
 use std::test::Fail;
 

@@ -9,7 +9,7 @@ mod row_buf;
 mod row_view;
 
 pub use laws::{fields_have_one_encoding, no_encoding_begins_another, pages_have_their_length};
-pub use page::{Page, PageFault};
+pub use page::{PAGE_ROOM, Page, PageFault};
 pub use piece::split_piece;
 pub use row_buf::RowBuf;
 pub use row_view::RowView;

@@ -15,6 +15,9 @@ use std::alloc::{AllocError, Global};
 use std::marker::Model;
 use thiserror::Error;
 
+/// The room of a page that rows are landed, spilled and merged by, in bytes.
+pub const PAGE_ROOM: u64 = 262_144;
+
 /// Why a page didn't take a row. The page is then as it was.
 #[derive(Clone, Copy, Debug, PartialEq, Eq, Error)]
 pub enum PageFault {

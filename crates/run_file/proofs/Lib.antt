@@ -1,6 +1,3 @@
-pub mod Numerals
-pub mod Walking
-pub mod Formed
 pub mod Writing
 pub mod Filing
 pub mod Keeping

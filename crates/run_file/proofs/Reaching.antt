@@ -5,17 +5,15 @@ use Rattle.std.proofs.lemmas.Bool.Decides.{leb_tells}
 use Rattle.std.proofs.lemmas.List.{drop-take, drop-drop, drop_all, append-nil, length-append, length-take, length-drop, take_at, take_all}
 use Rattle.std.proofs.Math.Seq.{take-append-add}
 use Rattle.row_page.proofs.Fronts.{one_front, front-append}
-use Rattle.row_page.proofs.Parts.{pieces_spell}
-use Rattle.row_page.proofs.Lengths.{length-row_bytes}
 use Rattle.row_page.specs.Grammar.{IsPieceThen, IsRow}
-use Rattle.row_page.specs.Spelling.{row_length}
 use Rattle.spill_disk.specs.Files.{Files, bytes_of}
 use Rattle.run_file.specs.declared.run.Run.{Run}
-use Rattle.run_file.specs.declared.form.Form.{Form}
+use Rattle.row_form.specs.declared.form.Form.{Form}
 use Rattle.run_file.specs.Readers.{Kept, ahead_of, most_kept}
 use Rattle.run_file.specs.Filling.{ReadsMore, ShowsFront}
 use Rattle.run_file.specs.Filling.{has_piece, is_full}
 use Rattle.run_file.specs.Reading.{BeginsDamaged}
+use Rattle.row_form.proofs.Formed.{row_long}
 use Rattle.run_file.proofs.Keeping.{take_take}
 
 -- what was taken, and what is behind it
@@ -92,9 +90,6 @@ front_cut (suc (suc (suc (suc n)))) (a ∷ b ∷ c ∷ d ∷ bytes) piece behind
     let m = n - length piece in
     let on : n ≡ length piece + m = omega (arith, le) in
     (take m behind, (h.0, ap (take n) h.1 ∙ ap (λ (k : ℕ). take k (piece ++ behind)) on ∙ take-append-add piece behind m))
-
-pub row_long : (piece : List ℕ) (row : List (List ℕ)) → IsRow piece row → length piece ≡ row_length row
-row_long piece row h = ap length (pieces_spell piece row h.pieces) ∙ length-row_bytes row
 
 -- where the front shows no well-formed row, none is ahead
 pub front_tells : (run : Run) (form : Form) (front all : List ℕ) → ShowsFront run front all → BeginsDamaged form run.greatest front → BeginsDamaged form run.greatest all

@@ -7,10 +7,10 @@ use Rattle.row_page.proofs.Shown.{fields_shown}
 use Rattle.row_page.proofs.Rows.{row_had}
 use Rattle.aggregate.specs.declared.kind.Kind.{Kind}
 use Rattle.aggregate.specs.Rows.{entry_of}
-use Rattle.run_file.specs.declared.form.Form.{Form}
-use Rattle.run_file.specs.declared.form.Form.TheVariants.{Entries}
+use Rattle.row_form.specs.declared.form.Form.{Form}
+use Rattle.row_form.specs.declared.form.Form.TheVariants.{Entries}
 use Rattle.run_file.specs.AtEntries.{IsAtEntry}
-use Rattle.run_file.specs.Forms.{IsWellFormed}
+use Rattle.row_form.specs.Forms.{IsWellFormed}
 use Rattle.run_file.specs.Readers.{ReaderView}
 use Rattle.run_file.specs.Reading.{IsAtRow, TakesRow, row_at}
 

@@ -9,9 +9,9 @@ use Rattle.run_file.specs.declared.run.Run.{Run}
 use Rattle.run_file.specs.declared.run.RunFault.{RunFault}
 use Rattle.run_file.specs.declared.run.RunFault.TheVariants.{DiskFault, Damaged, NoMemory}
 use Rattle.run_file.specs.Causes.{damage_by}
-use Rattle.run_file.specs.Filling.{ShowsFront, Takes}
+use Rattle.run_file.specs.Filling.{ShowsFront, TakesAhead}
 use Rattle.run_file.specs.Readers.{ReaderView, known_ahead}
-use Rattle.run_file.specs.Reading.{IsAhead, GoesOn, TellsDamage, Moves, BeginsDamaged, ExplainsDamage, ArePage}
+use Rattle.run_file.specs.Reading.{IsAhead, ReadsOn, TellsDamage, Moves, BeginsDamaged, ExplainsDamage, ArePage}
 use Rattle.run_file.proofs.Reaching.{front_tells}
 
 piece_parts : (bytes piece behind : List ℕ) → IsPieceThen bytes piece behind → drop 4 bytes ≡ piece ++ behind
@@ -22,11 +22,11 @@ piece_parts (a ∷ b ∷ c ∷ []) piece behind h = absurd h
 piece_parts (a ∷ b ∷ c ∷ d ∷ bytes) piece behind h = h.1
 
 -- what it stands at then, and what is behind that
-row_is : (before after : ReaderView) (took : Takes before after) → after.kept.row ≡ took.begins.piece
+row_is : (before after : ReaderView) (took : TakesAhead before after) → after.kept.row ≡ took.begins.piece
 row_is before after took =
     took.row ∙ ap (take took.size) (piece_parts before.kept.rest took.begins.piece took.begins.behind took.begins.front) ∙ take_at took.begins.piece took.begins.behind took.size took.begins.size_is
 
-rest_is : (before after : ReaderView) (took : Takes before after) → after.kept.rest ≡ took.begins.behind
+rest_is : (before after : ReaderView) (took : TakesAhead before after) → after.kept.rest ≡ took.begins.behind
 rest_is before after took =
     took.rest ∙ sym (drop-drop took.size 4 before.kept.rest) ∙ ap (drop took.size) (piece_parts before.kept.rest took.begins.piece took.begins.behind took.begins.front) ∙ drop_at took.begins.piece took.begins.behind took.size took.begins.size_is
 
@@ -59,7 +59,7 @@ none_ahead (Some files) before row rows ahead damaged = damaged row ahead.bytes.
 
 -- rows that are ahead are given, one by one
 pub goes_on : (old new : Option Files) (before middle after : ReaderView) (rows : List (List (List ℕ))) (r : Result Bool RunFault) → new ≡ old → Reaches old before middle → before.found < before.run.count
-    → (r ≡ Ok false → ⊥) → OnOk r (Takes middle after) → TellsDamage middle after r → IfErr r (λ fault. fault ≡ damage_by middle.run middle.found) → OnErr r (after ≡ middle) → Moves middle after r → IsAhead old before rows → GoesOn new after rows r
+    → (r ≡ Ok false → ⊥) → OnOk r (TakesAhead middle after) → TellsDamage middle after r → IfErr r (λ fault. fault ≡ damage_by middle.run middle.found) → OnErr r (after ≡ middle) → Moves middle after r → IsAhead old before rows → ReadsOn new after rows r
 goes_on old new before middle after [] r same reached left some took told only stays moved ahead = absurd (omega (arith, ahead.count, left))
 goes_on old new before middle after (row ∷ rows) (Ok false) same reached left some took told only stays moved ahead = absurd (some refl)
 goes_on old new before middle after (row ∷ rows) (Err (DiskFault disk)) same reached left some took told only stays moved ahead = tt

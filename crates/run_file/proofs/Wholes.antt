@@ -9,11 +9,11 @@ use Rattle.row_page.specs.Grammar.{IsPieceThen, IsPage}
 use Rattle.spill_disk.specs.Files.{Files}
 use Rattle.run_file.specs.declared.run.Run.{Run}
 use Rattle.run_file.specs.declared.run.RunFault.{RunFault}
-use Rattle.run_file.specs.declared.form.Form.{Form}
+use Rattle.row_form.specs.declared.form.Form.{Form}
 use Rattle.run_file.specs.declared.run.RunFault.TheVariants.{DiskFault, Damaged, NoMemory}
 use Rattle.run_file.specs.Causes.{HasCauseOn, NoDiskFault}
 use Rattle.run_file.specs.Filling.{BeginsRow}
-use Rattle.run_file.specs.Forms.{HasForm, IsWellFormed}
+use Rattle.row_form.specs.Forms.{HasForm, IsWellFormed}
 use Rattle.run_file.specs.Reading.{BeginsDamaged}
 use Rattle.run_file.specs.Runs.{Stands, greatest_cost}
 use Rattle.run_file.specs.Whole.{AreRowsOf, BeginsRows, ReadsRun}

@@ -4,7 +4,7 @@ use Rattle.std.proofs.lemmas.List.{take_more, length-append}
 use Rattle.std.proofs.lemmas.List.Sums.{sum_by-append}
 use Rattle.row_page.specs.Grammar.{IsPieceThen, IsPage}
 use Rattle.row_page.specs.Spelling.{row_length, page_length}
-use Rattle.run_file.specs.Runs.{greatest_cost, Counts}
+use Rattle.run_file.specs.Runs.{greatest_cost, CountsRows}
 use Rattle.run_file.specs.declared.run.Run.{Run}
 
 -- more bytes behind change no piece
@@ -33,7 +33,7 @@ greatest_more rows i n row lt is e =
     rw one (omega (arith, greatest_cost-append (take i rows) (row ∷ []), e))
 
 -- the numbers of a run that became longer
-pub counts_more : (old new : Run) (rows more : List (List (List ℕ))) → new.bytes ≡ old.bytes + page_length more → new.count ≡ old.count + length more → new.greatest ≡ max old.greatest (greatest_cost more) → Counts old rows → Counts new (rows ++ more)
+pub counts_more : (old new : Run) (rows more : List (List (List ℕ))) → new.bytes ≡ old.bytes + page_length more → new.count ≡ old.count + length more → new.greatest ≡ max old.greatest (greatest_cost more) → CountsRows old rows → CountsRows new (rows ++ more)
 counts_more old new rows more bytes count greatest h =
     record {
       bytes = omega (arith, bytes, h.bytes, sum_by-append (λ (row : List (List ℕ)). 4 + row_length row) rows more);

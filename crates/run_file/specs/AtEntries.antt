@@ -3,8 +3,8 @@
 use Rattle.aggregate.specs.declared.kind.Kind.{Kind}
 use Rattle.aggregate.specs.Totals.{Entry}
 use Rattle.aggregate.specs.Rows.{entry_of}
-use Rattle.run_file.specs.declared.form.Form.TheVariants.{Entries}
-use Rattle.run_file.specs.Forms.{IsWellFormed}
+use Rattle.row_form.specs.declared.form.Form.TheVariants.{Entries}
+use Rattle.row_form.specs.Forms.{IsWellFormed}
 use Rattle.run_file.specs.Readers.{ReaderView}
 use Rattle.run_file.specs.Reading.{IsAtRow, row_at}
 

@@ -18,6 +18,7 @@ fault_by disk disk_error.NoMemory = NoMemory
 abbrev pub damage_in : Run → ℕ → Damage
 damage_in run found = record { disk = run.disk; file = run.file; kept = run.count; found = found }
 
+-- the fault by which this is told
 abbrev pub damage_by : Run → ℕ → RunFault
 damage_by run found = Damaged (damage_in run found)
 

@@ -4,8 +4,8 @@ use Rattle.std.specs.Prelude.{◌≡◌, ◌+◌, ◌++◌, ℕ, List, length, t
 use Rattle.spill_disk.specs.Files.{Files, bytes_of, read_of}
 use Rattle.row_page.specs.Grammar.{IsPieceThen, IsRow}
 use Rattle.run_file.specs.declared.run.Run.{Run}
-use Rattle.run_file.specs.declared.form.Form.{Form}
-use Rattle.run_file.specs.Forms.{IsWellFormed}
+use Rattle.row_form.specs.declared.form.Form.{Form}
+use Rattle.row_form.specs.Forms.{IsWellFormed}
 use Rattle.run_file.specs.Readers.{ReaderView, most_kept}
 
 -- the bytes of a well-formed row stand at the front, behind their length; so many bytes they are
@@ -19,7 +19,7 @@ pub record BeginsRow (form : Form) (greatest : ℕ) (bytes : List ℕ) (size : �
   pub formed : IsWellFormed form greatest row
 
 -- a reader went on to the row that stands at the front
-pub record Takes (before after : ReaderView) : Type 0 where
+pub record TakesAhead (before after : ReaderView) : Type 0 where
   pub size : ℕ
   pub begins : BeginsRow before.form before.run.greatest before.kept.rest size
   pub row : after.kept.row ≡ take size (drop 4 before.kept.rest)

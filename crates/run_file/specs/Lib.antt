@@ -1,7 +1,5 @@
-pub mod Numbers
 pub mod Runs
 pub mod Causes
-pub mod Forms
 pub mod Readers
 pub mod Filling
 pub mod Reading

@@ -3,7 +3,7 @@
 use Rattle.std.specs.Prelude.{◌≤◌, ◌^◌, ◌-◌, ◌++◌, ℕ, min, List, take, drop, Option, option_map}
 use Rattle.spill_disk.specs.Files.{Files, bytes_of}
 use Rattle.run_file.specs.declared.run.Run.{Run}
-use Rattle.run_file.specs.declared.form.Form.{Form}
+use Rattle.row_form.specs.declared.form.Form.{Form}
 
 -- what is kept of a file: the row at hand, the bytes behind it, how many bytes are kept in all, and the
 -- place in the file behind them

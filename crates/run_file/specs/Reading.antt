@@ -8,12 +8,12 @@ use Rattle.row_page.specs.Reading.{fields_of}
 use Rattle.row_page.specs.Views.{fields_in}
 use Rattle.row_page.specs.declared.row_view.RowView.{RowView}
 use Rattle.spill_disk.specs.Files.{Files}
-use Rattle.run_file.specs.declared.form.Form.{Form}
+use Rattle.row_form.specs.declared.form.Form.{Form}
 use Rattle.run_file.specs.declared.run.RunFault.{RunFault}
 use Rattle.run_file.specs.declared.run.RunFault.TheVariants.{DiskFault, Damaged, NoMemory}
 use Rattle.run_file.specs.Readers.{ReaderView, known_ahead, rest_of}
 use Rattle.run_file.specs.Runs.{Stands}
-use Rattle.run_file.specs.Forms.{IsWellFormed}
+use Rattle.row_form.specs.Forms.{IsWellFormed}
 use Rattle.run_file.specs.Causes.{NotDamaged, damage_in}
 
 -- it stands at this row
@@ -42,13 +42,13 @@ Begins reader =
     → AllByRecursion (IsWellFormed reader.form reader.run.greatest) rows → IsAhead files reader rows
 
 -- it goes on to the first of these rows, or says that there is none; and it finds no damage
-abbrev pub GoesOn : Option Files → ReaderView → List (List (List ℕ)) → Result Bool RunFault → Type 0
-GoesOn files after [] (Ok true) = ⊥
-GoesOn files after [] (Ok false) = ⊤
-GoesOn files after [] (Err fault) = ⊥
-GoesOn files after (row ∷ rows) (Ok true) = IsAtRow after row × IsAhead files after rows
-GoesOn files after (row ∷ rows) (Ok false) = ⊥
-GoesOn files after (row ∷ rows) (Err fault) = NotDamaged {T = Bool} (Err fault)
+abbrev pub ReadsOn : Option Files → ReaderView → List (List (List ℕ)) → Result Bool RunFault → Type 0
+ReadsOn files after [] (Ok true) = ⊥
+ReadsOn files after [] (Ok false) = ⊤
+ReadsOn files after [] (Err fault) = ⊥
+ReadsOn files after (row ∷ rows) (Ok true) = IsAtRow after row × IsAhead files after rows
+ReadsOn files after (row ∷ rows) (Ok false) = ⊥
+ReadsOn files after (row ∷ rows) (Err fault) = NotDamaged {T = Bool} (Err fault)
 
 -- what a call changed: a row that it took is one more, the end changes nothing, and after an `Err` only
 -- what is kept is another

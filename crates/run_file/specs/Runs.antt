@@ -13,7 +13,7 @@ greatest_cost [] = 0
 greatest_cost (row ∷ rows) = max (24 + row_length row) (greatest_cost rows)
 
 -- the run's numbers are those of these rows
-pub record Counts (run : Run) (rows : List (List (List ℕ))) : Type 0 where
+pub record CountsRows (run : Run) (rows : List (List (List ℕ))) : Type 0 where
   pub bytes : run.bytes ≡ page_length rows
   pub count : run.count ≡ length rows
   pub greatest : run.greatest ≡ greatest_cost rows
@@ -22,7 +22,7 @@ pub record Counts (run : Run) (rows : List (List (List ℕ))) : Type 0 where
 abbrev pub Stands : Option Files → Run → List (List (List ℕ)) → Type 0
 Stands None run rows = ⊥
 Stands (Some files) run rows =
-    IsSome (map.get files run.file) × IsPage (take run.bytes (bytes_of files run.file)) rows × Counts run rows
+    IsSome (map.get files run.file) × IsPage (take run.bytes (bytes_of files run.file)) rows × CountsRows run rows
 
 -- where the disk tells, the file has these rows and nothing else
 abbrev pub IsFileOf : Option Files → ℕ → List (List (List ℕ)) → Type 0

@@ -7,9 +7,9 @@ use Rattle.aggregate.specs.declared.kind.Kind.{Kind}
 use Rattle.aggregate.specs.Totals.{Entry}
 use Rattle.aggregate.specs.Rows.{Ascends, entries_of}
 use Rattle.spill_disk.specs.Files.{Files}
-use Rattle.run_file.specs.declared.form.Form.TheVariants.{Entries}
+use Rattle.row_form.specs.declared.form.Form.TheVariants.{Entries}
 use Rattle.run_file.specs.declared.run.Run.{Run}
-use Rattle.run_file.specs.Forms.{HasForm}
+use Rattle.row_form.specs.Forms.{HasForm}
 use Rattle.run_file.specs.Runs.{Stands}
 use Rattle.run_file.specs.Shelved.{file_in}
 

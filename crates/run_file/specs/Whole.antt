@@ -6,11 +6,11 @@ use Rattle.row_page.specs.Grammar.{IsPage}
 use Rattle.row_page.specs.Pages.{PageView}
 use Rattle.spill_disk.specs.Files.{Files, bytes_of}
 use Rattle.run_file.specs.declared.run.Run.{Run}
-use Rattle.run_file.specs.declared.form.Form.{Form}
+use Rattle.row_form.specs.declared.form.Form.{Form}
 use Rattle.run_file.specs.declared.run.RunFault.{RunFault}
 use Rattle.run_file.specs.declared.run.RunFault.TheVariants.{DiskFault, Damaged, NoMemory}
 use Rattle.run_file.specs.Causes.{NotDamaged, damage_in}
-use Rattle.run_file.specs.Forms.{IsWellFormed}
+use Rattle.row_form.specs.Forms.{IsWellFormed}
 
 -- what was read of a file: its first bytes, as many as the run has
 abbrev pub ReadsRun : Option Files → Run → List ℕ → Type 0

@@ -1,21 +1,15 @@
 //! Runs: rows in a file, written once and read once.
 #![tactic(auto)]
 
-mod form;
 mod kept;
 mod laws;
-mod number;
-mod number_list;
 mod row_writer;
 mod run;
 mod run_reader;
 mod run_writer;
 mod whole;
 
-pub use form::Form;
 pub use laws::written_runs_stand;
-pub use number::{is_decimal, parse_number};
-pub use number_list::NumberList;
 pub use row_writer::{RowWriter, remove_run};
 pub use run::{Damage, Run, RunFault};
 pub use run_reader::RunReader;

@@ -4,7 +4,7 @@ ghost use Rattle.std.specs.Prelude.{◌≡◌, ◌<◌, ◌++◌, ◌∷◌, [],
 ghost use Rattle.row_page.specs.Views.{fields_in};
 ghost use Rattle.spill_disk.specs.Files.{IsThere};
 ghost use Rattle.run_file.specs.Causes.{HasCauseOn, NotDamaged};
-ghost use Rattle.run_file.specs.Runs.{Counts, IsFileOf};
+ghost use Rattle.run_file.specs.Runs.{CountsRows, IsFileOf};
 ghost use Rattle.run_file.specs.Shelved.{files_on, faults_on, IsGoneOn, KeepsShelf, LeavesFiles, SameBut};
 ghost use Rattle.run_file.specs.Writing.{IsSoFar, IsWritten};
 
@@ -210,7 +210,7 @@ fn put_alone<D: Disk, H: Shelf<D>>(
         IsFileOf (files_on H.disk_of D.files shelf.new writer.old.disk) writer.old.file
         (rows ++ fields_in row.entry ∷ [])) }
     ensures counts { OnOk result ((rows : List (List (List ℕ))) →
-        Counts writer.old rows → Counts writer.new (rows ++ fields_in row.entry ∷ [])) }
+        CountsRows writer.old rows → CountsRows writer.new (rows ++ fields_in row.entry ∷ [])) }
     ensures there { IsThere (files_on H.disk_of D.files shelf.new writer.old.disk) writer.old.file }
     ensures disk { writer.new.disk ≡ writer.old.disk }
     ensures file { writer.new.file ≡ writer.old.file }
@@ -234,7 +234,7 @@ fn put_alone<D: Disk, H: Shelf<D>>(
 fn start_on<D: Disk, H: Shelf<D>>(shelf: &mut H, to: u32) -> Result<RunWriter, RunFault>
     requires to { to < H.count_of shelf.old }
     ensures disk { IfOk result (λ writer. writer.disk ≡ to) }
-    ensures counts { IfOk result (λ writer. Counts writer []) }
+    ensures counts { IfOk result (λ writer. CountsRows writer []) }
     ensures empty { IfOk result (λ writer.
         IsFileOf (files_on H.disk_of D.files shelf.new to) writer.file []) }
     ensures there { IfOk result (λ writer.
@@ -267,7 +267,7 @@ fn write_on<D: Disk, H: Shelf<D>>(
         IsFileOf (files_on H.disk_of D.files shelf.old writer.old.disk) writer.old.file rows →
         IsFileOf (files_on H.disk_of D.files shelf.new writer.old.disk) writer.old.file (rows ++ page.now.rows)) }
     ensures counts { OnOk result ((rows : List (List (List ℕ))) →
-        Counts writer.old rows → Counts writer.new (rows ++ page.now.rows)) }
+        CountsRows writer.old rows → CountsRows writer.new (rows ++ page.now.rows)) }
     ensures there { IsThere (files_on H.disk_of D.files shelf.new writer.old.disk) writer.old.file }
     ensures disk { writer.new.disk ≡ writer.old.disk }
     ensures file { writer.new.file ≡ writer.old.file }

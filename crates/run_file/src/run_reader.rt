@@ -10,15 +10,16 @@ ghost use Rattle.run_file.specs.declared.run.RunFault.{RunFault};
 ghost use Rattle.run_file.specs.AtEntries.{IsAtEntry, entry_at};
 ghost use Rattle.run_file.specs.Shelved.{files_on, faults_on, LeavesFiles};
 ghost use Rattle.run_file.specs.Causes.{HasCauseOn, NotDamaged, damage_by};
-ghost use Rattle.run_file.specs.Filling.{BeginsRow, ShowsFront, Takes};
+ghost use Rattle.run_file.specs.Filling.{BeginsRow, ShowsFront, TakesAhead};
 ghost use Rattle.run_file.specs.Readers.{known_ahead, most_kept};
-ghost use Rattle.run_file.specs.Reading.{BeginsDamaged, ExplainsDamage, IsAtRow, IsAhead, Begins, GoesOn, StaysAhead, GivesFirst, TellsDamage, TellsPlace, TakesRow, GivesFormed, Moves};
+ghost use Rattle.run_file.specs.Reading.{BeginsDamaged, ExplainsDamage, IsAtRow, IsAhead, Begins, ReadsOn, StaysAhead, GivesFirst, TellsDamage, TellsPlace, TakesRow, GivesFormed, Moves};
 ghost use Rattle.run_file.specs.Lending.{StandsAfter};
 ghost use Rattle.run_file.specs.contracts.run_reader.RunReader.{the_row};
 
 use crate::kept::KeptBytes;
 use crate::run::fault_of;
-use crate::{Damage, Form, Run, RunFault};
+use crate::{Damage, Run, RunFault};
+use row_form::Form;
 use row_page::{RowView, split_piece};
 use spill_disk::{Disk, Shelf};
 use std::alloc::Global;
@@ -108,7 +109,7 @@ impl RunReader {
         requires there { self.old.run.disk < H.count_of shelf.old }
         ensures gives { (rows : List (List (List ℕ))) →
             IsAhead (files_on H.disk_of D.files shelf.old self.old.run.disk) self.old rows →
-            GoesOn (files_on H.disk_of D.files shelf.new self.old.run.disk) self.new rows result }
+            ReadsOn (files_on H.disk_of D.files shelf.new self.old.run.disk) self.new rows result }
         ensures stays { StaysAhead
             (files_on H.disk_of D.files shelf.old self.old.run.disk)
             (files_on H.disk_of D.files shelf.new self.old.run.disk) self.old self.new result }
@@ -189,7 +190,7 @@ impl RunReader {
     fn step(&mut self) -> Result<bool, RunFault>
         requires left { self.old.found < self.old.run.count }
         ensures some { result ≡ Ok false → ⊥ }
-        ensures takes { OnOk result (Takes self.old self.new) }
+        ensures takes { OnOk result (TakesAhead self.old self.new) }
         ensures damaged { TellsDamage self.old self.new result }
         ensures only { IfErr result (λ fault. fault ≡ damage_by self.old.run self.old.found) }
         ensures stays { OnErr result (self.new ≡ self.old) }

@@ -3,7 +3,7 @@
 ghost use Rattle.std.specs.Prelude.{◌≡◌, ◌≤◌, ◌++◌, [], List, ℕ, is_some, IfOk, OnOk, OnErr};
 ghost use Rattle.row_page.specs.Spelling.{page_bytes};
 ghost use Rattle.spill_disk.specs.Files.{IsThere, Creates, Appends, AppendsPart};
-ghost use Rattle.run_file.specs.Runs.{Counts, IsFileOf, greatest_cost};
+ghost use Rattle.run_file.specs.Runs.{CountsRows, IsFileOf, greatest_cost};
 ghost use Rattle.run_file.specs.Causes.{HasCauseOn, NotDamaged};
 
 use crate::run::fault_of;
@@ -33,7 +33,7 @@ impl RunWriter {
             (λ writer. Creates (D.files disk.old) (D.files disk.new) writer.file) }
         ensures there { IfOk result (λ writer. IsThere (D.files disk.new) writer.file) }
         ensures empty { IfOk result (λ writer. IsFileOf (D.files disk.new) writer.file []) }
-        ensures counts { IfOk result (λ writer. Counts writer []) }
+        ensures counts { IfOk result (λ writer. CountsRows writer []) }
         ensures named { IfOk result (λ writer. writer.disk ≡ number) }
         ensures err { OnErr result (D.files disk.new ≡ D.files disk.old) }
         ensures tells { is_some (D.files disk.new) ≡ is_some (D.files disk.old) }
@@ -68,7 +68,7 @@ impl RunWriter {
             IsFileOf (D.files disk.old) self.old.file rows →
             IsFileOf (D.files disk.new) self.new.file (rows ++ page.now.rows)) }
         ensures counts { OnOk result ((rows : List (List (List ℕ))) →
-            Counts self.old rows → Counts self.new (rows ++ page.now.rows)) }
+            CountsRows self.old rows → CountsRows self.new (rows ++ page.now.rows)) }
         ensures unwritten { OnErr result (self.new ≡ self.old) }
         ensures disk { self.new.disk ≡ self.old.disk }
         ensures file { self.new.file ≡ self.old.file }

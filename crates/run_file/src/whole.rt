@@ -3,13 +3,14 @@
 ghost use Rattle.std.specs.Prelude.{◌≡◌, ◌+◌, ◌≤◌, List, ℕ, IfOk, OnErr, OnOk, length, take};
 ghost use Rattle.std.specs.List.{AllByRecursion};
 ghost use Rattle.run_file.specs.Causes.{HasCauseOn, NoDiskFault, NotDamaged};
-ghost use Rattle.run_file.specs.Forms.{HasForm, IsWellFormed};
+ghost use Rattle.row_form.specs.Forms.{HasForm, IsWellFormed};
 ghost use Rattle.run_file.specs.Runs.{Stands};
 ghost use Rattle.run_file.specs.Whole.{AreRowsOf, BeginsRows, GivesPage, ReadsRun, TellsDamageOf, UsesAll};
 
 use crate::run::fault_of;
 use crate::run_reader::{damage_of, front_of};
-use crate::{Form, Run, RunFault};
+use crate::{Run, RunFault};
+use row_form::Form;
 use row_page::Page;
 use spill_disk::Disk;
 use std::alloc::Global;

@@ -9,11 +9,11 @@ use Rattle.aggregate.specs.declared.kind.Kind.{Kind}
 use Rattle.aggregate.specs.Rows.{Ascends, entries_of, entry_of}
 use Rattle.aggregate.specs.Totals.{Entry, total}
 use Rattle.spill_disk.specs.Files.{Files}
-use Rattle.run_file.specs.declared.form.Form.{Form}
-use Rattle.run_file.specs.declared.form.Form.TheVariants.{Entries}
+use Rattle.row_form.specs.declared.form.Form.{Form}
+use Rattle.row_form.specs.declared.form.Form.TheVariants.{Entries}
 use Rattle.run_file.specs.declared.run.Run.{Run}
 use Rattle.run_file.specs.Readers.{ReaderView, form_of, found_of, run_of}
-use Rattle.run_file.specs.Forms.{HasForm, IsWellFormed}
+use Rattle.row_form.specs.Forms.{HasForm, IsWellFormed}
 use Rattle.run_file.specs.Reading.{IsAhead, Begins}
 use Rattle.run_file.specs.Runs.{Stands, greatest_cost}
 use Rattle.run_file.specs.Several.{HasEntries, HaveEntries, concatenated, no_run, run_at}

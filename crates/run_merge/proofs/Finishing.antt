@@ -6,9 +6,9 @@ use Rattle.aggregate.specs.declared.kind.Kind.{Kind}
 use Rattle.aggregate.specs.Rows.{entries_of}
 use Rattle.aggregate.specs.Totals.{Entry, total}
 use Rattle.spill_disk.specs.Files.{Files}
-use Rattle.run_file.specs.declared.form.Form.TheVariants.{Entries}
+use Rattle.row_form.specs.declared.form.Form.TheVariants.{Entries}
 use Rattle.run_file.specs.Readers.{ReaderView, run_of}
-use Rattle.run_file.specs.Forms.{IsWellFormed}
+use Rattle.row_form.specs.Forms.{IsWellFormed}
 use Rattle.run_file.specs.Several.{concatenated, greatest_of}
 use Rattle.run_merge.specs.Giving.{AreComing, Gives}
 use Rattle.run_merge.specs.Heads.{EachReader, has_head, one_if}

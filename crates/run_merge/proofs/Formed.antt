@@ -10,9 +10,9 @@ use Rattle.aggregate.specs.declared.kind.Kind.TheVariants.{Group, Order}
 use Rattle.aggregate.specs.Rows.{entry_of}
 use Rattle.aggregate.specs.Values.{width}
 use Rattle.row_page.specs.Spelling.{row_length}
-use Rattle.run_file.specs.declared.form.Form.TheVariants.{Entries}
+use Rattle.row_form.specs.declared.form.Form.TheVariants.{Entries}
 use Rattle.run_file.specs.Readers.{ReaderView, run_of}
-use Rattle.run_file.specs.Forms.{IsValueOf, IsWellFormed}
+use Rattle.row_form.specs.Forms.{IsValueOf, IsWellFormed}
 use Rattle.run_file.specs.Reading.{row_at}
 use Rattle.run_file.specs.AtEntries.{entry_at, IsAtEntry}
 use Rattle.run_merge.specs.Heads.{IsLent, row_lent}

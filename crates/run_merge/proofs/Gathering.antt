@@ -6,18 +6,18 @@ use Rattle.aggregate.specs.Rows.{entries_of, entry_of}
 use Rattle.aggregate.specs.declared.kind.Kind.TheVariants.{Order}
 use Rattle.aggregate.specs.Totals.{Entry}
 use Rattle.spill_disk.specs.Files.{Files}
-use Rattle.run_file.specs.declared.form.Form.TheVariants.{Entries}
+use Rattle.row_form.specs.declared.form.Form.TheVariants.{Entries}
 use Rattle.run_file.specs.declared.run.Run.{Run}
 use Rattle.run_file.specs.declared.run.RunFault.{RunFault}
 use Rattle.run_file.specs.Causes.{NotDamaged}
-use Rattle.run_file.specs.Forms.{IsWellFormed}
+use Rattle.row_form.specs.Forms.{IsWellFormed}
 use Rattle.run_file.specs.Several.{IsFileAmong, greatest_of}
 use Rattle.run_file.specs.Writing.{IsSoFar, IsWritten, WriterView}
 use Rattle.run_file.specs.Shelved.{SameBut}
 use Rattle.run_file.proofs.Among.{all_join}
 use Rattle.run_merge.specs.declared.merge.Merge.{Merge}
 use Rattle.run_merge.specs.Becoming.{WritesAll}
-use Rattle.run_merge.specs.Merging.{Falls, GoesOn, IsToCome, kind_of, left_of, row_of, runs_of}
+use Rattle.run_merge.specs.Merging.{Falls, ReadsOn, IsToCome, kind_of, left_of, row_of, runs_of}
 use Rattle.run_merge.proofs.Kept.{IsSame, kept_beside, to_come_kept}
 
 -- some entries are still to come, and these rows were those before them
@@ -45,7 +45,7 @@ underway_none start to first writer apart begun = record {
 }
 
 -- one more row, of which the entry was to come
-more_left : (mid after : ℕ → Option Files) (merge : Merge) (rows : List (List (List ℕ))) (entries rest : List Entry) → AllByRecursion (IsSame mid after) (runs_of merge) → entries_of rows ++ rest ≡ entries → GoesOn mid merge rest (Ok true) → IsLeftOf after merge (rows ++ row_of merge ∷ []) entries
+more_left : (mid after : ℕ → Option Files) (merge : Merge) (rows : List (List (List ℕ))) (entries rest : List Entry) → AllByRecursion (IsSame mid after) (runs_of merge) → entries_of rows ++ rest ≡ entries → ReadsOn mid merge rest (Ok true) → IsLeftOf after merge (rows ++ row_of merge ∷ []) entries
 more_left mid after merge rows entries [] same whole goes = absurd goes
 more_left mid after merge rows entries (entry ∷ rest) same whole goes =
     let given : entry_of (row_of merge) ≡ entry = ap entry_of goes.0 in
@@ -62,7 +62,7 @@ more_left mid after merge rows entries (entry ∷ rest) same whole goes =
 -- what is known of the calls of one step
 pub record Steps (now mid after : ℕ → Option Files) (named : ℕ → ℕ) (to file : ℕ) (first merge merge' : Merge) (writer writer' : WriterView) (row : List (List ℕ)) : Type 0 where
   pub left : (j : ℕ) → mid j ≡ now j
-  pub goes : (entries : List Entry) → IsToCome now merge entries → GoesOn mid merge' entries (Ok true)
+  pub goes : (entries : List Entry) → IsToCome now merge entries → ReadsOn mid merge' entries (Ok true)
   pub formed : IsWellFormed (Entries (kind_of merge')) (greatest_of (runs_of merge')) (row_of merge')
   pub runs : runs_of merge' ≡ runs_of first
   pub kind : kind_of merge' ≡ kind_of first
@@ -93,17 +93,17 @@ underway_more start now mid after named to file first merge merge' writer writer
       omega (arith, length-append before.rows (row_of merge' ∷ []), was, one);
 }
 
-none_left : (now : ℕ → Option Files) (merge : Merge) (rows : List (List (List ℕ))) (entries rest : List Entry) → entries_of rows ++ rest ≡ entries → GoesOn now merge rest (Ok false) → entries_of rows ≡ entries
+none_left : (now : ℕ → Option Files) (merge : Merge) (rows : List (List (List ℕ))) (entries rest : List Entry) → entries_of rows ++ rest ≡ entries → ReadsOn now merge rest (Ok false) → entries_of rows ≡ entries
 none_left now merge rows entries [] whole goes = sym (append-nil (entries_of rows)) ∙ whole
 none_left now merge rows entries (entry ∷ rest) whole goes = absurd goes
 
 -- where it gave up nothing was damaged
-pub goes_undamaged : (now : ℕ → Option Files) (merge : Merge) (rest : List Entry) (fault : RunFault) → GoesOn now merge rest (Err fault) → NotDamaged {T = Bool} (Err fault)
+pub goes_undamaged : (now : ℕ → Option Files) (merge : Merge) (rest : List Entry) (fault : RunFault) → ReadsOn now merge rest (Err fault) → NotDamaged {T = Bool} (Err fault)
 goes_undamaged now merge [] fault goes = goes
 goes_undamaged now merge (entry ∷ rest) fault goes = goes
 
 -- the run was finished, and nothing is left
-pub underway_all : (start now mid after : ℕ → Option Files) (to : ℕ) (first merge merge' : Merge) (writer : WriterView) (run : Run) (apart : Type 0) → IsUnderway start now to first merge writer apart → ((j : ℕ) → mid j ≡ now j) → ((entries : List Entry) → IsToCome now merge entries → GoesOn mid merge' entries (Ok false)) → left_of merge ≡ 0
+pub underway_all : (start now mid after : ℕ → Option Files) (to : ℕ) (first merge merge' : Merge) (writer : WriterView) (run : Run) (apart : Type 0) → IsUnderway start now to first merge writer apart → ((j : ℕ) → mid j ≡ now j) → ((entries : List Entry) → IsToCome now merge entries → ReadsOn mid merge' entries (Ok false)) → left_of merge ≡ 0
     → ((rows : List (List (List ℕ))) → IsSoFar (mid to) writer rows → IsWritten (after to) run rows) → WritesAll start first (after to) run apart
 underway_all start now mid after to first merge merge' writer run apart before left goes none written =
     let done = written before.rows (subst (λ (files : Option Files). IsSoFar files writer before.rows) (sym (left to)) before.so_far) in

@@ -9,11 +9,11 @@ use Rattle.aggregate.specs.declared.kind.Kind.{Kind}
 use Rattle.aggregate.specs.Rows.{entries_of}
 use Rattle.aggregate.specs.Totals.{Entry, total}
 use Rattle.spill_disk.specs.Files.{Files, IsThere}
-use Rattle.run_file.specs.declared.form.Form.{Form}
-use Rattle.run_file.specs.declared.form.Form.TheVariants.{Entries}
+use Rattle.row_form.specs.declared.form.Form.{Form}
+use Rattle.row_form.specs.declared.form.Form.TheVariants.{Entries}
 use Rattle.run_file.specs.declared.run.Run.{Run}
-use Rattle.run_file.specs.Forms.{HasForm, IsWellFormed}
-use Rattle.run_file.specs.Runs.{Counts, IsFileOf, Stands, greatest_cost}
+use Rattle.row_form.specs.Forms.{HasForm, IsWellFormed}
+use Rattle.run_file.specs.Runs.{CountsRows, IsFileOf, Stands, greatest_cost}
 use Rattle.run_file.specs.Several.{SameOthers, IsFileAmong, HasEntries, HaveEntries, concatenated, greatest_of, run_at}
 use Rattle.run_file.specs.Shelved.{IsGone, IsGoneOn, SameBut}
 use Rattle.run_file.proofs.Among.{among_one, apart_one, is_among_one}
@@ -27,7 +27,7 @@ use Rattle.run_merge.proofs.Kept.{has_kept, have_kept, have_there, kept_beside}
 -- a run of written rows stands
 abbrev pub WrittenStand : Type 0
 WrittenStand =
-    (files : Files) (run : Run) (rows : List (List (List ℕ))) → IsThere (Some files) run.file → IsFileOf (Some files) run.file rows → Counts run rows → Stands (Some files) run rows
+    (files : Files) (run : Run) (rows : List (List (List ℕ))) → IsThere (Some files) run.file → IsFileOf (Some files) run.file rows → CountsRows run rows → Stands (Some files) run rows
 
 -- the calls of one group: the run was begun, written, and then the files of the others were taken away
 pub record IsMerged (named : ℕ → ℕ) (before begun written after : ℕ → Option Files) (to : ℕ) (kind : Kind) (merge : Merge) (runs : List Run) (run : Run) (apart : Type 0) : Type 0 where
@@ -55,7 +55,7 @@ cost_of_rows : (form : Form) (greatest : ℕ) (rows : List (List (List ℕ))) �
 cost_of_rows form greatest [] formed = omega arith
 cost_of_rows form greatest (row ∷ rows) formed = let rest = cost_of_rows form greatest rows formed.1 in omega (arith, formed.0.cost, rest)
 
-stands_there : WrittenStand → (files : Option Files) (run : Run) (rows : List (List (List ℕ))) → IsSome files → IsThere files run.file → IsFileOf files run.file rows → Counts run rows → Stands files run rows
+stands_there : WrittenStand → (files : Option Files) (run : Run) (rows : List (List (List ℕ))) → IsSome files → IsThere files run.file → IsFileOf files run.file rows → CountsRows run rows → Stands files run rows
 stands_there law None run rows told there file counts = absurd (false≢true told)
 stands_there law (Some files) run rows told there file counts = law files run rows there file counts
 

@@ -13,9 +13,9 @@ use Rattle.aggregate.specs.PartialLaws.{IsAssociative}
 use Rattle.aggregate.specs.Rows.{Ascends, StandsBefore, entries_of, entry_of}
 use Rattle.aggregate.specs.Totals.{Entry, insert_entry, insert_group, key_cmp, total}
 use Rattle.spill_disk.specs.Files.{Files}
-use Rattle.run_file.specs.declared.form.Form.TheVariants.{Entries}
+use Rattle.row_form.specs.declared.form.Form.TheVariants.{Entries}
 use Rattle.run_file.specs.Readers.{ReaderView}
-use Rattle.run_file.specs.Forms.{HasForm}
+use Rattle.row_form.specs.Forms.{HasForm}
 use Rattle.run_merge.specs.Giving.{AreComing, AllAbove, Gives, IsTaken, NoneBelow}
 use Rattle.run_file.specs.Reading.{row_at}
 use Rattle.run_file.specs.AtEntries.{entry_at}

@@ -11,7 +11,7 @@ use Rattle.spill_disk.specs.Files.{Files}
 use Rattle.run_file.specs.declared.run.Run.{Run}
 use Rattle.run_file.specs.Readers.{ReaderView, known_ahead, run_of}
 use Rattle.run_file.specs.Reading.{ArePage, IsAhead}
-use Rattle.run_file.specs.Runs.{Counts, Stands}
+use Rattle.run_file.specs.Runs.{CountsRows, Stands}
 use Rattle.run_file.specs.Several.{IsFileAmong, HasEntries, HaveEntries, run_at}
 use Rattle.run_file.specs.Shelved.{IsGone, file_in, SameBut}
 use Rattle.run_file.proofs.Among.{among_left, among_right, is_among_one}
@@ -27,7 +27,7 @@ stands_kept None after run rows same stands = absurd stands
 stands_kept (Some b) None run rows same stands = cc same
 stands_kept (Some b) (Some a) run rows same stands =
     let found : map.get b run.file ≡ map.get a run.file = cc same in
-    subst (λ (o : Option (List ℕ)). IsSome o × IsPage (take run.bytes (unwrap_or o [])) rows × Counts run rows) found stands
+    subst (λ (o : Option (List ℕ)). IsSome o × IsPage (take run.bytes (unwrap_or o [])) rows × CountsRows run rows) found stands
 
 pub has_kept : (before after : Option Files) (kind : Kind) (run : Run) (entries : List Entry) → file_in after run.file ≡ file_in before run.file → HasEntries before kind run entries → HasEntries after kind run entries
 has_kept before after kind run entries same has = record {

@@ -11,18 +11,18 @@ use Rattle.run_file.specs.Several.{greatest_of}
 use Rattle.run_merge.specs.declared.merge.Merge.{Merge}
 use Rattle.run_merge.specs.Causes.{HasCauseAmong, IsDamageIn}
 use Rattle.run_merge.specs.Lending.{LendsFirst, LendsFormed}
-use Rattle.run_merge.specs.Merging.{runs_of, kind_of, row_of, GivesFormed, GoesOn, TellsDamage}
+use Rattle.run_merge.specs.Merging.{runs_of, kind_of, row_of, GivesFormed, ReadsOn, TellsDamage}
 use Rattle.run_merge.proofs.Damage.{damage_of_runs}
 
-pub lent_first : (files : ℕ → Option Files) (after : Merge) (entries : List Entry) (given : RowView) → fields_in given ≡ row_of after → GoesOn files after entries (Ok true) → LendsFirst entries (Ok (Some given))
+pub lent_first : (files : ℕ → Option Files) (after : Merge) (entries : List Entry) (given : RowView) → fields_in given ≡ row_of after → ReadsOn files after entries (Ok true) → LendsFirst entries (Ok (Some given))
 lent_first files after [] given at went = absurd went
 lent_first files after (entry ∷ entries) given at went = at ∙ went.0
 
-pub none_first : (files : ℕ → Option Files) (after : Merge) (entries : List Entry) → GoesOn files after entries (Ok false) → LendsFirst entries (Ok None)
+pub none_first : (files : ℕ → Option Files) (after : Merge) (entries : List Entry) → ReadsOn files after entries (Ok false) → LendsFirst entries (Ok None)
 none_first files after [] went = tt
 none_first files after (entry ∷ entries) went = absurd went
 
-pub fault_first : (files : ℕ → Option Files) (after : Merge) (entries : List Entry) (fault : RunFault) → GoesOn files after entries (Err fault) → LendsFirst entries (Err fault)
+pub fault_first : (files : ℕ → Option Files) (after : Merge) (entries : List Entry) (fault : RunFault) → ReadsOn files after entries (Err fault) → LendsFirst entries (Err fault)
 fault_first files after [] fault went = went
 fault_first files after (entry ∷ entries) fault went = went
 

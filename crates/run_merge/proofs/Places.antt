@@ -14,8 +14,8 @@ use Rattle.run_file.specs.declared.run.RunFault.{RunFault}
 use Rattle.run_file.specs.declared.run.RunFault.TheVariants.{DiskFault, Damaged, NoMemory}
 use Rattle.run_file.specs.Readers.{ReaderView, form_of, found_of, run_of}
 use Rattle.run_file.specs.Causes.{NotDamaged, damage_in}
-use Rattle.run_file.specs.declared.form.Form.{Form}
-use Rattle.run_file.specs.declared.form.Form.TheVariants.{Entries}
+use Rattle.row_form.specs.declared.form.Form.{Form}
+use Rattle.row_form.specs.declared.form.Form.TheVariants.{Entries}
 use Rattle.run_file.specs.Reading.{IsAhead, TellsDamage}
 use Rattle.run_file.specs.AtEntries.{IsAtEntry}
 use Rattle.run_file.specs.Several.{AreOn}

@@ -20,6 +20,7 @@ HasCauseAmong before now (Err NoMemory) = ⊤
 abbrev pub is_run : Run → ℕ → ℕ → ℕ → Bool
 is_run run disk file count = run.disk == disk && run.file == file && run.count == count
 
+-- whether one of several runs is this file of this disk, with so many rows
 abbrev pub is_run_in : List Run → ℕ → ℕ → ℕ → Bool
 is_run_in [] disk file count = false
 is_run_in (run ∷ runs) disk file count = is_run run disk file count || is_run_in runs disk file count

@@ -8,11 +8,11 @@ use Rattle.aggregate.specs.declared.kind.Kind.{Kind}
 use Rattle.aggregate.specs.Totals.{Entry, insert_entry, key_cmp, total}
 use Rattle.aggregate.specs.Rows.{Ascends, entries_of, entry_of}
 use Rattle.spill_disk.specs.Files.{Files}
-use Rattle.run_file.specs.declared.form.Form.TheVariants.{Entries}
+use Rattle.row_form.specs.declared.form.Form.TheVariants.{Entries}
 use Rattle.run_file.specs.declared.run.RunFault.{RunFault}
 use Rattle.run_file.specs.Readers.{ReaderView}
 use Rattle.run_file.specs.Causes.{NotDamaged}
-use Rattle.run_file.specs.Forms.{HasForm}
+use Rattle.row_form.specs.Forms.{HasForm}
 use Rattle.run_file.specs.Several.{concatenated}
 use Rattle.run_merge.specs.Heads.{has_head}
 use Rattle.run_merge.specs.Merging.{AreLeft, IsLeft}

@@ -7,7 +7,7 @@ use Rattle.std.specs.declared.cmp.Ordering.TheVariants.{Less}
 use Rattle.aggregate.specs.declared.kind.Kind.{Kind}
 use Rattle.aggregate.specs.Fronts.{front_of}
 use Rattle.aggregate.specs.Totals.{key_cmp}
-use Rattle.run_file.specs.declared.form.Form.TheVariants.{Entries}
+use Rattle.row_form.specs.declared.form.Form.TheVariants.{Entries}
 use Rattle.run_file.specs.Readers.{ReaderView, form_of}
 use Rattle.run_file.specs.Reading.{row_at}
 use Rattle.run_file.specs.AtEntries.{IsAtEntry, entry_at}

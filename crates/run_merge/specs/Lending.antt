@@ -6,13 +6,13 @@ use Rattle.aggregate.specs.Totals.{Entry}
 use Rattle.row_page.specs.Views.{fields_in}
 use Rattle.row_page.specs.declared.row_view.RowView.{RowView}
 use Rattle.spill_disk.specs.Files.{Files}
-use Rattle.run_file.specs.declared.form.Form.TheVariants.{Entries}
+use Rattle.row_form.specs.declared.form.Form.TheVariants.{Entries}
 use Rattle.run_file.specs.declared.run.RunFault.{RunFault}
 use Rattle.run_file.specs.Causes.{NotDamaged}
-use Rattle.run_file.specs.Forms.{IsWellFormed}
+use Rattle.row_form.specs.Forms.{IsWellFormed}
 use Rattle.run_file.specs.Lending.{has_lent}
 use Rattle.run_merge.specs.declared.merge.Merge.{Merge}
-use Rattle.run_merge.specs.Merging.{runs_of, kind_of, row_of, IsToCome, GoesOn, Falls, TellsDamage}
+use Rattle.run_merge.specs.Merging.{runs_of, kind_of, row_of, IsToCome, ReadsOn, Falls, TellsDamage}
 
 -- it lends the first of these entries as a row, or says that there is none; and it finds no damage
 abbrev pub LendsFirst : List Entry → Result (Option RowView) RunFault → Type 0
@@ -36,7 +36,7 @@ IsAtLent after (Err fault) = ⊤
 
 -- it stands where it went on to: at the row that it lent, and the entries behind that one are still to come
 pub record StandsAfter (old new : ℕ → Option Files) (before : Merge) (result : Result (Option RowView) RunFault) (after : Merge) : Type 0 where
-  pub gives : (entries : List Entry) → IsToCome old before entries → GoesOn new after entries (has_lent result)
+  pub gives : (entries : List Entry) → IsToCome old before entries → ReadsOn new after entries (has_lent result)
   pub falls : Falls before after (has_lent result)
   pub damaged : TellsDamage after (has_lent result)
   pub lent : IsAtLent after result

@@ -7,14 +7,14 @@ use Rattle.aggregate.specs.declared.kind.Kind.TheVariants.{Order}
 use Rattle.aggregate.specs.Totals.{Entry, total}
 use Rattle.aggregate.specs.Rows.{Ascends, entries_of}
 use Rattle.spill_disk.specs.Files.{Files}
-use Rattle.run_file.specs.declared.form.Form.TheVariants.{Entries}
+use Rattle.row_form.specs.declared.form.Form.TheVariants.{Entries}
 use Rattle.run_file.specs.declared.run.Damage.{Damage}
 use Rattle.run_file.specs.declared.run.Run.{Run}
 use Rattle.run_file.specs.declared.run.RunFault.{RunFault}
 use Rattle.run_file.specs.declared.run.RunFault.TheVariants.{DiskFault, Damaged, NoMemory}
 use Rattle.run_file.specs.Readers.{ReaderView, found_of, run_of}
 use Rattle.run_file.specs.Causes.{NotDamaged, damage_in}
-use Rattle.run_file.specs.Forms.{HasForm, IsWellFormed}
+use Rattle.row_form.specs.Forms.{HasForm, IsWellFormed}
 use Rattle.run_file.specs.Reading.{IsAtRow, IsAhead, IsDamagedAhead}
 use Rattle.run_file.specs.Several.{HaveEntries, concatenated}
 use Rattle.run_merge.specs.declared.merge.Merge.{Merge}
@@ -33,8 +33,8 @@ abbrev pub row_of : Merge → List (List ℕ)
 row_of merge = row_lent merge.readers.items merge.given merge.row
 
 -- how many readers it has open
-abbrev pub open_of : Merge → ℕ
-open_of merge = length merge.readers.items
+abbrev pub readers_open : Merge → ℕ
+readers_open merge = length merge.readers.items
 
 -- how many bytes readers keep of their runs' files
 abbrev pub kept_by : List ReaderView → ℕ
@@ -84,12 +84,12 @@ Begins merge =
     → IsToCome files merge (total (kind_of merge) (concatenated lists))
 
 -- it goes on to the first of these entries, or says that there is none; and it finds no damage
-abbrev pub GoesOn : (ℕ → Option Files) → Merge → List Entry → Result Bool RunFault → Type 0
-GoesOn files after [] (Ok true) = ⊥
-GoesOn files after [] (Ok false) = ⊤
-GoesOn files after (entry ∷ entries) (Ok true) = (row_of after ≡ entry.key ∷ (entry.value ∷ [])) × IsToCome files after entries
-GoesOn files after (entry ∷ entries) (Ok false) = ⊥
-GoesOn files after entries (Err fault) = NotDamaged {T = Bool} (Err fault)
+abbrev pub ReadsOn : (ℕ → Option Files) → Merge → List Entry → Result Bool RunFault → Type 0
+ReadsOn files after [] (Ok true) = ⊥
+ReadsOn files after [] (Ok false) = ⊤
+ReadsOn files after (entry ∷ entries) (Ok true) = (row_of after ≡ entry.key ∷ (entry.value ∷ [])) × IsToCome files after entries
+ReadsOn files after (entry ∷ entries) (Ok false) = ⊥
+ReadsOn files after entries (Err fault) = NotDamaged {T = Bool} (Err fault)
 
 -- what it gives is an entry of the kind, and costs no more than so many bytes in a run
 abbrev pub GivesFormed : ℕ → Merge → Result Bool RunFault → Type 0
@@ -113,11 +113,13 @@ pub record IsDamage (readers : List ReaderView) (damage : Damage) : Type 0 where
   pub fewer : found_of reader < (run_of reader).count
   pub damaged : IsDamagedAhead reader
 
+-- where a call says that a run is damaged, it is one of these readers', and what it says of it is so
 abbrev pub TellsDamageIn : {T : Type 0} → List ReaderView → Result T RunFault → Type 0
 TellsDamageIn readers (Ok more) = ⊤
 TellsDamageIn readers (Err (DiskFault disk)) = ⊤
 TellsDamageIn readers (Err (Damaged damage)) = IsDamage readers damage
 TellsDamageIn readers (Err NoMemory) = ⊤
 
+-- the same of a merge, by its readers after the call
 abbrev pub TellsDamage : Merge → Result Bool RunFault → Type 0
 TellsDamage after result = TellsDamageIn after.readers.items result

@@ -8,8 +8,9 @@ use crate::giving::{give_alone, give_joined};
 use crate::heads::{buffered_by, let_all_on};
 use crate::queue::Queue;
 use aggregate::Kind;
+use row_form::Form;
 use row_page::{RowBuf, RowView};
-use run_file::{Form, Run, RunFault, RunReader};
+use run_file::{Run, RunFault, RunReader};
 use spill_disk::{Disk, Shelf};
 use std::alloc::{AllocError, Global};
 
@@ -53,14 +54,14 @@ impl Merge {
     ghost use Rattle.run_merge.specs.Causes.{HasCauseAmong, IsDamageIn};
     ghost use Rattle.run_merge.specs.Giving.{AreComing};
     ghost use Rattle.run_merge.specs.Lending.{LendsFirst, LendsFormed, StandsAfter};
-    ghost use Rattle.run_merge.specs.Merging.{runs_of, kind_of, kept_of, open_of, row_of, left_of, Begins, IsToCome, GoesOn, GivesFormed, Falls, TellsDamage};
+    ghost use Rattle.run_merge.specs.Merging.{runs_of, kind_of, kept_of, readers_open, row_of, left_of, Begins, IsToCome, ReadsOn, GivesFormed, Falls, TellsDamage};
     ghost use Rattle.run_merge.specs.contracts.merge.Merge.{the_row};
 
     /// A merge of these runs, whose entries are of this kind. It reads nothing yet.
     pub fn new(alloc: Global, runs: &[Run], kind: &Kind) -> Result<Merge, AllocError>
         ensures runs { IfOk result (λ merge. runs_of merge ≡ runs.now) }
         ensures kind { IfOk result (λ merge. kind_of merge ≡ kind.now) }
-        ensures open { IfOk result (λ merge. open_of merge ≡ length runs.now) }
+        ensures open { IfOk result (λ merge. readers_open merge ≡ length runs.now) }
         ensures begins { IfOk result Begins }
         ensures left { IfOk result (λ merge. left_of merge ≡ sum_by (λ run. run.count) runs.now) }
     {
@@ -86,7 +87,7 @@ impl Merge {
 
     /// How many readers it has open: one for each of its runs.
     pub(crate) fn open(&self) -> usize
-        ensures { result ≡ open_of self.now }
+        ensures { result ≡ readers_open self.now }
     {
         self.readers.len()
     }
@@ -120,7 +121,7 @@ impl Merge {
         requires there { AreOn (H.count_of shelf.old) (runs_of self.old) }
         ensures gives { (entries : List Entry) →
             IsToCome (files_on H.disk_of D.files shelf.old) self.old entries →
-            GoesOn (files_on H.disk_of D.files shelf.new) self.new entries result }
+            ReadsOn (files_on H.disk_of D.files shelf.new) self.new entries result }
         ensures end { (result ≡ Ok false) ↔ (left_of self.old ≡ 0) }
         ensures falls { Falls self.old self.new result }
         ensures formed { GivesFormed (greatest_of (runs_of self.new)) self.new result }
@@ -182,7 +183,7 @@ impl Merge {
         requires some { 0 < length self.old.order }
         ensures gives { OnOk result ((files : ℕ → Option Files) (entries : List Entry) →
             AreComing files true self.old.kind self.old.readers.items self.old.heads.items entries →
-            GoesOn files self.new entries (Ok true)) }
+            ReadsOn files self.new entries (Ok true)) }
         ensures formed { OnOk result (GivesFormed (greatest_of (runs_of self.new)) self.new (Ok true)) }
         ensures falls { OnOk result (Falls self.old self.new (Ok true)) }
         ensures readers { self.new.readers ≡ self.old.readers }

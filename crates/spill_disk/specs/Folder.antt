@@ -54,9 +54,9 @@ IsAhead None place count = ⊥
 IsAhead (Some opened) place count = Covers opened.ahead_at opened.ahead.items place count
 
 -- the front of the buffer is filled with what stands ahead at the place, of a file that is open
-abbrev pub Gives : {F : Type 0} → Option (Opened F) → ℕ → List ℕ → List ℕ → ℕ → Type 0
-Gives None place before after count = ⊥
-Gives (Some opened) place before after count = GivesAhead opened.ahead_at opened.ahead.items place before after count
+abbrev pub FillsFront : {F : Type 0} → Option (Opened F) → ℕ → List ℕ → List ℕ → ℕ → Type 0
+FillsFront None place before after count = ⊥
+FillsFront (Some opened) place before after count = GivesAhead opened.ahead_at opened.ahead.items place before after count
 
 -- where what was ahead has so many bytes at the place, it is still what is ahead
 abbrev pub GivesAgain : {F : Type 0} → Option (Opened F) → Option (Opened F) → ℕ → ℕ → Type 0

@@ -4,7 +4,7 @@ ghost use Rattle.std.specs.Prelude.{◌≡◌, ◌≢◌, ◌<◌, ◌≤◌, �
 ghost use Rattle.indexmap.specs.IndexMap.{get, spare, Updates};
 ghost use Rattle.fault_count.specs.Faults.{CountsAt, HasCauseAt};
 ghost use Rattle.spill_disk.specs.Ahead.{Covers};
-ghost use Rattle.spill_disk.specs.Folder.{folder_faults, folder_next, open_of, collected_of, collected_in, collected_with, IsNew, HoldsOthers, Gives, GivesAgain, IsAhead, IsOpenAt, StaysOpen};
+ghost use Rattle.spill_disk.specs.Folder.{folder_faults, folder_next, open_of, collected_of, collected_in, collected_with, IsNew, HoldsOthers, FillsFront, GivesAgain, IsAhead, IsOpenAt, StaysOpen};
 
 use crate::opened::Opened;
 use crate::places::{PLACES, place_of};
@@ -135,7 +135,7 @@ impl<R: Files + Drop> Disk for FolderDisk<R> {
         // anew only where it hasn't all that is wanted. Another file may be closed.
         ensures collected { OnOk result (collected_of self.new file ≡ []) }
         ensures given { length buf.old < 65536
-            → IfOk result (Gives (open_of self.new file) place buf.old buf.new) }
+            → IfOk result (FillsFront (open_of self.new file) place buf.old buf.new) }
         ensures again { OnOk result
             (GivesAgain (open_of self.old file) (open_of self.new file) place (length buf.old)) }
         ensures others { (other : ℕ) → other ≢ file
@@ -330,7 +330,7 @@ fn read_in<R: Files + Drop>(
     ensures bound { IfOk result (λ count. count ≤ length buf.old) }
     ensures collected { OnOk result (collected_in kept.new number ≡ []) }
     ensures given { length buf.old < 65536
-        → IfOk result (Gives (get nat_eq kept.new number) place buf.old buf.new) }
+        → IfOk result (FillsFront (get nat_eq kept.new number) place buf.old buf.new) }
     ensures again { OnOk result
         (GivesAgain (get nat_eq kept.old number) (get nat_eq kept.new number) place (length buf.old)) }
     ensures others { HoldsOthers kept.old kept.new number }
@@ -360,7 +360,7 @@ fn read_open<F: Read + Write + Seek + Drop>(
     ensures bound { IfOk result (λ count. count ≤ length buf.old) }
     ensures collected { OnOk result (collected_in kept.new number ≡ []) }
     ensures given { length buf.old < 65536
-        → IfOk result (Gives (get nat_eq kept.new number) place buf.old buf.new) }
+        → IfOk result (FillsFront (get nat_eq kept.new number) place buf.old buf.new) }
     ensures again { OnOk result
         (GivesAgain (get nat_eq kept.old number) (get nat_eq kept.new number) place (length buf.old)) }
     ensures others { HoldsOthers kept.old kept.new number }

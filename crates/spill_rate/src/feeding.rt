@@ -2,21 +2,22 @@
 
 ghost use Rattle.std.specs.Prelude.{◌≡◌, ◌≤◌, ◌^◌, [], List, ℕ, length, true, Some, IsSome, IfOk, OnOk};
 ghost use Rattle.aggregate.specs.Values.{IsValueOf};
+ghost use Rattle.row_page.specs.Pages.{empty_page};
 ghost use Rattle.consumer_trait.specs.States.{IsEntryBy, Rest, as_reset};
 
 use crate::drawn::Drawn;
 use aggregate::Kind;
 use consumer_trait::{Consumer, Fed, Turn};
-use row_page::Page;
+use row_page::{PAGE_ROOM, Page};
 use std::alloc::{AllocError, Global};
 
 // Spills a consumer, which is granted what it asks for, and answers how many rows that wrote.
 fn spill<C: Consumer>(consumer: &mut C, page: &mut Page) -> Result<u64, AllocError>
     requires kind { IsSome (C.state consumer.old).kind }
-    requires page { page.old ≡ record { rows = []; room = 262144 } }
+    requires page { page.old ≡ empty_page }
     ensures kind { IfOk result (λ _. (C.state consumer.new).kind ≡ (C.state consumer.old).kind) }
     ensures rest { IfOk result (λ _. (C.state consumer.new).stage ≡ Rest) }
-    ensures page { IfOk result (λ _. page.new ≡ record { rows = []; room = 262144 }) }
+    ensures page { IfOk result (λ _. page.new ≡ empty_page) }
 {
     let mut rows = 0u64;
     for _turn in 0..u64::MAX {
@@ -48,11 +49,11 @@ pub fn feed_one<C: Consumer>(
     requires kind { IsSome (C.state consumer.old).kind }
     requires rest { (C.state consumer.old).stage ≡ Rest }
     requires entry { IsEntryBy (C.state consumer.old).kind (record { key = key.now; value = value.now }) }
-    requires page { page.old ≡ record { rows = []; room = 262144 } }
+    requires page { page.old ≡ empty_page }
     requires most { most ≤ 2 ^ 40 }
     ensures kind { IfOk result (λ _. (C.state consumer.new).kind ≡ (C.state consumer.old).kind) }
     ensures rest { IfOk result (λ _. (C.state consumer.new).stage ≡ Rest) }
-    ensures page { IfOk result (λ _. page.new ≡ record { rows = []; room = 262144 }) }
+    ensures page { IfOk result (λ _. page.new ≡ empty_page) }
 {
     let mut spills = 0u64;
     let mut rows = 0u64;
@@ -89,7 +90,7 @@ pub fn feed_all<C: Consumer>(
 {
     let most = most.clamp(72, 1 << 40);
     consumer.begin(kind)?;
-    let mut page = Page::new(alloc, 262144);
+    let mut page = Page::new(alloc, PAGE_ROOM);
     let mut drawn = Drawn::new();
     let mut spills = 1u64;
     let mut rows = 0u64;

@@ -2,6 +2,7 @@
 
 ghost use Rattle.std.specs.Prelude.{◌≡◌, ◌≤◌, ◌<◌, ◌^◌, [], List, ℕ, All, length, true, Some, IsSome, IfOk, OnOk};
 ghost use Rattle.aggregate.specs.declared.kind.Kind.TheVariants.{Order};
+ghost use Rattle.row_page.specs.Pages.{empty_page};
 ghost use Rattle.consumer_trait.specs.States.{Rest};
 ghost use Rattle.spill_disk.specs.Files.{IsThere};
 ghost use Rattle.row_sorter.specs.Sorters.{state_of};
@@ -10,7 +11,7 @@ use crate::drawn::Drawn;
 use crate::feeding::feed_one;
 use aggregate::Kind;
 use consumer_trait::{Consumer, Turn};
-use row_page::Page;
+use row_page::{PAGE_ROOM, Page};
 use row_sorter::RowSorter;
 use run_file::{Run, RunFault, RunWriter};
 use run_merge::Merge;
@@ -25,11 +26,11 @@ fn spill_to<C: Consumer, D: Disk>(
     writer: &mut RunWriter,
 ) -> Result<(), RunFault>
     requires kind { IsSome (C.state consumer.old).kind }
-    requires page { page.old ≡ record { rows = []; room = 262144 } }
+    requires page { page.old ≡ empty_page }
     requires there { IsThere (D.files disk.old) writer.old.file }
     ensures kind { IfOk result (λ _. (C.state consumer.new).kind ≡ (C.state consumer.old).kind) }
     ensures rest { IfOk result (λ _. (C.state consumer.new).stage ≡ Rest) }
-    ensures page { IfOk result (λ _. page.new ≡ record { rows = []; room = 262144 }) }
+    ensures page { IfOk result (λ _. page.new ≡ empty_page) }
     ensures disk { writer.new.disk ≡ writer.old.disk }
 {
     for _turn in 0..u64::MAX {
@@ -64,10 +65,10 @@ fn write_run(
 ) -> Result<Run, RunFault>
     requires kind { (state_of sorter.old).kind ≡ Some Order }
     requires rest { (state_of sorter.old).stage ≡ Rest }
-    requires page { page.old ≡ record { rows = []; room = 262144 } }
+    requires page { page.old ≡ empty_page }
     ensures kind { IfOk result (λ _. (state_of sorter.new).kind ≡ Some Order) }
     ensures rest { IfOk result (λ _. (state_of sorter.new).stage ≡ Rest) }
-    ensures page { IfOk result (λ _. page.new ≡ record { rows = []; room = 262144 }) }
+    ensures page { IfOk result (λ _. page.new ≡ empty_page) }
     ensures disk { IfOk result (λ run. run.disk ≡ 0) }
 {
     let value = [0; 32];
@@ -87,7 +88,7 @@ fn write_run(
 #[tactic(auto, using(crate::proofs::OnDisk::are_on_more))]
 pub fn merge_drawn(alloc: Global, keys: u64, entries: u64, merges: bool) -> Result<u64, RunFault> {
     let mut disk = MemoryDisk::new(alloc, Vec::new(alloc));
-    let mut page = Page::new(alloc, 262144);
+    let mut page = Page::new(alloc, PAGE_ROOM);
     let mut drawn = Drawn::new();
     let mut sorter = RowSorter::new(alloc);
     let mut runs = Vec::new(alloc);

@@ -26,10 +26,10 @@ use Rattle.task_pool.specs.Pools.{PoolState}
 use Rattle.task_pool.proofs.GoingOn.{goes_on}
 use Rattle.task_memory.specs.Words.{begun_scene}
 use Rattle.task_memory.specs.Stacks.{IsDry, Stack}
-use Rattle.task_memory.specs.Scenes.{Acquires, DrawsAlone, Drains, Feeds, FeedsOn, Frees, GivesBack, GoesOn, IsLive, Rooms, Scene, place_in}
+use Rattle.task_memory.specs.Scenes.{Acquires, DrawsAlone, Drains, Feeds, FeedsOn, FreesLeasts, GivesBack, GoesOn, IsLive, Rooms, Scene, place_in}
 use Rattle.task_memory.proofs.Choosing.{Found, Missing, Place, place_of}
 use Rattle.task_memory.proofs.Places.{at_or_not}
-use Rattle.task_memory.specs.Starting.{ArePlaces, Begins, kind_at}
+use Rattle.task_memory.specs.Starting.{ArePlaces, BeginsPicked, kind_at}
 use Rattle.spill_tests.specs.Scripts.{AreFour, AreOrders, ArePlacesOfFour, GoesAlong, IsFreed, IsSet}
 
 -- after a call that keeps all kinds
@@ -108,7 +108,7 @@ all_dry scene count set drained i within = dry_at (place_of scene.stack.picks i)
     dry_at (Missing apart) = set.live.between.rests.ready.picked.inert i within apart
 
 -- once the leasts are freed
-pub freed_is : (old new : Scene) (count : ℕ) → IsSet old count → IsDry old.stack.states → Frees old new → DrawsAlone old new → new.live ≡ true → IsFreed new count 0
+pub freed_is : (old new : Scene) (count : ℕ) → IsSet old count → IsDry old.stack.states → FreesLeasts old new → DrawsAlone old new → new.live ≡ true → IsFreed new count 0
 freed_is old new count set dry frees draws live = record {
   live = record { between = frees.between; live = live };
   consumers = ap (λ (stack : Stack). length stack.picks) draws.stack ∙ set.consumers;
@@ -219,7 +219,7 @@ kind_of None = Order
 kind_of (Some kind) = kind
 
 -- those that were begun there keep entries one by one
-pub orders_begun : (picks : List ℕ) (kinds : List Kind) (states states' : List State) → ArePlacesOfFour picks kinds → Begins picks kinds states states' → AreOrders states'
+pub orders_begun : (picks : List ℕ) (kinds : List Kind) (states states' : List State) → ArePlacesOfFour picks kinds → BeginsPicked picks kinds states states' → AreOrders states'
 orders_begun picks kinds states states' places begins i within kind is =
     let before : i < length states = let consumers = begins.consumers in omega arith in
     orders_at (place_of picks i) before

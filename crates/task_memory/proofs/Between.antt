@@ -5,14 +5,14 @@ use Rattle.std.proofs.lemmas.List.Elements.{All-nil}
 use Rattle.std.proofs.lemmas.List.{length-set, get_or-set_other}
 use Rattle.aggregate.specs.declared.kind.Kind.{Kind}
 use Rattle.aggregate.specs.Totals.{Entry}
-use Rattle.row_page.specs.Pages.{PageView}
+use Rattle.row_page.specs.Pages.{PageView, empty_page}
 use Rattle.run_file.specs.declared.run.Run.{Run}
 use Rattle.consumer_trait.specs.Members.{state_at}
 use Rattle.task_memory.specs.declared.ask.Ask.{Ask}
 use Rattle.task_memory.specs.Asking.{Keeps}
 use Rattle.task_memory.specs.Feeding.{FedTo, Raises}
 use Rattle.task_memory.specs.Pauses.{AllSame}
-use Rattle.task_memory.specs.RunLists.{AreBounded, IsBounded}
+use Rattle.task_memory.specs.RunLists.{AreTaskRuns, IsTaskRun}
 use Rattle.task_memory.specs.Scenes.{Drains, GoesOn, IsBetween, Scene, Stays}
 use Rattle.task_memory.specs.Stacks.{IsPick, Stack}
 use Rattle.task_pool.specs.Pools.{IsAtWork}
@@ -44,7 +44,7 @@ raises_same old new place must raises = record {
 
 -- after bytes were got for a consumer
 pub between_told : (old new : Scene) (place must : ℕ) → IsBetween old → Raises old.stack new.stack place must → Stays old new
-    → new.page ≡ record { rows = []; room = 262144 } → IsAtWork new.pool → IsBetween new
+    → new.page ≡ empty_page → IsAtWork new.pool → IsBetween new
 between_told old new place must between raises stays page at_work = record {
   rests = record { ready = raises.ready; page = page; at_work = at_work };
   begun = begun_on old.stack new.stack between.rests.ready.picked.within raises.picks (raises_same old.stack new.stack place must raises) between.begun;
@@ -52,22 +52,22 @@ between_told old new place must between raises stays page at_work = record {
 }
 
 -- after spills
-pub between_kept : (old new : Scene) → IsBetween old → Keeps old.stack new.stack 0 → GoesOn old new → new.page ≡ record { rows = []; room = 262144 } → IsBetween new
+pub between_kept : (old new : Scene) → IsBetween old → Keeps old.stack new.stack 0 → GoesOn old new → new.page ≡ empty_page → IsBetween new
 between_kept old new between keeps goes page = record {
   rests = record { ready = keeps.ready; page = page; at_work = goes.pool.at_work };
   begun = begun_on old.stack new.stack between.rests.ready.picked.within keeps.picks goes.same between.begun;
   holds = omega (arith, between.holds, keeps.balance, goes.stays.leasts, goes.stays.roomed);
 }
 
-none_bounded : (runs : List (List Run)) (place : ℕ) → AreBounded runs → AreBounded (set runs place [])
+none_bounded : (runs : List (List Run)) (place : ℕ) → AreTaskRuns runs → AreTaskRuns (set runs place [])
 none_bounded runs place bounded i = elim (at_or_not i place) [
-  | inl here ↦ rw here (rw (none_left runs place) (All-nil IsBounded))
+  | inl here ↦ rw here (rw (none_left runs place) (All-nil IsTaskRun))
   | inr other ↦ rw (get_or-set_other runs place i [] [] other) (bounded i)
 ]
 
 -- after a consumer was fed
 pub between_fed : (old new : Scene) (place : ℕ) (entry : Entry) → IsBetween old → FedTo old.stack new.stack place entry → Stays old new
-    → new.page ≡ record { rows = []; room = 262144 } → IsAtWork new.pool → IsBetween new
+    → new.page ≡ empty_page → IsAtWork new.pool → IsBetween new
 between_fed old new place entry between fed stays page at_work =
     let kinds : (i : ℕ) → i < length old.stack.states → (state_at new.stack.states i).kind ≡ (state_at old.stack.states i).kind = λ i below. elim (at_or_not i place) [
       | inl here ↦ rw here fed.takes.kind
@@ -90,7 +90,7 @@ between_taken mid runs picks resting asks deepest page place between is_runs is_
       rests = record {
         ready = record {
           lengths = ap (λ (lists : List (List Run)). length lists) is_runs ∙ length-set mid.stack.runs place [] ∙ ready.lengths;
-          bounded = subst (λ (lists : List (List Run)). AreBounded lists) (sym is_runs) (none_bounded mid.stack.runs place ready.bounded);
+          bounded = subst (λ (lists : List (List Run)). AreTaskRuns lists) (sym is_runs) (none_bounded mid.stack.runs place ready.bounded);
           picked = rw is_picks ready.picked;
           begun = ready.begun;
           rests = ready.rests;

@@ -8,10 +8,10 @@ use Rattle.consumer_trait.specs.Members.{blank, state_at}
 use Rattle.task_memory.specs.declared.ask.Ask.{Ask}
 use Rattle.task_memory.specs.declared.spills.Spills.{Spills}
 use Rattle.task_pool.specs.Accounts.{Held, less_by}
-use Rattle.task_memory.specs.Asks.{ask_at, top_of, pending, pending_of, Tries}
+use Rattle.task_memory.specs.Asks.{ask_at, top_of, held_for, pending_of, Tries}
 use Rattle.task_memory.specs.RunLists.{lists_of}
 use Rattle.task_memory.specs.Stacks.{Stack, stack_of, IsStack, IsTried, IsDry, is_rest, spilling, spills_of, resting_of}
-use Rattle.task_memory.specs.Serving.{Moves, Serves}
+use Rattle.task_memory.specs.Serving.{KeepsInSteps, Serves}
 use Rattle.task_memory.specs.Asking.{IsReady, IsOutOfRoom, Keeps, Opens}
 use Rattle.task_memory.proofs.Keeping.{kept_self}
 use Rattle.task_memory.proofs.Holding.{keeps_runs_self}
@@ -93,7 +93,7 @@ opened_stack states files account old new count ask ready fresh consumers opens 
 pub record IsBegun (old new : Stack) : Type 0 where
   pub stack : IsStack new
   pub tried : IsTried new
-  pub moves : Moves old new
+  pub moves : KeepsInSteps old new
   pub one : length new.asks ≡ 1
 
 begun_at : (scene : Stack) (ask : Ask) (account : Held) (asks : List Ask) → Tried (single scene ask) (record (single scene ask) { account = account; asks = asks }) → IsBegun (single scene ask) (record (single scene ask) { account = account; asks = asks })
@@ -137,13 +137,13 @@ rest_is : (stage : Stage) → spilling stage ≡ 0 → stage ≡ Rest
 rest_is Rest none = refl
 rest_is (Spill progress) none = absurd (omega arith)
 
-pending_single : (asks : List Ask) → length asks ≡ 1 → pending_of asks ≡ pending (ask_at asks 0)
+pending_single : (asks : List Ask) → length asks ≡ 1 → pending_of asks ≡ held_for (ask_at asks 0)
 pending_single [] one = absurd (omega arith)
 pending_single (ask ∷ []) one = omega arith
 pending_single (ask ∷ (next ∷ rest)) one = absurd (omega arith)
 
 -- what came of an ask, before what it got is given back or told
-pub served_keeps : (ready served : Stack) (ask : Ask) → IsNewAsk ask → Moves (single ready ask) served → IsStack served → length served.asks ≡ 1 → Keeps ready served (ask_at served.asks 0).got
+pub served_keeps : (ready served : Stack) (ask : Ask) → IsNewAsk ask → KeepsInSteps (single ready ask) served → IsStack served → length served.asks ≡ 1 → Keeps ready served (ask_at served.asks 0).got
 served_keeps ready served ask fresh moves stack one =
     let pending_one = pending_single served.asks one in
     let freed : (ask_at served.asks 0).freed ≡ 0 = moves.freed ∙ fresh.freed in
@@ -171,7 +171,7 @@ served_keeps ready served ask fresh moves stack one =
 pub record IsAnswered (ready served : Stack) (ask : Ask) : Type 0 where
   pub stack : IsStack served
   pub tried : IsTried served
-  pub moves : Moves (single ready ask) served
+  pub moves : KeepsInSteps (single ready ask) served
   pub one : length served.asks ≡ 1
   pub dry : (ask_at served.asks 0).got < ask.need → IsDry served.states
 

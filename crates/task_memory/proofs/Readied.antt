@@ -9,14 +9,14 @@ use Rattle.run_file.specs.declared.run.Run.{Run}
 use Rattle.consumer_trait.specs.States.{State, Rest}
 use Rattle.consumer_trait.specs.Members.{state_at}
 use Rattle.task_pool.specs.Accounts.{Held}
-use Rattle.task_memory.specs.RunLists.{runs_at, lists_of, IsBounded}
+use Rattle.task_memory.specs.RunLists.{runs_at, lists_of, IsTaskRun}
 use Rattle.task_memory.specs.Stacks.{stack_of, IsDry, IsPick, Stack, used_by}
 use Rattle.task_memory.specs.Asking.{IsReady}
 use Rattle.task_memory.specs.declared.ask.Ask.{Ask}
 use Rattle.task_memory.specs.declared.spills.Spills.{Spills}
 use Rattle.task_memory.proofs.Places.{at_or_not}
 use Rattle.task_memory.specs.Leasts.{leasts_of}
-use Rattle.task_memory.specs.Starting.{ArePlaces, Begins}
+use Rattle.task_memory.specs.Starting.{ArePlaces, BeginsPicked}
 
 -- where each uses nothing, all do
 zero_used : (states : List State) → ((i : ℕ) → i < length states → (state_at states i).used ≡ 0) → used_by states ≡ 0
@@ -52,7 +52,7 @@ record IsFresh (state : State) : Type 0 where
   pub used : state.used ≡ 0
 
 -- each consumer is fresh, whether it was begun or not
-fresh_at : (picks : List ℕ) (kinds : List Kind) (old new : List State) → Begins picks kinds old new → (i : ℕ) → i < length old → IsFresh (state_at new i)
+fresh_at : (picks : List ℕ) (kinds : List Kind) (old new : List State) → BeginsPicked picks kinds old new → (i : ℕ) → i < length old → IsFresh (state_at new i)
 fresh_at picks kinds old new begins i below = elim (among picks i) [
   | inl pick ↦
       let begun = begins.begun pick.consumer pick.within in
@@ -71,7 +71,7 @@ fresh_at picks kinds old new begins i below = elim (among picks i) [
 ]
 
 -- so none of them has an entry
-pub dry_is : (picks : List ℕ) (kinds : List Kind) (old new : List State) → Begins picks kinds old new → IsDry new
+pub dry_is : (picks : List ℕ) (kinds : List Kind) (old new : List State) → BeginsPicked picks kinds old new → IsDry new
 dry_is picks kinds old new begins = λ i below. (fresh_at picks kinds old new begins i (let consumers = begins.consumers in omega arith)).entries
 
 sum_same : (f g : ℕ → ℕ) (places : List ℕ) → ((j : ℕ) → j < length places → f (slice_index places j) ≡ g (slice_index places j)) → sum_by f places ≡ sum_by g places
@@ -84,7 +84,7 @@ sum_same f g (place ∷ places) same =
     omega (arith, first, rest, before, after)
 
 -- their leasts are what they were
-pub leasts_kept : (picks : List ℕ) (kinds : List Kind) (old new : List State) → Begins picks kinds old new → leasts_of picks new ≡ leasts_of picks old
+pub leasts_kept : (picks : List ℕ) (kinds : List Kind) (old new : List State) → BeginsPicked picks kinds old new → leasts_of picks new ≡ leasts_of picks old
 leasts_kept picks kinds old new begins =
     sum_same (λ i. (state_at new i).least) (λ i. (state_at old i).least) picks (λ j below. ap (λ (state : State). state.least) (begins.begun j below))
 
@@ -95,7 +95,7 @@ no_runs zero i = refl
 no_runs (suc count) zero = refl
 no_runs (suc count) (suc i) = no_runs count i
 
-none_bounded : (runs : List Run) → runs ≡ [] → All IsBounded runs
+none_bounded : (runs : List Run) → runs ≡ [] → All IsTaskRun runs
 none_bounded [] none = λ k default below. absurd (omega arith)
 none_bounded (run ∷ runs) none = absurd (let same : length (run ∷ runs) ≡ 0 = ap (λ (list : List Run). length list) none in omega arith)
 
@@ -107,7 +107,7 @@ pub record IsStarted (stack : Stack) (leasts : ℕ) : Type 0 where
   pub begun : (j : ℕ) → j < length stack.picks → IsSome (state_at stack.states (slice_index stack.picks j)).kind
   pub holds : stack.account.held ≡ leasts + used_by stack.states
 
-pub started_between : (picks : List ℕ) (kinds : List Kind) (old new : List State) (files : Option Files) (account : Held) (spills : Spills) (leasts count : ℕ) → ArePlaces picks kinds old → Begins picks kinds old new → spills.picks.items ≡ picks → lists_of spills.runs.items ≡ replicate count [] → spills.deepest ≡ 0 → spills.asks.items ≡ [] → count ≡ length new → account.held ≡ leasts → account.held ≤ 2 ^ 50 → IsStarted (stack_of new files account spills) leasts
+pub started_between : (picks : List ℕ) (kinds : List Kind) (old new : List State) (files : Option Files) (account : Held) (spills : Spills) (leasts count : ℕ) → ArePlaces picks kinds old → BeginsPicked picks kinds old new → spills.picks.items ≡ picks → lists_of spills.runs.items ≡ replicate count [] → spills.deepest ≡ 0 → spills.asks.items ≡ [] → count ≡ length new → account.held ≡ leasts → account.held ≤ 2 ^ 50 → IsStarted (stack_of new files account spills) leasts
 started_between picks kinds old new files account spills leasts count places begins are none no_depth no_asks each holds small =
     let fresh : (i : ℕ) → i < length new → IsFresh (state_at new i) = λ i below. fresh_at picks kinds old new begins i (let consumers = begins.consumers in omega arith) in
     let nothing : used_by new ≡ 0 = zero_used new (λ i below. (fresh i below).used) in

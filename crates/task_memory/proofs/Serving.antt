@@ -5,11 +5,11 @@ use Rattle.std.proofs.lemmas.List.Sums.{get_or-le-sum_by}
 use Rattle.consumer_trait.specs.States.{State, Stage, Rest, Spill}
 use Rattle.consumer_trait.specs.Members.{blank, state_at}
 use Rattle.task_memory.specs.Stacks.{Stack, IsStack, IsNextForTop, flag_at, is_rest, spilling}
-use Rattle.task_memory.specs.Serving.{Moves, IsServed}
+use Rattle.task_memory.specs.Serving.{KeepsInSteps, IsServed}
 use Rattle.task_memory.proofs.Keeping.{kept_self, keeps_one_trans}
 use Rattle.task_memory.proofs.Holding.{keeps_runs_self, keeps_runs_trans}
 
-pub moves_none : (scene : Stack) → Moves scene scene
+pub moves_none : (scene : Stack) → KeepsInSteps scene scene
 moves_none scene = record {
   consumers = refl;
   picks = refl;
@@ -23,7 +23,7 @@ moves_none scene = record {
   still = λ _. refl;
 }
 
-pub moves_trans : (a b c : Stack) → Moves a b → Moves b c → Moves a c
+pub moves_trans : (a b c : Stack) → KeepsInSteps a b → KeepsInSteps b c → KeepsInSteps a c
 moves_trans a b c first then = record {
   consumers = then.consumers ∙ first.consumers;
   picks = then.picks ∙ first.picks;

@@ -6,7 +6,7 @@ use Rattle.task_memory.specs.declared.ask.Ask.{Ask}
 use Rattle.task_memory.specs.Asking.{AddsFewRuns, SpillsWhenShort}
 use Rattle.task_memory.specs.Asks.{Settles, Tries, ask_at, lacking, no_ask, top_of}
 use Rattle.task_memory.specs.RunLists.{runs_in}
-use Rattle.task_memory.specs.Serving.{AddsRunsWithin, Moves}
+use Rattle.task_memory.specs.Serving.{AddsRunsWithin, KeepsInSteps}
 use Rattle.task_memory.specs.Stacks.{Stack}
 use Rattle.task_memory.proofs.Opening.{IsBegun, single}
 use Rattle.task_memory.proofs.Places.{less_or_not}
@@ -44,7 +44,7 @@ settles_counted old new asks asks' given some settles =
 
 -- the first attempt fell short, and the ask was served
 pub short_first : (ready begun served : Stack) (ask : Ask) (wish : ℕ) → IsBegun (single ready ask) begun → IsCounted ready.account begun.account (ask ∷ []) begun.asks → (ask_at begun.asks 0).got < ask.need
-    → Moves begun served → SpillsWhenShort ready served
+    → KeepsInSteps begun served → SpillsWhenShort ready served
 short_first ready begun served ask wish is counted less moves =
     let need = is.moves.need in
     let top : top_of begun.asks ≡ ask_at begun.asks 0 = ap (λ n. ask_at begun.asks (n - 1)) is.one in

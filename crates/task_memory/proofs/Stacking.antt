@@ -10,9 +10,9 @@ use Rattle.consumer_trait.specs.States.{State, Stage, Rest, Spill}
 use Rattle.consumer_trait.specs.Members.{blank, state_at}
 use Rattle.task_memory.specs.declared.ask.Ask.{Ask}
 use Rattle.task_pool.specs.Accounts.{less_by}
-use Rattle.task_memory.specs.Asks.{no_ask, ask_at, pending, pending_of}
-use Rattle.task_memory.specs.Pauses.{AsksFor, EndsWith}
-use Rattle.task_memory.specs.Stacks.{Stack, IsStack, Stands, IsCandidate, flag_at, is_rest, spilling, resting_of, spills_of, used_by, entries_in}
+use Rattle.task_memory.specs.Asks.{no_ask, ask_at, held_for, pending_of}
+use Rattle.task_memory.specs.Pauses.{AsksFor, EndsInOneRun}
+use Rattle.task_memory.specs.Stacks.{Stack, IsStack, IsAmidSpill, IsCandidate, flag_at, is_rest, spilling, resting_of, spills_of, used_by, entries_in}
 use Rattle.task_memory.specs.Serving.{KeepsRuns}
 use Rattle.task_memory.proofs.Places.{last_or_before}
 use Rattle.task_memory.proofs.Keeping.{kept_ask, kept_end, kept_told, kept_all, picks_kept, begun_kept}
@@ -90,7 +90,7 @@ push_ask scene place state bytes given stack within candidate asks_for =
     let consumers : length states' ≡ length states = length-set states place state in
     let fits : spills_of states' ≤ length states' = spills_le states' in
     let kept = kept_all states place state within (kept_ask old state 0 bytes given candidate.1 asks_for) in
-    let pend : pending_of asks' ≡ pending_of asks + given = let sum = sum_by-append pending asks (ask ∷ []) in omega (arith, sum) in
+    let pend : pending_of asks' ≡ pending_of asks + given = let sum = sum_by-append held_for asks (ask ∷ []) in omega (arith, sum) in
     let earlier : (k : ℕ) → k < length asks → ask_at asks' k ≡ ask_at asks k = λ k below. get_or_append_left asks (ask ∷ []) no_ask k below in
     let last : ask_at asks' (length asks) ≡ ask = get_or_push asks ask no_ask (length asks) refl in
     let here : state_at states' place ≡ state = get_or-set_same states place state blank within in
@@ -133,7 +133,7 @@ push_ask scene place state bytes given stack within candidate asks_for =
 abbrev pub ended : Stack → ℕ → State → Option Files → List (List Run) → ℕ → Stack
 ended scene place state files runs given = record scene { states = set scene.states place state; files = files; account = less_by scene.account given; runs = runs }
 
-pub end_spill : (scene : Stack) (place : ℕ) (state : State) (files : Option Files) (runs : List (List Run)) (run : Option Run) (given : ℕ) → IsStack scene → place < length scene.states → IsCandidate scene.states scene.resting place → EndsWith (state_at scene.states place) state scene.files files run 0 given → KeepsRuns scene.files files scene.states (set scene.states place state) scene.runs runs → IsStack (ended scene place state files runs given)
+pub end_spill : (scene : Stack) (place : ℕ) (state : State) (files : Option Files) (runs : List (List Run)) (run : Option Run) (given : ℕ) → IsStack scene → place < length scene.states → IsCandidate scene.states scene.resting place → EndsInOneRun (state_at scene.states place) state scene.files files run 0 given → KeepsRuns scene.files files scene.states (set scene.states place state) scene.runs runs → IsStack (ended scene place state files runs given)
 end_spill scene place state files runs run given stack within candidate ends keeps =
     let states = scene.states in
     let old = state_at states place in
@@ -169,7 +169,7 @@ end_spill scene place state files runs run given stack within candidate ends kee
 abbrev pub popped : Stack → List Ask → ℕ → State → Option Files → List (List Run) → ℕ → Stack
 popped scene asks place state files runs given = record scene { states = set scene.states place state; files = files; account = less_by scene.account given; runs = runs; resting = set scene.resting place true; asks = asks }
 
-pub pop_ask : (scene : Stack) (asks : List Ask) (ask : Ask) (state : State) (files : Option Files) (runs : List (List Run)) (run : Option Run) (given : ℕ) → IsStack (record scene { asks = asks ++ (ask ∷ []) }) → 1 ≤ length asks → EndsWith (record (state_at scene.states ask.place) { used = (state_at scene.states ask.place).used + ask.got }) state scene.files files run ask.freed given → KeepsRuns scene.files files scene.states (set scene.states ask.place state) scene.runs runs → IsStack (popped scene asks ask.place state files runs given)
+pub pop_ask : (scene : Stack) (asks : List Ask) (ask : Ask) (state : State) (files : Option Files) (runs : List (List Run)) (run : Option Run) (given : ℕ) → IsStack (record scene { asks = asks ++ (ask ∷ []) }) → 1 ≤ length asks → EndsInOneRun (record (state_at scene.states ask.place) { used = (state_at scene.states ask.place).used + ask.got }) state scene.files files run ask.freed given → KeepsRuns scene.files files scene.states (set scene.states ask.place state) scene.runs runs → IsStack (popped scene asks ask.place state files runs given)
 pop_ask scene asks ask state files runs run given stack some ends keeps =
     let place = ask.place in
     let states = scene.states in
@@ -180,14 +180,14 @@ pop_ask scene asks ask state files runs run given stack some ends keeps =
     let earlier : (k : ℕ) → k < length asks → ask_at all k ≡ ask_at asks k = λ k below. get_or_append_left asks (ask ∷ []) no_ask k below in
     let last : ask_at all (length asks) ≡ ask = get_or_push asks ask no_ask (length asks) refl in
     let within : place < length states = rw last at (stack.within (length asks) some (omega (arith, count))) in
-    let stood : Stands old ask.freed = rw last at (stack.stands (length asks) some (omega (arith, count))) in
+    let stood : IsAmidSpill old ask.freed = rw last at (stack.stands (length asks) some (omega (arith, count))) in
     let rests' : is_rest state.stage ≡ true = ap is_rest ends.rest in
     let sums = sums_at states place state within in
     let one : spilling old.stage ≡ 1 = one_spills old.stage stood.spills in
     let none' : spilling state.stage ≡ 0 = none_spills state.stage rests' in
     let consumers : length states' ≡ length states = length-set states place state in
     let kept = kept_all states place state within (kept_told old state scene.files files run ask.got ask.freed given stood.entries stood.spills ends) in
-    let pend : pending_of all ≡ pending_of asks + (ask.got + ask.freed) = let sum = sum_by-append pending asks (ask ∷ []) in omega (arith, sum) in
+    let pend : pending_of all ≡ pending_of asks + (ask.got + ask.freed) = let sum = sum_by-append held_for asks (ask ∷ []) in omega (arith, sum) in
     let others : (each : ℕ) → each ≢ place → state_at states' each ≡ state_at states each = λ each other. get_or-set_other states place each state blank other in
     let apart : (k : ℕ) → 1 ≤ k → k < length asks → (ask_at asks k).place ≢ place = λ k nested below. rw (earlier k below, last) at (stack.apart k (length asks) nested below (omega (arith, count))) in
     record {
@@ -200,7 +200,7 @@ pop_ask scene asks ask state files runs run given stack some ends keeps =
       count = omega (arith, sums.spills, one, none', stack.count, count);
       within = λ k nested below. let inside : (ask_at asks k).place < length states = rw (earlier k below) at (stack.within k nested (omega (arith, count))) in omega (arith, consumers);
       stands = λ k nested below.
-          let stands : Stands (state_at states (ask_at asks k).place) (ask_at asks k).freed = rw (earlier k below) at (stack.stands k nested (omega (arith, count))) in
+          let stands : IsAmidSpill (state_at states (ask_at asks k).place) (ask_at asks k).freed = rw (earlier k below) at (stack.stands k nested (omega (arith, count))) in
           rw (others (ask_at asks k).place (apart k nested below)) stands;
       apart = λ j k nested later below. rw (earlier k below, earlier j (omega arith)) at (stack.apart j k nested later (omega (arith, count)));
       needs = λ k below. rw (earlier k below) at (stack.needs k (omega (arith, count)));

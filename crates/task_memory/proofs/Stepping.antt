@@ -10,9 +10,9 @@ use Rattle.consumer_trait.specs.States.{State}
 use Rattle.consumer_trait.specs.Members.{blank, state_at}
 use Rattle.task_memory.specs.declared.ask.Ask.{Ask}
 use Rattle.task_pool.specs.Accounts.{Held}
-use Rattle.task_memory.specs.Asks.{no_ask, ask_at, top_of, pending, pending_of, Tries, Settles}
-use Rattle.task_memory.specs.Pauses.{AsksFor, EndsWith}
-use Rattle.task_memory.specs.Stacks.{Stack, IsStack, Stands, IsCandidate, spills_of}
+use Rattle.task_memory.specs.Asks.{no_ask, ask_at, top_of, held_for, pending_of, Tries, Settles}
+use Rattle.task_memory.specs.Pauses.{AsksFor, EndsInOneRun}
+use Rattle.task_memory.specs.Stacks.{Stack, IsStack, IsAmidSpill, IsCandidate, spills_of}
 use Rattle.task_memory.specs.Serving.{AsksAt, EndsAt, KeepsRuns, Steps}
 use Rattle.task_memory.proofs.Holding.{SameEntries, keeps_runs_same, keeps_runs_trans}
 use Rattle.task_memory.proofs.Keeping.{kept_ask, kept_end, kept_told, kept_all}
@@ -42,7 +42,7 @@ step_ask scene account asks place state bytes given stack within candidate asks_
     let stack' = push_ask scene place state bytes given stack within candidate asks_for in
     let tried = tried_for (pushed scene place state bytes given) account asks bytes stack' tries (rw top (omega arith)) (rw top asks_for.some) in
     let first : ask_at more 0 ≡ ask_at scene.asks 0 = get_or_append_left scene.asks (ask ∷ []) no_ask 0 (omega (arith, stack.some)) in
-    let pend : pending_of more ≡ pending_of scene.asks + given = let sum = sum_by-append pending scene.asks (ask ∷ []) in omega (arith, sum) in
+    let pend : pending_of more ≡ pending_of scene.asks + given = let sum = sum_by-append held_for scene.asks (ask ∷ []) in omega (arith, sum) in
     let sums = sums_at states place state within in
     let same : length state.entries ≡ length old.entries = ap (λ (each : State). length each.entries) asks_for.same in
     let fits : spills_of states' ≤ length states' = spills_le states' in
@@ -66,7 +66,7 @@ step_ask scene account asks place state bytes given stack within candidate asks_
     }
 
 -- a spill that began ended
-pub step_end : (scene : Stack) (account : Held) (asks : List Ask) (place : ℕ) (state : State) (files : Option Files) (runs : List (List Run)) (run : Option Run) (given : ℕ) → IsStack scene → place < length scene.states → IsCandidate scene.states scene.resting place → EndsWith (state_at scene.states place) state scene.files files run 0 given → KeepsRuns scene.files files scene.states (set scene.states place state) scene.runs runs → Settles scene.account account scene.asks asks given → Steps scene (record (ended scene place state files runs given) { account = account; asks = asks })
+pub step_end : (scene : Stack) (account : Held) (asks : List Ask) (place : ℕ) (state : State) (files : Option Files) (runs : List (List Run)) (run : Option Run) (given : ℕ) → IsStack scene → place < length scene.states → IsCandidate scene.states scene.resting place → EndsInOneRun (state_at scene.states place) state scene.files files run 0 given → KeepsRuns scene.files files scene.states (set scene.states place state) scene.runs runs → Settles scene.account account scene.asks asks given → Steps scene (record (ended scene place state files runs given) { account = account; asks = asks })
 step_end scene account asks place state files runs run given stack within candidate ends keeps settles =
     let states = scene.states in
     let old = state_at states place in
@@ -95,7 +95,7 @@ step_end scene account asks place state files runs run given stack within candid
     }
 
 -- the innermost ask was answered and its consumer's spill ended
-pub step_pop : (scene : Stack) (account : Held) (front asks : List Ask) (ask : Ask) (state : State) (files : Option Files) (runs : List (List Run)) (run : Option Run) (given : ℕ) → IsStack (record scene { asks = front ++ (ask ∷ []) }) → 1 ≤ length front → EndsWith (record (state_at scene.states ask.place) { used = (state_at scene.states ask.place).used + ask.got }) state scene.files files run ask.freed given → KeepsRuns scene.files files scene.states (set scene.states ask.place state) scene.runs runs → Settles scene.account account front asks given → Steps (record scene { asks = front ++ (ask ∷ []) }) (record (popped scene front ask.place state files runs given) { account = account; asks = asks })
+pub step_pop : (scene : Stack) (account : Held) (front asks : List Ask) (ask : Ask) (state : State) (files : Option Files) (runs : List (List Run)) (run : Option Run) (given : ℕ) → IsStack (record scene { asks = front ++ (ask ∷ []) }) → 1 ≤ length front → EndsInOneRun (record (state_at scene.states ask.place) { used = (state_at scene.states ask.place).used + ask.got }) state scene.files files run ask.freed given → KeepsRuns scene.files files scene.states (set scene.states ask.place state) scene.runs runs → Settles scene.account account front asks given → Steps (record scene { asks = front ++ (ask ∷ []) }) (record (popped scene front ask.place state files runs given) { account = account; asks = asks })
 step_pop scene account front asks ask state files runs run given stack some ends keeps settles =
     let place = ask.place in
     let states = scene.states in
@@ -104,12 +104,12 @@ step_pop scene account front asks ask state files runs run given stack some ends
     let count : length all ≡ length front + 1 = length-append front (ask ∷ []) in
     let last : ask_at all (length front) ≡ ask = get_or_push front ask no_ask (length front) refl in
     let within : place < length states = rw last at (stack.within (length front) some (omega (arith, count))) in
-    let stood : Stands old ask.freed = rw last at (stack.stands (length front) some (omega (arith, count))) in
+    let stood : IsAmidSpill old ask.freed = rw last at (stack.stands (length front) some (omega (arith, count))) in
     let consumers : length (set states place state) ≡ length states = length-set states place state in
     let stack' = pop_ask scene front ask state files runs run given stack some ends keeps in
     let tried = settled_for (popped scene front place state files runs given) scene.account account asks given refl stack' settles in
     let sums = sums_at states place state within in
-    let pend : pending_of all ≡ pending_of front + (ask.got + ask.freed) = let sum = sum_by-append pending front (ask ∷ []) in omega (arith, sum) in
+    let pend : pending_of all ≡ pending_of front + (ask.got + ask.freed) = let sum = sum_by-append held_for front (ask ∷ []) in omega (arith, sum) in
     let first : ask_at all 0 ≡ ask_at front 0 = get_or_append_left front (ask ∷ []) no_ask 0 (omega (arith, some)) in
     let less = (ends.some stood.entries).1 in
     record {
@@ -167,7 +167,7 @@ next_pop scene told states files runs account front asks ask given run stack nes
     let within : place < length scene.states = rw top at (stack.within (length scene.asks - 1) (omega arith) (omega arith)) in
     let some : 1 ≤ length front = rw is_front (omega (arith, length-take (length scene.asks - 1) scene.asks)) in
     let here : state_at told place ≡ raised = ap (λ list. state_at list place) is_told ∙ get_or-set_same scene.states place raised blank within in
-    let ends : EndsWith raised (state_at states place) scene.files files run ask.freed given = subst (λ (each : State). EndsWith each (state_at states place) scene.files files run ask.freed given) here spills.ends in
+    let ends : EndsInOneRun raised (state_at states place) scene.files files run ask.freed given = subst (λ (each : State). EndsInOneRun each (state_at states place) scene.files files run ask.freed given) here spills.ends in
     let after : states ≡ set scene.states place (state_at states place) = spills.others ∙ ap (λ list. set list place (state_at states place)) is_told ∙ set-set scene.states place raised (state_at states place) in
     let told_members : length told ≡ length scene.states = ap (λ (list : List State). length list) is_told ∙ length-set scene.states place raised in
     let told_same : (i : ℕ) → i < length scene.states → SameEntries (state_at scene.states i) (state_at told i) = λ i below. subst (λ (list : List State). SameEntries (state_at scene.states i) (state_at list i)) (sym is_told) (same_entries_set scene.states place raised refl refl i below) in

@@ -4,7 +4,7 @@ use Rattle.std.proofs.lemmas.List.{get_or-set_same, get_or-set_other, length-set
 use Rattle.std.proofs.lemmas.List.Sums.{sum_by-set}
 use Rattle.task_memory.specs.declared.ask.Ask.{Ask}
 use Rattle.task_pool.specs.Accounts.{Held, Grants, WasShort, less_by}
-use Rattle.task_memory.specs.Asks.{no_ask, ask_at, top_of, pending, pending_of, Tries, Settles}
+use Rattle.task_memory.specs.Asks.{no_ask, ask_at, top_of, held_for, pending_of, Tries, Settles}
 use Rattle.task_memory.specs.Stacks.{Stack, IsStack, IsTried}
 use Rattle.task_memory.proofs.Places.{same_field, at_or_not, less_or_not}
 
@@ -36,7 +36,7 @@ tried_at scene account want granted stack grants enough some =
     let need : (k : ℕ) → (ask_at asks' k).need ≡ (ask_at asks k).need = λ k. same_field (λ (each : Ask). each.need) asks last raised no_ask k refl in
     let freed : (k : ℕ) → (ask_at asks' k).freed ≡ (ask_at asks k).freed = λ k. same_field (λ (each : Ask). each.freed) asks last raised no_ask k refl in
     let top : ask_at asks' last ≡ raised = get_or-set_same asks last raised no_ask within in
-    let sum : pending_of asks' + pending ask ≡ pending_of asks + pending raised = sum_by-set pending asks last raised no_ask within in
+    let sum : pending_of asks' + held_for ask ≡ pending_of asks + held_for raised = sum_by-set held_for asks last raised no_ask within in
     record {
       stack = record {
         some = omega (arith, stack.some, count);

@@ -8,21 +8,21 @@ use Rattle.task_memory.specs.declared.spills.Spills.{Spills}
 use Rattle.task_memory.specs.declared.obtained.Obtained.{Obtained}
 use Rattle.task_memory.specs.declared.obtained.Obtained.TheVariants.{Got, NoRoom}
 use Rattle.task_pool.specs.Accounts.{WasShort}
-use Rattle.task_memory.specs.RunLists.{AreBounded, runs_in}
-use Rattle.task_memory.specs.Stacks.{Stack, ArePicks, AreBegun, IsCounted, IsDry, used_by}
+use Rattle.task_memory.specs.RunLists.{AreTaskRuns, runs_in}
+use Rattle.task_memory.specs.Stacks.{Stack, ArePicks, AreBegun, CountsSpills, IsDry, used_by}
 use Rattle.task_memory.specs.Serving.{KeepsOne, KeepsRuns}
 
 -- all consumers rest, those with an entry were begun, and what they use is held; and the most spills that were in progress at once
 -- are counted, and were never more than consumers
 pub record IsReady (scene : Stack) : Type 0 where
   pub lengths : length scene.runs ≡ length scene.states
-  pub bounded : AreBounded scene.runs
+  pub bounded : AreTaskRuns scene.runs
   pub picked : ArePicks scene.picks scene.states
   pub begun : AreBegun scene.states
   pub rests : (i : ℕ) → i < length scene.states → (state_at scene.states i).stage ≡ Rest
   pub covered : used_by scene.states ≤ scene.account.held
   pub small : scene.account.held ≤ 2 ^ 50
-  pub counted : IsCounted scene
+  pub counted : CountsSpills scene
   pub shallow : scene.deepest ≤ length scene.states
 
 -- the stack of one ask over so many resting consumers

@@ -17,12 +17,12 @@ abbrev pub top_of : List Ask → Ask
 top_of asks = ask_at asks (length asks - 1)
 
 -- the bytes that the task holds for an ask: what was got for it, and what its consumer's spill gave back before it asked
-abbrev pub pending : Ask → ℕ
-pending ask = ask.got + ask.freed
+abbrev pub held_for : Ask → ℕ
+held_for ask = ask.got + ask.freed
 
 -- the same of all asks
 abbrev pub pending_of : List Ask → ℕ
-pending_of asks = sum_by pending asks
+pending_of asks = sum_by held_for asks
 
 -- 1 where the ask lacks bytes
 abbrev pub lacking : Ask → ℕ

@@ -13,6 +13,7 @@ fault_by (run_fault.DiskFault disk) = fault.DiskFault
 fault_by (run_fault.Damaged damage) = fault.NoMemory
 fault_by run_fault.NoMemory = fault.NoMemory
 
+-- what a fault of spilling is to an ask
 abbrev pub task_fault_by : Fault → TaskFault
 task_fault_by fault.DiskFault = DiskFault
 task_fault_by fault.NoMemory = NoMemory

@@ -1,8 +1,8 @@
 -- A task's memory as its callers see it, and what each call keeps of it, also one that gives up.
 -- This project's own.
-use Rattle.std.specs.Prelude.{◌≡◌, ℕ, ◌+◌, ◌≤◌, ◌<◌, Bool, true, [], IsSome, Result, is_ok, OnErr, length, slice_index}
+use Rattle.std.specs.Prelude.{◌≡◌, ℕ, ◌+◌, ◌≤◌, ◌<◌, Bool, true, IsSome, Result, is_ok, OnErr, length, slice_index}
 use Rattle.aggregate.specs.Totals.{Entry}
-use Rattle.row_page.specs.Pages.{PageView}
+use Rattle.row_page.specs.Pages.{PageView, empty_page}
 use Rattle.fault_count.specs.Faults.{HasCauseAt}
 use Rattle.consumer_trait.specs.States.{room}
 use Rattle.consumer_trait.specs.Calls.{charge}
@@ -13,7 +13,7 @@ use Rattle.task_memory.specs.declared.fault.TaskFault.{TaskFault}
 use Rattle.task_memory.specs.declared.fault.TaskFault.TheVariants.{DiskFault}
 use Rattle.task_memory.specs.Disks.{LeavesDisk}
 use Rattle.task_memory.specs.Pauses.{AllSame}
-use Rattle.task_memory.specs.Stacks.{IsCounted, Stack, used_by}
+use Rattle.task_memory.specs.Stacks.{CountsSpills, Stack, used_by}
 use Rattle.task_memory.specs.Asking.{IsReady}
 use Rattle.task_memory.specs.Feeding.{OthersSame}
 
@@ -44,7 +44,7 @@ place_in scene consumer = slice_index scene.stack.picks consumer
 -- all rest, and the page is empty
 pub record IsResting (scene : Scene) : Type 0 where
   pub ready : IsReady scene.stack
-  pub page : scene.page ≡ record { rows = []; room = 262144 }
+  pub page : scene.page ≡ empty_page
   pub at_work : IsAtWork scene.pool
 
 -- the memory is ready for a call, and each of the task's consumers was begun. What the task holds is the leasts that aren't
@@ -71,8 +71,9 @@ pub record Stays (old new : Scene) : Type 0 where
 -- where a call gave up amid them
 pub record Deepens (old new : Stack) : Type 0 where
   pub grows : old.deepest ≤ new.deepest
-  pub counts : IsCounted old → IsCounted new
+  pub counts : CountsSpills old → CountsSpills new
 
+-- what a call keeps that feeds no consumer: of the consumers, of the disk, of the pool, and what is lent
 pub record GoesOn (old new : Scene) : Type 0 where
   pub same : AllSame old.stack.states new.stack.states
   pub disk : LeavesDisk old.stack.files new.stack.files old.faults new.faults
@@ -94,6 +95,7 @@ AsksNothing old new place entry =
     let state = state_at old.stack.states place in
     charge state.kind state.entries entry ≤ room state → own_entries new.pool.worker ≡ own_entries old.pool.worker
 
+-- what a call keeps that may feed an entry; where the consumer has room for it, the pool isn't asked
 pub record FeedsOn (old new : Scene) (place : ℕ) (entry : Entry) : Type 0 where
   pub goes : GoesOnBut old new place
   pub still : AsksNothing old new place entry

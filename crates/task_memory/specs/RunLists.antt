@@ -36,12 +36,12 @@ abbrev pub spilled_at : List (List Entry) → ℕ → List Entry
 spilled_at spilled i = slice_index_or spilled i []
 
 -- the greatest cost of an entry in a run's file, in bytes: 24, and the row's two lengths, its key and its value
-abbrev pub IsBounded : Run → Type 0
-IsBounded run = (run.disk ≡ 0) × (run.greatest ≤ 196752)
+abbrev pub IsTaskRun : Run → Type 0
+IsTaskRun run = (run.disk ≡ 0) × (run.greatest ≤ 196752)
 
 -- all runs are so
-abbrev pub AreBounded : List (List Run) → Type 0
-AreBounded runs = (i : ℕ) → All IsBounded (runs_at runs i)
+abbrev pub AreTaskRuns : List (List Run) → Type 0
+AreTaskRuns runs = (i : ℕ) → All IsTaskRun (runs_at runs i)
 
 -- the run stands on the disk with these entries: they ascend by key, and each is well formed for the kind
 pub record IsRunOf (files : Option Files) (kind : Option Kind) (run : Run) (entries : List Entry) : Type 0 where

@@ -7,7 +7,7 @@ use Rattle.consumer_trait.specs.States.{IsEntryBy}
 use Rattle.consumer_trait.specs.Members.{state_at}
 use Rattle.task_pool.specs.Asks.{FirstAsks}
 use Rattle.task_memory.specs.declared.fault.TaskFault.{TaskFault}
-use Rattle.task_memory.specs.RunLists.{IsBounded}
+use Rattle.task_memory.specs.RunLists.{IsTaskRun}
 use Rattle.task_memory.specs.Stacks.{IsDry, IsPick}
 use Rattle.task_memory.specs.Serving.{KeepsOne}
 use Rattle.task_memory.specs.Asking.{AddsFewRuns, SpillsWhenShort}
@@ -18,7 +18,7 @@ pub use Rattle.task_memory.specs.Memories.{AsksNothing, DrawsAlone, Fails, Feeds
 -- Asks
 
 -- at least so many bytes, and so many are welcome
-pub record AreBytes (must wish : ℕ) : Type 0 where
+pub record CanBeAsked (must wish : ℕ) : Type 0 where
   pub some : 1 ≤ must
   pub ordered : must ≤ wish
   pub most : wish ≤ 2 ^ 50
@@ -38,6 +38,7 @@ pub record LacksBytes (old new : Scene) (must wish asked : ℕ) : Type 0 where
   pub no_room : HasNoRoom old.stack new.stack must asked
   pub first : FirstAsks wish old.pool.worker new.pool.worker
 
+-- there is no room for the bytes that an ask has to get
 abbrev pub RefusesAsk : {T : Type 0} → Scene → Scene → ℕ → ℕ → Result T TaskFault → Type 0
 RefusesAsk old new must wish result = IfNoRoom result new.stack.account (LacksBytes old new must wish)
 
@@ -55,6 +56,11 @@ pub record Feeds (old new : Scene) (place : ℕ) (entry : Entry) : Type 0 where
 abbrev pub IsCharged : Scene → Entry → Type 0
 IsCharged scene entry = scene.leasts + cost entry ≤ scene.pool.account.peak
 
+-- the consumer at a place was fed an entry, and was charged for it
+pub record FeedsCharged (old new : Scene) (place : ℕ) (entry : Entry) : Type 0 where
+  pub fed : Feeds old new place entry
+  pub charged : IsCharged new entry
+
 -- there is no room for an entry
 abbrev pub RefusesEntry : {T : Type 0} → Scene → Scene → Entry → Result T TaskFault → Type 0
 RefusesEntry old new entry result = IfNoRoom result new.stack.account (LacksRoom old.stack new.stack entry)
@@ -66,6 +72,11 @@ pub record CanFeed (scene : Scene) (place : ℕ) (entry : Entry) : Type 0 where
   pub formed : IsEntryBy (state_at scene.stack.states place).kind entry
 
 -- Bytes beside the consumers
+
+-- all consumers are drained, and the leasts are freed
+pub record IsEmptied (scene : Scene) : Type 0 where
+  pub dry : IsDry scene.stack.states
+  pub freed : scene.leasts ≡ 0
 
 -- so many bytes were got as room
 pub record Rooms (old new : Scene) (must wish got : ℕ) : Type 0 where
@@ -82,6 +93,7 @@ pub record LacksRoomFor (old new : Scene) (must wish asked : ℕ) : Type 0 where
   pub dry : IsDry new.stack.states
   pub first : FirstAsks wish old.pool.worker new.pool.worker
 
+-- there is no room for so many bytes beside the consumers
 abbrev pub RefusesRoom : {T : Type 0} → Scene → Scene → ℕ → ℕ → Result T TaskFault → Type 0
 RefusesRoom old new must wish result = IfNoRoom result new.stack.account (LacksRoomFor old new must wish)
 
@@ -92,7 +104,7 @@ pub record GivesBack (old new : Scene) (bytes : ℕ) : Type 0 where
   pub between : IsBetween new
 
 -- the leasts were freed
-pub record Frees (old new : Scene) : Type 0 where
+pub record FreesLeasts (old new : Scene) : Type 0 where
   pub leasts : new.leasts ≡ 0
   pub roomed : new.roomed ≡ old.roomed
   pub between : IsBetween new
@@ -104,7 +116,7 @@ pub record Drains (old new : Scene) (place : ℕ) (taken : List Run) : Type 0 wh
   pub empty : (state_at new.stack.states place).entries ≡ []
   pub kept : (i : ℕ) → i < length old.stack.states → KeepsOne (state_at old.stack.states i) (state_at new.stack.states i)
   pub picks : new.stack.picks ≡ old.stack.picks
-  pub bounded : All IsBounded taken
+  pub bounded : All IsTaskRun taken
   pub totals : DrainsTotals old.stack new.stack place taken
   pub new_files : TakesNew old.stack place taken
   pub only : AddsOnly old.stack new.stack place taken

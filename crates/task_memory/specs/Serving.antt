@@ -11,9 +11,9 @@ use Rattle.task_memory.specs.declared.spill.Pause.{Pause}
 use Rattle.task_memory.specs.declared.spill.Pause.TheVariants.{Asks, Ended}
 use Rattle.task_memory.specs.Asks.{ask_at, lacking, pending_of, top_of}
 use Rattle.task_memory.specs.Disks.{KeepsFiles}
-use Rattle.task_memory.specs.RunLists.{runs_at, runs_in, AreBounded, KeepTotals}
+use Rattle.task_memory.specs.RunLists.{runs_at, runs_in, AreTaskRuns, KeepTotals}
 use Rattle.task_memory.specs.Writing.{AddedAreNew, OnlyAdds}
-use Rattle.task_memory.specs.Pauses.{SameConsumer, AsksFor, EndsWith}
+use Rattle.task_memory.specs.Pauses.{SameConsumer, AsksFor, EndsInOneRun}
 use Rattle.task_memory.specs.Stacks.{Stack, IsStack, IsTried, IsDry, used_by, entries_in}
 
 -- each consumer has the runs that it had, and maybe more
@@ -24,7 +24,7 @@ RunsGrow runs runs' = (i : ℕ) → IsPrefix (runs_at runs i) (runs_at runs' i)
 -- there; a consumer that wasn't begun, or has no entry in memory, gets no run
 pub record KeepsRuns (files files' : Option Files) (states states' : List State) (runs runs' : List (List Run)) : Type 0 where
   pub lengths : length runs' ≡ length runs
-  pub bounded : AreBounded runs → AreBounded runs'
+  pub bounded : AreTaskRuns runs → AreTaskRuns runs'
   pub grow : RunsGrow runs runs'
   pub totals : KeepTotals files files' states states' runs runs'
   pub stay : KeepsFiles files files'
@@ -42,7 +42,7 @@ pub record AsksAt (files files' : Option Files) (states states' : List State) (r
 
 -- a spill of the consumer at a place ended
 pub record EndsAt (files files' : Option Files) (states states' : List State) (runs runs' : List (List Run)) (i before given : ℕ) (run : Option Run) : Type 0 where
-  pub ends : EndsWith (state_at states i) (state_at states' i) files files' run before given
+  pub ends : EndsInOneRun (state_at states i) (state_at states' i) files files' run before given
   pub others : OnlyAt states states' i
   pub kept : KeepsRuns files files' states states' runs runs'
   pub one : runs_in runs' ≤ runs_in runs + 1
@@ -62,7 +62,7 @@ pub record KeepsOne (old new : State) : Type 0 where
   pub covered : costs old.entries ≤ old.used → costs new.entries ≤ new.used
 
 -- what steps keep: the consumers, what was fed to them, the bytes that are held beside theirs, and the outermost ask
-pub record Moves (old new : Stack) : Type 0 where
+pub record KeepsInSteps (old new : Stack) : Type 0 where
   pub consumers : length new.states ≡ length old.states
   pub picks : new.picks ≡ old.picks
   pub kept : (i : ℕ) → i < length old.states → KeepsOne (state_at old.states i) (state_at new.states i)
@@ -92,7 +92,7 @@ remaining scene = 2 * entries_in scene.states + (length scene.states + 1 - lengt
 pub record Steps (old new : Stack) : Type 0 where
   pub stack : IsStack new
   pub tried : IsTried new
-  pub moves : Moves old new
+  pub moves : KeepsInSteps old new
   pub few : GetsFew old new
   pub falls : remaining new < remaining old
 
@@ -110,7 +110,7 @@ StepGives old new false = (new ≡ old) × IsServed old
 pub record Serves (old new : Stack) : Type 0 where
   pub stack : IsStack new
   pub tried : IsTried new
-  pub moves : Moves old new
+  pub moves : KeepsInSteps old new
   pub few : GetsFew old new
   pub served : IsServed new
   pub falls : remaining new ≤ remaining old

@@ -9,7 +9,7 @@ use Rattle.task_memory.specs.declared.ask.Ask.{Ask}
 use Rattle.task_memory.specs.declared.spills.Spills.{Spills}
 use Rattle.task_pool.specs.Accounts.{Held, WasShort}
 use Rattle.task_memory.specs.Asks.{ask_at, top_of, pending_of}
-use Rattle.task_memory.specs.RunLists.{lists_of, AreBounded}
+use Rattle.task_memory.specs.RunLists.{lists_of, AreTaskRuns}
 use Rattle.task_memory.specs.Pauses.{IsUnwritten}
 
 -- the states of the consumers, a disk's files where it shows them, what the task holds, the places of the task's own consumers among all,
@@ -68,6 +68,7 @@ spills_of states = sum_by (λ state. spilling state.stage) states
 
 -- Choosing
 
+-- whether the consumer at a place is marked; none is where there is no consumer
 abbrev pub flag_at : List Bool → ℕ → Bool
 flag_at flags i = slice_index_or flags i false
 
@@ -96,8 +97,8 @@ IsNextForTop states resting asks None = (top_of asks).got < (top_of asks).need �
 -- the stack of asks
 
 -- each spill in progress is counted: it has an ask of its own, beside the outermost
-abbrev pub IsCounted : Stack → Type 0
-IsCounted scene = length scene.asks ≤ scene.deepest + 1
+abbrev pub CountsSpills : Stack → Type 0
+CountsSpills scene = length scene.asks ≤ scene.deepest + 1
 
 -- the task's consumers are among all, and the others have no entry in memory
 pub record ArePicks (picks : List ℕ) (states : List State) : Type 0 where
@@ -115,7 +116,7 @@ abbrev pub AreBegun : List State → Type 0
 AreBegun states = (i : ℕ) → i < length states → (state_at states i).entries ≢ [] → IsSome (state_at states i).kind
 
 -- the consumer is amid a spill that asked for bytes, wrote nothing, and gave so many bytes back
-pub record Stands (state : State) (given : ℕ) : Type 0 where
+pub record IsAmidSpill (state : State) (given : ℕ) : Type 0 where
   pub spills : is_rest state.stage ≡ false
   pub asked : (current state).asked ≡ true
   pub start : IsUnwritten state given
@@ -126,18 +127,18 @@ pub record Stands (state : State) (given : ℕ) : Type 0 where
 pub record IsStack (scene : Stack) : Type 0 where
   pub some : 1 ≤ length scene.asks
   pub lengths : length scene.runs ≡ length scene.states
-  pub bounded : AreBounded scene.runs
+  pub bounded : AreTaskRuns scene.runs
   pub picked : ArePicks scene.picks scene.states
   pub rests : scene.resting ≡ resting_of scene.states
   pub begun : AreBegun scene.states
   pub count : spills_of scene.states + 1 ≡ length scene.asks
   pub within : (k : ℕ) → 1 ≤ k → k < length scene.asks → (ask_at scene.asks k).place < length scene.states
-  pub stands : (k : ℕ) → 1 ≤ k → k < length scene.asks → Stands (state_at scene.states (ask_at scene.asks k).place) (ask_at scene.asks k).freed
+  pub stands : (k : ℕ) → 1 ≤ k → k < length scene.asks → IsAmidSpill (state_at scene.states (ask_at scene.asks k).place) (ask_at scene.asks k).freed
   pub apart : (j k : ℕ) → 1 ≤ j → j < k → k < length scene.asks → (ask_at scene.asks j).place ≢ (ask_at scene.asks k).place
   pub needs : (k : ℕ) → k < length scene.asks → (ask_at scene.asks k).need ≤ 2 ^ 50
   pub covered : used_by scene.states + pending_of scene.asks ≤ scene.account.held
   pub small : scene.account.held ≤ 2 ^ 50
-  pub counted : IsCounted scene
+  pub counted : CountsSpills scene
   pub shallow : scene.deepest ≤ length scene.states
 
 -- where the innermost ask lacks bytes, the last attempt was granted less than it asked, and less than that ask needs; what is

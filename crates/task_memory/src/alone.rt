@@ -3,7 +3,7 @@
 ghost use Rattle.std.specs.Prelude.{◌≡◌, ◌≤◌, ℕ, IfNone, IfOk, IfSome, OnOk};
 ghost use Rattle.fault_count.specs.Faults.{HasCauseAt};
 ghost use Rattle.task_memory.specs.Feeding.{GetsAlone, GetsNothing, IfNoRoom, IsTooLittle};
-ghost use Rattle.task_memory.specs.Scenes.{AreBytes};
+ghost use Rattle.task_memory.specs.Scenes.{CanBeAsked};
 ghost use Rattle.task_pool.specs.Asks.{FirstAsks};
 ghost use Rattle.task_pool.specs.Pools.{Goes, IsAtWork};
 
@@ -19,7 +19,7 @@ pub fn acquire_or_nothing<P: Pool>(
     wish: u64,
 ) -> Result<Option<u64>, AllocError>
     requires at_work { IsAtWork (P.state pool.old) }
-    requires bytes { AreBytes must wish }
+    requires bytes { CanBeAsked must wish }
     ensures gets { IfOk result (λ answer. IfSome answer
         (GetsAlone (P.state pool.old).account (P.state pool.new).account must wish)) }
     ensures too_little { IfOk result (λ answer. IfNone answer
@@ -45,7 +45,7 @@ pub(crate) fn acquire_alone<P: Pool>(
     held: u64,
 ) -> Result<u64, TaskFault>
     requires at_work { IsAtWork (P.state pool.old) }
-    requires bytes { AreBytes must wish }
+    requires bytes { CanBeAsked must wish }
     requires held { held ≡ (P.state pool.old).account.held }
     ensures gets { IfOk result (GetsAlone (P.state pool.old).account (P.state pool.new).account must wish) }
     ensures no_room { IfNoRoom result (P.state pool.new).account

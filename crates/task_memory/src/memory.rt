@@ -34,7 +34,7 @@ pub trait Memory {
     ghost use Rattle.consumer_trait.specs.Members.{state_at};
     ghost use Rattle.consumer_trait.specs.States.{IsEntryBy};
     ghost use Rattle.task_memory.specs.Feeding.{NeverNoRoom, as_entry};
-    ghost use Rattle.task_memory.specs.Scenes.{Acquires, AreBytes, DrawsAlone, Drains, Fails, Feeds, FeedsOn, Frees, GivesBack, GoesOn, IsCharged, IsLive, RefusesAsk, RefusesEntry, RefusesRoom, Rooms, Scene, place_in};
+    ghost use Rattle.task_memory.specs.Scenes.{Acquires, CanBeAsked, Drains, DrawsAlone, Fails, FeedsCharged, FeedsOn, FreesLeasts, GivesBack, GoesOn, IsEmptied, IsLive, RefusesAsk, RefusesEntry, RefusesRoom, Rooms, Scene, place_in};
     ghost use Rattle.task_memory.specs.Stacks.{IsDry};
 
     /// What callers know of it.
@@ -47,7 +47,7 @@ pub trait Memory {
     fn acquire(&mut self, consumer: usize, must: u64, wish: u64) -> Result<u64, TaskFault>
         requires live { IsLive (scene self.old) }
         requires within { consumer < length (scene self.old).stack.picks }
-        requires bytes { AreBytes must wish }
+        requires bytes { CanBeAsked must wish }
         ensures acquires { IfOk result
             (Acquires (scene self.old) (scene self.new) (place_in (scene self.old) consumer) must wish) }
         ensures no_room { RefusesAsk (scene self.old) (scene self.new) must wish result }
@@ -63,9 +63,8 @@ pub trait Memory {
         requires entry { IsEntryBy (state_at (scene self.old).stack.states (place_in (scene self.old) consumer)).kind
             (as_entry key.now value.now) }
         ensures feeds { OnOk result
-            (Feeds (scene self.old) (scene self.new) (place_in (scene self.old) consumer)
+            (FeedsCharged (scene self.old) (scene self.new) (place_in (scene self.old) consumer)
             (as_entry key.now value.now)) }
-        ensures charged { OnOk result (IsCharged (scene self.new) (as_entry key.now value.now)) }
         ensures no_room { RefusesEntry (scene self.old) (scene self.new) (as_entry key.now value.now) result }
         ensures goes { FeedsOn (scene self.old) (scene self.new) (place_in (scene self.old) consumer)
             (as_entry key.now value.now) }
@@ -96,7 +95,7 @@ pub trait Memory {
     fn free_leasts(&mut self) -> Result<(), TaskFault>
         requires live { IsLive (scene self.old) }
         requires drained { IsDry (scene self.old).stack.states }
-        ensures frees { OnOk result (Frees (scene self.old) (scene self.new)) }
+        ensures frees { OnOk result (FreesLeasts (scene self.old) (scene self.new)) }
         ensures wants { IfErr result (λ fault. fault ≡ TaskFault.NoMemory) }
         ensures draws { DrawsAlone (scene self.old) (scene self.new) }
         ensures fails { Fails (scene self.old) (scene self.new) result };
@@ -105,9 +104,8 @@ pub trait Memory {
     /// are freed; answers how many. `NoRoom` where less is granted, which is then given back.
     fn room(&mut self, must: u64, wish: u64) -> Result<u64, TaskFault>
         requires live { IsLive (scene self.old) }
-        requires drained { IsDry (scene self.old).stack.states }
-        requires freed { (scene self.old).leasts ≡ 0 }
-        requires bytes { AreBytes must wish }
+        requires emptied { IsEmptied (scene self.old) }
+        requires bytes { CanBeAsked must wish }
         ensures rooms { IfOk result (Rooms (scene self.old) (scene self.new) must wish) }
         ensures no_room { RefusesRoom (scene self.old) (scene self.new) must wish result }
         ensures draws { DrawsAlone (scene self.old) (scene self.new) }

@@ -19,7 +19,7 @@ pub(crate) trait Obtaining: Memory {
     ghost use Rattle.fault_count.specs.Faults.{HasCauseAt};
     ghost use Rattle.task_memory.specs.declared.fault.TaskFault.TheVariants.{DiskFault};
     ghost use Rattle.task_memory.specs.Inner.{ObtainsFor};
-    ghost use Rattle.task_memory.specs.Scenes.{Acquires, AreBytes, GoesOn, IsBetween, IsResting, RefusesAsk};
+    ghost use Rattle.task_memory.specs.Scenes.{Acquires, CanBeAsked, GoesOn, IsBetween, IsResting, RefusesAsk};
 
     // Gets at least `must` bytes for the consumer at a place, with a first attempt for `wish`. While the grants fall
     // short, consumers are spilled one by one, each chosen by what they use then; a spill may ask for bytes itself,
@@ -27,7 +27,7 @@ pub(crate) trait Obtaining: Memory {
     fn obtain(&mut self, place: usize, must: u64, wish: u64) -> Result<Obtained, Fault>
         requires rests { IsResting (Self.scene self.old) }
         requires within { place < length (Self.scene self.old).stack.states }
-        requires bytes { AreBytes must wish }
+        requires bytes { CanBeAsked must wish }
         ensures obtains { IfOk result (ObtainsFor (Self.scene self.old) (Self.scene self.new) must wish) }
         ensures goes { GoesOn (Self.scene self.old) (Self.scene self.new) }
         ensures cause { HasCauseAt Fault.DiskFault (Self.scene self.old).faults (Self.scene self.new).faults result };
@@ -36,7 +36,7 @@ pub(crate) trait Obtaining: Memory {
     fn acquire_at(&mut self, place: usize, must: u64, wish: u64) -> Result<u64, TaskFault>
         requires between { IsBetween (Self.scene self.old) }
         requires within { place < length (Self.scene self.old).stack.states }
-        requires bytes { AreBytes must wish }
+        requires bytes { CanBeAsked must wish }
         ensures acquires { IfOk result (Acquires (Self.scene self.old) (Self.scene self.new) place must wish) }
         ensures no_room { RefusesAsk (Self.scene self.old) (Self.scene self.new) must wish result }
         ensures goes { GoesOn (Self.scene self.old) (Self.scene self.new) }

@@ -1,6 +1,7 @@
 //! One spill, from where it stands until it asks for bytes or ends.
 
 ghost use Rattle.std.specs.Prelude.{◌≡◌, ◌≢◌, ◌+◌, ◌≤◌, ◌<◌, ◌^◌, ◌++◌, ◌∷◌, [], IsSome, IfOk, OnOk, OnErr, length, map, slice_set};
+ghost use Rattle.row_page.specs.Pages.{empty_page};
 ghost use Rattle.fault_count.specs.Faults.{HasCauseAt};
 ghost use Rattle.task_memory.specs.Disks.{LeavesDisk};
 ghost use Rattle.task_memory.specs.Ending.{runs_after};
@@ -33,12 +34,12 @@ pub(crate) fn run_spill<C: Consumer, D: Disk>(
     before: u64,
 ) -> Result<Pause, Fault>
     requires kind { IsSome (C.state member.old).kind }
-    requires page { page.old ≡ record { rows = []; room = 262144 } }
+    requires page { page.old ≡ empty_page }
     requires start { IsUnwritten (C.state member.old) before }
     requires small { before + (C.state member.old).used ≤ 2 ^ 50 }
     ensures spill { IfOk result
         (Pauses (C.state member.old) (C.state member.new) (D.files disk.old) (D.files disk.new) before) }
-    ensures page { IfOk result (λ _. page.new ≡ record { rows = []; room = 262144 }) }
+    ensures page { IfOk result (λ _. page.new ≡ empty_page) }
     ensures same { SameConsumer (C.state member.old) (C.state member.new) }
     ensures disk { LeavesDisk (D.files disk.old) (D.files disk.new) (D.faults disk.old) (D.faults disk.new) }
     ensures cause { HasCauseAt Fault.DiskFault (D.faults disk.old) (D.faults disk.new) result }
@@ -114,13 +115,13 @@ pub(crate) fn spill_at<C: Consumer, D: Disk>(
     requires lengths { length runs.old.items ≡ length consumers.old }
     requires kind { IsSome (state_at (map C.state consumers.old) place).kind }
     requires some { (state_at (map C.state consumers.old) place).entries ≢ [] }
-    requires page { page.old ≡ record { rows = []; room = 262144 } }
+    requires page { page.old ≡ empty_page }
     requires start { IsUnwritten (state_at (map C.state consumers.old) place) before }
     requires small { before + (state_at (map C.state consumers.old) place).used ≤ 2 ^ 50 }
     ensures spill { IfOk result
         (SpillsAt (D.files disk.old) (D.files disk.new) (map C.state consumers.old) (map C.state consumers.new)
         (lists_of runs.old.items) (lists_of runs.new.items) place before) }
-    ensures page { IfOk result (λ _. page.new ≡ record { rows = []; room = 262144 }) }
+    ensures page { IfOk result (λ _. page.new ≡ empty_page) }
     ensures same { AllSame (map C.state consumers.old) (map C.state consumers.new) }
     ensures disk { LeavesDisk (D.files disk.old) (D.files disk.new) (D.faults disk.old) (D.faults disk.new) }
     ensures cause { HasCauseAt Fault.DiskFault (D.faults disk.old) (D.faults disk.new) result }

@@ -1,12 +1,13 @@
 //! What is kept of a task's spills.
 
 ghost use Rattle.std.specs.Prelude.{◌≡◌, ◌≤◌, ◌<◌, [], length, true, IfOk, OnOk, replicate, slice_set};
+ghost use Rattle.row_page.specs.Pages.{empty_page};
 ghost use Rattle.task_memory.specs.Asking.{Opens};
 ghost use Rattle.task_memory.specs.RunLists.{lists_of, runs_at};
 
 use crate::ask::Ask;
 use crate::fault::Fault;
-use row_page::Page;
+use row_page::{PAGE_ROOM, Page};
 use run_file::Run;
 use std::alloc::{AllocError, Global};
 use std::mem;
@@ -30,7 +31,7 @@ impl Spills {
     pub fn new(alloc: Global, picks: &[usize], count: usize) -> Result<Spills, AllocError>
         ensures picks { IfOk result (λ spills. spills.picks.items ≡ picks.now) }
         ensures runs { IfOk result (λ spills. lists_of spills.runs.items ≡ replicate count []) }
-        ensures page { IfOk result (λ spills. spills.page ≡ record { rows = []; room = 262144 }) }
+        ensures page { IfOk result (λ spills. spills.page ≡ empty_page) }
         ensures asks { IfOk result (λ spills. spills.asks.items ≡ []) }
         ensures deepest { IfOk result (λ spills. spills.deepest ≡ 0) }
     {
@@ -47,7 +48,7 @@ impl Spills {
             resting: Vec::new(alloc),
             asks: Vec::new(alloc),
             deepest: 0,
-            page: Page::new(alloc, 262144),
+            page: Page::new(alloc, PAGE_ROOM),
         })
     }
 

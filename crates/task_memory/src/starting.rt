@@ -1,14 +1,11 @@
 //! A task's memory as it starts.
 
-ghost use Rattle.std.specs.Prelude.{◌≡◌, ◌<◌, [], ℕ, Option, length, map, replicate, slice_index, IfOk};
+ghost use Rattle.std.specs.Prelude.{◌≡◌, ◌<◌, ℕ, length, map, slice_index, IfOk};
 ghost use Rattle.fault_count.specs.Faults.{HasCauseAt};
-ghost use Rattle.spill_disk.specs.Files.{Files};
 ghost use Rattle.task_memory.specs.Feeding.{IfNoRoom};
 ghost use Rattle.task_memory.specs.Leasts.{CannotStart, IsLeastLacking, TakesLeasts, leasts_of};
-ghost use Rattle.task_memory.specs.RunLists.{lists_of};
-ghost use Rattle.task_memory.specs.Scenes.{IsLive};
-ghost use Rattle.task_memory.specs.Starting.{AreAlike, ArePlaces, Begins};
-ghost use Rattle.task_memory.specs.Words.{begun_scene};
+ghost use Rattle.task_memory.specs.Starting.{AreAlike, ArePlaces, HoldsNothing};
+ghost use Rattle.task_memory.specs.Words.{Starts};
 ghost use Rattle.task_pool.specs.Pools.{Goes, IsAtWork};
 
 use crate::alone::acquire_alone;
@@ -68,16 +65,10 @@ pub fn start<C: Consumer, P: Pool>(
     picks: &[usize],
     kinds: &[Kind],
 ) -> Result<Started, TaskFault>
-    requires at_work { IsAtWork (P.state pool.old) }
-    requires nothing { (P.state pool.old).account.held ≡ 0 }
+    requires idle { HoldsNothing (P.state pool.old) }
     requires places { ArePlaces picks.now kinds.now (map C.state consumers.old) }
-    ensures live { IfOk result (λ started. (files : Option Files) (faults : ℕ) → IsLive
-        (begun_scene (map C.state consumers.new) (P.state pool.new) files faults started.spills started.leasts)) }
-    ensures leasts { IfOk result (λ started. started.leasts ≡ leasts_of picks.now (map C.state consumers.old)) }
-    ensures picks { IfOk result (λ started. started.spills.picks.items ≡ picks.now) }
-    ensures runs { IfOk result (λ started. lists_of started.spills.runs.items ≡ replicate (length consumers.old) []) }
-    ensures begun { IfOk result
-        (λ _. Begins picks.now kinds.now (map C.state consumers.old) (map C.state consumers.new)) }
+    ensures starts { IfOk result (Starts picks.now kinds.now (map C.state consumers.old)
+        (map C.state consumers.new) (P.state pool.new) (length consumers.old)) }
     ensures no_room { IfNoRoom result (P.state pool.new).account
         (CannotStart (P.state pool.new).account
         (leasts_of picks.now (map C.state consumers.old)) (map C.state consumers.new)) }

@@ -1,12 +1,12 @@
 -- No call is a way to go on, and so are two calls.
-use Rattle.std.proofs.Common.{◌≡◌, ◌∙◌, arith, ℕ, List, [], ◌∷◌, ◌++◌, Option, Some, None, refl, sym, ap, subst, append_assoc}
+use Rattle.std.proofs.Common.{◌≡◌, ◌∙◌, arith, ℕ, List, [], ◌∷◌, ◌++◌, Option, Some, refl, sym, ap, subst, append_assoc}
 use Rattle.std.proofs.lemmas.List.{append-nil}
 use Rattle.std.specs.List.{AllByRecursion}
 use Rattle.pool_ledger.specs.declared.entry.Entry.{Entry}
 use Rattle.pool_ledger.specs.declared.entry.Event.{Event}
 use Rattle.pool_ledger.specs.declared.entry.Event.TheVariants.{Admit, Attempt, Begin, End, Evict, Pin, Refused, Release, Remove, Unpin}
 use Rattle.turn_lock.specs.Passes.{PassState}
-use Rattle.task_pool.specs.Asks.{AddsAsks, FirstAsks, IsOfTask, first_asked, first_of}
+use Rattle.task_pool.specs.Asks.{AddsAsks, FirstAsks, IsOfTask, first_asked, first_ask_of}
 use Rattle.task_pool.specs.Workers.{SeesMore, own_entries}
 use Rattle.task_pool.specs.Pools.{Goes, IsAtWork, PoolState}
 
@@ -66,7 +66,7 @@ goes_on a b c first then =
     }
 
 -- entries behind others don't change which attempt is the first
-first_more : (event : Event) (asked : ℕ) (one two : Option ℕ) → (one ≡ Some asked → two ≡ Some asked) → first_of event one ≡ Some asked → first_of event two ≡ Some asked
+first_more : (event : Event) (asked : ℕ) (one two : Option ℕ) → (one ≡ Some asked → two ≡ Some asked) → first_ask_of event one ≡ Some asked → first_ask_of event two ≡ Some asked
 first_more (Attempt task n moved evictions got) asked one two so is = is
 first_more (Begin task) asked one two so is = so is
 first_more (Release task n) asked one two so is = so is

@@ -26,14 +26,14 @@ abbrev pub AddsAsks : ℕ → ℕ → List Entry → List Entry → Type 0
 AddsAsks worker task before after = (added : List Entry) × (after ≡ before ++ added) × AllByRecursion (IsOfTask worker task) added
 
 -- the bytes that the first attempt of an event and those behind it asks
-abbrev pub first_of : Event → Option ℕ → Option ℕ
-first_of (Attempt task asked moved evictions got) later = Some asked
-first_of _ later = later
+abbrev pub first_ask_of : Event → Option ℕ → Option ℕ
+first_ask_of (Attempt task asked moved evictions got) later = Some asked
+first_ask_of _ later = later
 
 -- the bytes that the first attempt among these entries asks, if there is one
 abbrev pub first_asked : List Entry → Option ℕ
 first_asked [] = None
-first_asked (entry ∷ more) = first_of entry.event (first_asked more)
+first_asked (entry ∷ more) = first_ask_of entry.event (first_asked more)
 
 -- attempts were added, of which the first asks so many bytes
 abbrev pub FirstAsks : ℕ → PassState → PassState → Type 0

@@ -1,5 +1,5 @@
 -- Each worker may do its tasks at its post.
-use Rattle.std.proofs.Common.{◌≡◌, ◌∙◌, ℕ, zero, suc, ◌<◌, ◌≤◌, ◌^◌, ◌%◌, false, List, [], ◌∷◌, Option, Some, length, map, get_or, refl, sym, ap, subst, arith}
+use Rattle.std.proofs.Common.{◌≡◌, ◌∙◌, ℕ, zero, suc, ◌<◌, ◌≤◌, ◌^◌, ◌%◌, false, List, [], ◌∷◌, Option, Some, length, map, get_or, refl, ap, subst, arith}
 use Rattle.std.specs.Prelude.{All, slice_get}
 use Rattle.spill_disk.specs.Files.{Files}
 use Rattle.consumer_trait.specs.States.{State}

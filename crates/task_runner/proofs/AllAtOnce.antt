@@ -13,7 +13,7 @@ use Rattle.consumer_trait.specs.States.{State}
 use Rattle.worker_threads.specs.Places.{AtEachPlace, AtPlace}
 use Rattle.task_runner.specs.AllWorkers.{Finished, Finishes, Leaves, Reached, faults_of, files_of}
 use Rattle.task_runner.specs.Answers.{HasCauseAmong, NamesPost, NamesSomePost}
-use Rattle.task_runner.specs.AtOnce.{AreAnswers, Ran, GivesFirst}
+use Rattle.task_runner.specs.AtOnce.{AreAnswers, Ran, TellsFirstFault}
 use Rattle.task_runner.specs.PartAnswers.{HoldsOwn}
 use Rattle.task_runner.specs.PassViews.{PassView}
 use Rattle.task_runner.specs.Workers.{IfSound}
@@ -118,7 +118,7 @@ module _ {D C : Type 0} (state : C → State) (files : D → Option Files) (faul
 
   -- ---- a fault of one of them
 
-  pub sound_at_once : {T : Type 0} (result : Result T WorkFault) → GivesFirst told result → (rows : ℕ → List (List (List ℕ)))
+  pub sound_at_once : {T : Type 0} (result : Result T WorkFault) → TellsFirstFault told result → (rows : ℕ → List (List (List ℕ)))
       → ((w : ℕ) → w < count → HoldsOwn (files_of files (slice_get posts w)) given pass count w rows) → IfSound (λ _. ⊤) result
   sound_at_once (Ok all) tells rows holds = tt
   sound_at_once (Err (NoRoom asked held floor)) tells rows holds = tt
@@ -138,7 +138,7 @@ module _ {D C : Type 0} (state : C → State) (files : D → Option Files) (faul
             rw is at never
       ]
 
-  pub room_at_once : {T : Type 0} (result : Result T WorkFault) → GivesFirst told result
+  pub room_at_once : {T : Type 0} (result : Result T WorkFault) → TellsFirstFault told result
       → IfNoRoom result (λ asked held floor. (worker task : ℕ) × (worker < count) × ((any : PassState) → ShowsNoRoom sizes (own_of (get_or news worker any)) task asked held floor))
   room_at_once (Ok all) tells = tt
   room_at_once (Err (DiskFault post)) tells = tt
@@ -167,7 +167,7 @@ module _ {D C : Type 0} (state : C → State) (files : D → Option Files) (faul
   names_fault T place (Damaged damage) below names = omega (arith, below, names)
   names_fault T place NoMemory below names = tt
 
-  pub names_at_once : {T : Type 0} (result : Result T WorkFault) → GivesFirst told result → NamesSomePost count result
+  pub names_at_once : {T : Type 0} (result : Result T WorkFault) → TellsFirstFault told result → NamesSomePost count result
   names_at_once (Ok all) tells = tt
   names_at_once {T = T} (Err fault) tells =
       elim tells [
@@ -186,7 +186,7 @@ module _ {D C : Type 0} (state : C → State) (files : D → Option Files) (faul
   cause_fault T before now (Damaged damage) cause = cause
   cause_fault T before now NoMemory cause = tt
 
-  pub cause_at_once : {T : Type 0} (result : Result T WorkFault) → GivesFirst told result
+  pub cause_at_once : {T : Type 0} (result : Result T WorkFault) → TellsFirstFault told result
       → HasCauseAmong (λ place. faults_of faults (slice_get posts place)) (λ place. faults_of faults (slice_get posts' place)) result
   cause_at_once (Ok all) tells = tt
   cause_at_once {T = T} (Err fault) tells =

@@ -18,9 +18,8 @@ use Rattle.turn_lock.specs.Passes.{PassState}
 use Rattle.consumer_trait.specs.States.{State}
 use Rattle.task_runner.specs.AllWorkers.{Finished, Reached, answers_of, files_of, states_of}
 use Rattle.task_runner.specs.Consumers.{KeepsConsumers}
-use Rattle.task_runner.specs.FedParts.{FeedsFirst}
 use Rattle.task_runner.specs.Gathered.{answer_for, gathered}
-use Rattle.task_runner.specs.PartAnswers.{AnswerParts, HoldsAll, HoldsOwn, answer_place}
+use Rattle.task_runner.specs.PartAnswers.{AnswerParts, HoldsAll, answer_place}
 use Rattle.task_runner.specs.Parts.{IsMade}
 use Rattle.task_runner.specs.Pass.{AnswerAllParts, AnswerEachPart, FeedsParts, LeavesOnlyRuns}
 use Rattle.task_runner.specs.PassViews.{PassView, parts_of, queries_of, rows_over}

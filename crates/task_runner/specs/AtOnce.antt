@@ -79,13 +79,13 @@ pub record AreAnswers (told : List (Result (Vec (Option Run)) WorkFault)) (all :
   pub each : (k : ℕ) → k < length told → (answers : Vec (Option Run)) × (slice_get told k ≡ Some (Ok answers)) × (answers_of all k ≡ answers.items)
 
 -- the fault of the first worker that failed
-pub record IsFirst (told : List (Result (Vec (Option Run)) WorkFault)) (fault : WorkFault) : Type 0 where
+pub record IsFirstFault (told : List (Result (Vec (Option Run)) WorkFault)) (fault : WorkFault) : Type 0 where
   pub place : ℕ
   pub within : place < length told
   pub is : slice_get told place ≡ Some (Err fault)
   pub before : (k : ℕ) → k < place → (answers : Vec (Option Run)) × (slice_get told k ≡ Some (Ok answers))
 
 -- what is told of all is told by the first that failed, unless memory was wanting for the list of all
-abbrev pub GivesFirst : {T : Type 0} → List (Result (Vec (Option Run)) WorkFault) → Result T WorkFault → Type 0
-GivesFirst told (Ok all) = ⊤
-GivesFirst told (Err fault) = (fault ≡ NoMemory) ⊎ IsFirst told fault
+abbrev pub TellsFirstFault : {T : Type 0} → List (Result (Vec (Option Run)) WorkFault) → Result T WorkFault → Type 0
+TellsFirstFault told (Ok all) = ⊤
+TellsFirstFault told (Err fault) = (fault ≡ NoMemory) ⊎ IsFirstFault told fault

@@ -19,18 +19,18 @@ use Rattle.task_runner.specs.Workers.{AreMade, DoesTasks, LeavesOnlyAnswers, par
 use Rattle.task_runner.specs.Works.{Works}
 
 -- a worker, the consumers of its post, and the files and the count of faults of its post's disk
-pub record Scene : Type 0 where
+pub record WorkerScene : Type 0 where
   pub worker : PassState
   pub states : List State
   pub files : Option Files
   pub faults : ℕ
 
 -- these together
-abbrev pub scene_of : PassState → List State → Option Files → ℕ → Scene
-scene_of worker states files faults = record { worker = worker; states = states; files = files; faults = faults }
+abbrev pub scene_by : PassState → List State → Option Files → ℕ → WorkerScene
+scene_by worker states files faults = record { worker = worker; states = states; files = files; faults = faults }
 
 -- what holds after tasks, whether or not they were all done
-pub record Stays (before after : Scene) : Type 0 where
+pub record StaysAfter (before after : WorkerScene) : Type 0 where
   pub consumers : KeepsConsumers before.states after.states
   pub free : IsFree after.worker
   pub pin : KeepsPin before.worker after.worker
@@ -38,8 +38,8 @@ pub record Stays (before after : Scene) : Type 0 where
   pub disk : LeavesDisk before.files after.files before.faults after.faults
 
 -- one task was done, of this partition: its answers are one for each query
-pub record DoesOne (given : RowsByName) (pass : PassView) (part : ℕ) (before after : Scene) (found : List (Option Run)) : Type 0 where
-  pub stays : Stays before after
+pub record DoesOne (given : RowsByName) (pass : PassView) (part : ℕ) (before after : WorkerScene) (found : List (Option Run)) : Type 0 where
+  pub stays : StaysAfter before after
   pub count : length found ≡ queries_of pass
   pub tells : (rows : List (List (List ℕ))) → HoldsPart before.files given pass part rows
       → HaveAnswers after.files pass.plan pass.queries (made_in pass.plan pass.queries (rows_over pass rows)) found
@@ -51,13 +51,13 @@ pub record DoesOne (given : RowsByName) (pass : PassView) (part : ℕ) (before a
   pub charged : IsPartCharged before.states before.files given pass part (own_of after.worker)
 
 -- one task was done, and its answers stand behind the others
-abbrev pub AddsOne : RowsByName → PassView → ℕ → Scene → Scene → List (Option Run) → List (Option Run) → Type 0
+abbrev pub AddsOne : RowsByName → PassView → ℕ → WorkerScene → WorkerScene → List (Option Run) → List (Option Run) → Type 0
 AddsOne given pass part before after answers answers' =
     (found : List (Option Run)) × DoesOne given pass part before after found × (answers' ≡ answers ++ found)
 
 -- the worker at a place did so many tasks, with these answers
-pub record DoesFirst (given : RowsByName) (pass : PassView) (workers place : ℕ) (start now : Scene) (tasks : ℕ) (answers : List (Option Run)) : Type 0 where
-  pub stays : Stays start now
+pub record DoesFirst (given : RowsByName) (pass : PassView) (workers place : ℕ) (start now : WorkerScene) (tasks : ℕ) (answers : List (Option Run)) : Type 0 where
+  pub stays : StaysAfter start now
   pub many : length answers ≡ tasks * queries_of pass
   pub within : (k : ℕ) → k < tasks → part_at workers place k < parts_of pass
   pub tells : (rows : ℕ → List (List (List ℕ))) → HoldsOwn start.files given pass workers place rows

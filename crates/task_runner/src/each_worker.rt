@@ -46,17 +46,19 @@ pub(crate) fn run_each<
 ) -> Result<Vec<Vec<Option<Run>>>, WorkFault>
     requires pass { IsPass pass.now }
     requires may { MayDoAll executor.now.manager.now B.owner pass.now workers.old.items }
-    requires basis { SaysAll (files_on (disk_at (λ post. post.disk)) D.files posts.old) B.rows pass.now (length workers.old.items) }
+    requires basis { SaysAll (files_on (disk_at (λ post. post.disk)) D.files posts.old) B.rows pass.now
+        (length workers.old.items) }
     requires posts { length workers.old.items ≤ length posts.old.items }
     requires few_posts { length posts.old.items < 2 ^ 32 }
     requires consumers { All (λ post. HasConsumers (map C.state post.consumers.items)) posts.old.items }
-    ensures finished { IfOk result (λ all. Finished C.state D.files (length workers.old.items) (length workers.old.items) B.rows pass.now
-        workers.old.items workers.new.items posts.old.items posts.new.items (map (λ answers.
-        answers.items) all.items)) }
+    ensures finished { IfOk result (λ all. Finished C.state D.files (length workers.old.items)
+        (length workers.old.items) B.rows pass.now workers.old.items workers.new.items
+        posts.old.items posts.new.items (map (λ answers. answers.items) all.items)) }
     ensures reached { Reached C.state D.files D.faults (length workers.old.items) (length workers.old.items) pass.now
         workers.old.items workers.new.items posts.old.items posts.new.items }
     ensures sound { (rows : ℕ → List (List (List ℕ))) →
-        HoldsAll (files_on (disk_at (λ post. post.disk)) D.files posts.old) B.rows pass.now (length workers.old.items) rows →
+        HoldsAll (files_on (disk_at (λ post. post.disk)) D.files posts.old) B.rows pass.now
+        (length workers.old.items) rows →
         IfSound (λ _. ⊤) result }
     ensures no_room { IfNoRoom result (λ asked held floor. (worker task : ℕ) × (worker < length workers.old.items)
         × ((any : PassState) → ShowsNoRoom B.sizes (own_of (slice_index_or workers.new.items worker any)) task

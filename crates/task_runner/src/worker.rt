@@ -5,7 +5,7 @@ ghost use Rattle.pool_ledger.specs.History.{was_begun};
 ghost use Rattle.memory_lock.specs.Workers.{HasNoPin, IsFree, own_of};
 ghost use Rattle.task_runner.specs.Answers.{HasCauseAmong};
 ghost use Rattle.task_runner.specs.Consumers.{HasConsumers};
-ghost use Rattle.task_runner.specs.OneWorker.{AddsOne, DoesFirst, Stays, scene_of};
+ghost use Rattle.task_runner.specs.OneWorker.{AddsOne, DoesFirst, StaysAfter, scene_by};
 ghost use Rattle.task_runner.specs.PartAnswers.{HoldsOwn, HoldsPart, SaysOwn, SaysPart};
 ghost use Rattle.task_runner.specs.PassViews.{parts_of, task_for};
 ghost use Rattle.task_runner.specs.Queries.{IsPass};
@@ -44,14 +44,14 @@ fn next_task<K: Disk, D: Disk, C: Consumer, B: Basis, R: Wait, G: Gate>(
     requires basis { SaysPart (D.files post.old.disk) B.rows pass.now part }
     requires consumers { HasConsumers (map C.state post.old.consumers.items) }
     ensures adds { OnOk result (AddsOne B.rows pass.now part
-        (scene_of worker.old (map C.state post.old.consumers.items) (D.files post.old.disk) (D.faults post.old.disk))
-        (scene_of worker.new (map C.state post.new.consumers.items) (D.files post.new.disk) (D.faults post.new.disk))
+        (scene_by worker.old (map C.state post.old.consumers.items) (D.files post.old.disk) (D.faults post.old.disk))
+        (scene_by worker.new (map C.state post.new.consumers.items) (D.files post.new.disk) (D.faults post.new.disk))
         answers.old.items answers.new.items) }
     ensures sound { (rows : List (List (List ℕ))) → HoldsPart (D.files post.old.disk) B.rows pass.now part rows
         → IfSound (λ _. Unit {0}) result }
-    ensures stays { Stays
-        (scene_of worker.old (map C.state post.old.consumers.items) (D.files post.old.disk) (D.faults post.old.disk))
-        (scene_of worker.new (map C.state post.new.consumers.items) (D.files post.new.disk) (D.faults post.new.disk)) }
+    ensures stays { StaysAfter
+        (scene_by worker.old (map C.state post.old.consumers.items) (D.files post.old.disk) (D.faults post.old.disk))
+        (scene_by worker.new (map C.state post.new.consumers.items) (D.files post.new.disk) (D.faults post.new.disk)) }
     ensures may_work { MayWork (task_for pass.now part) worker.old worker.new }
     ensures no_room { IfNoRoom result (λ asked held floor. ShowsNoRoom B.sizes
         (own_of worker.new) (task_for pass.now part) asked held floor) }
@@ -89,15 +89,15 @@ pub(crate) fn run_worker<K: Disk, D: Disk, C: Consumer, B: Basis, R: Wait, G: Ga
     requires basis { SaysOwn (D.files post.old.disk) B.rows pass.now workers place }
     requires consumers { HasConsumers (map C.state post.old.consumers.items) }
     ensures all { IfOk result (λ answers. (tasks : ℕ) × DoesFirst B.rows pass.now workers place
-        (scene_of worker.old (map C.state post.old.consumers.items) (D.files post.old.disk) (D.faults post.old.disk))
-        (scene_of worker.new (map C.state post.new.consumers.items) (D.files post.new.disk) (D.faults post.new.disk))
+        (scene_by worker.old (map C.state post.old.consumers.items) (D.files post.old.disk) (D.faults post.old.disk))
+        (scene_by worker.new (map C.state post.new.consumers.items) (D.files post.new.disk) (D.faults post.new.disk))
         tasks answers.items × IsCount workers place (parts_of pass.now) tasks) }
     ensures sound { (rows : ℕ → List (List (List ℕ)))
         → HoldsOwn (D.files post.old.disk) B.rows pass.now workers place rows
         → IfSound (λ _. Unit {0}) result }
-    ensures stays { Stays
-        (scene_of worker.old (map C.state post.old.consumers.items) (D.files post.old.disk) (D.faults post.old.disk))
-        (scene_of worker.new (map C.state post.new.consumers.items) (D.files post.new.disk) (D.faults post.new.disk)) }
+    ensures stays { StaysAfter
+        (scene_by worker.old (map C.state post.old.consumers.items) (D.files post.old.disk) (D.faults post.old.disk))
+        (scene_by worker.new (map C.state post.new.consumers.items) (D.files post.new.disk) (D.faults post.new.disk)) }
     ensures may_work { DoesSome pass.now.first workers place (parts_of pass.now) worker.old worker.new }
     ensures no_room { IfNoRoom result (λ asked held floor. (task : ℕ)
         × ShowsNoRoom B.sizes (own_of worker.new) task asked held floor) }

@@ -11,7 +11,7 @@ use Rattle.std.proofs.lemmas.Fmt.{decimal_nonempty, digits_decimal, digits_value
 use Rattle.std.proofs.lemmas.Int.{ints}
 use Rattle.std.proofs.lemmas.Str.Parse.{IsNumeralModel, numerals_by_value, tells_all_ascii_digits}
 use Rattle.csv.specs.Writing.{default_writer, needs_byte}
-use Rattle.run_file.specs.Numbers.{fits_i64, is_number, number}
+use Rattle.row_form.specs.Numbers.{fits_i64, is_number, number}
 
 model : IsNumeralModel (λ ds. all_ascii_digits ds ≡ true) (digits_value 10)
 model = numerals_by_value (λ ds. all_ascii_digits ds ≡ true) tells_all_ascii_digits

@@ -8,7 +8,7 @@ use Rattle.std.proofs.lemmas.List.{append-nil}
 use Rattle.std.proofs.lemmas.List.FromFn.{length-map-range_with_len}
 use Rattle.csv.specs.Reading.{default_config, records}
 use Rattle.csv.specs.Writing.{fields_text, is_blank}
-use Rattle.run_file.specs.Numbers.{is_number}
+use Rattle.row_form.specs.Numbers.{is_number}
 use Rattle.row_filter.specs.declared.filter.Comparison.{Comparison}
 use Rattle.row_filter.specs.declared.filter.Comparison.TheVariants.{AtLeast}
 use Rattle.row_filter.specs.declared.filter.Constant.{Constant}

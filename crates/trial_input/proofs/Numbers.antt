@@ -6,7 +6,7 @@ use Rattle.std.specs.List.{flat_map}
 use Rattle.std.proofs.lemmas.Fmt.{length-decimal-le, length_signed_le}
 use Rattle.std.proofs.lemmas.Int.{ints}
 use Rattle.csv.specs.Writing.{default_writer, row_text}
-use Rattle.run_file.specs.Numbers.{fits_i64}
+use Rattle.row_form.specs.Numbers.{fits_i64}
 use Rattle.job_answer.specs.Output.{text_of}
 use Rattle.trial_input.specs.Generator.{key_of, line_of, price_of, row_of}
 use Rattle.trial_input.proofs.Decimals.{IsPlain, Spells, key-plain, signed-plain, signed-spells, small-fits}

@@ -9,7 +9,7 @@ use Rattle.csv.specs.Writing.{default_writer, fields_text, is_blank, read_back, 
 use Rattle.csv.specs.declared.parser.State.TheVariants as st
 use Rattle.csv.proofs.RoundTrip.{read-write}
 use Rattle.job_plan.specs.Columns.{Fields}
-use Rattle.job_answer.specs.Output.{joined, text_of}
+use Rattle.job_answer.specs.Output.{tables_text, text_of}
 use Rattle.trial_input.proofs.Decimals.{IsPlain}
 
 -- a record of csv has a field
@@ -56,7 +56,7 @@ all_rows tables = flat_map (λ table. table) tables
 
 -- the text of tables
 abbrev pub text_of_tables : List (List Fields) → List ℕ
-text_of_tables tables = joined (map text_of tables)
+text_of_tables tables = tables_text (map text_of tables)
 
 tables_reads : (tables : List (List Fields)) (most left : ℕ) → most ≡ length (all_rows tables) + left → AllByRecursion (AllByRecursion HasFields) tables
     → reads most (text_of_tables tables) ≡ all_rows tables

@@ -5,7 +5,7 @@ use Rattle.std.specs.List.{AllByRecursion, fold, sum_by}
 use Rattle.std.proofs.lemmas.Bool.{eq-eqb}
 use Rattle.std.proofs.lemmas.List.Sums.{fold-append, sum_by-cons}
 use Rattle.job_plan.specs.Columns.{Fields}
-use Rattle.trial_input.specs.Tallies.{count_in, held, no_tally, tallied, tally_of}
+use Rattle.trial_input.specs.Tallies.{count_in, within_u64, no_tally, tallied, tally_of}
 use Rattle.trial_input.specs.declared.tally.Tally.{Tally}
 use Rattle.trial_input.proofs.ReadBack.{all_rows}
 
@@ -14,7 +14,7 @@ use Rattle.trial_input.proofs.ReadBack.{all_rows}
 abbrev pub AreWide : ℕ → List Fields → Type 0
 AreWide width rows = AllByRecursion (λ row. length row ≡ width) rows
 
-held-more : (n more : ℕ) → held (held n + more) ≡ held (n + more)
+held-more : (n more : ℕ) → within_u64 (within_u64 n + more) ≡ within_u64 (n + more)
 held-more n more = omega arith
 
 -- a tally in a table
@@ -23,7 +23,7 @@ in_table tables width rows counted = record { tables = tables; fields = width; r
 
 -- behind so many rows of it
 abbrev pub later : ℕ → ℕ → ℕ → ℕ → Tally
-later tables width rows counted = in_table tables width (held rows) counted
+later tables width rows counted = in_table tables width (within_u64 rows) counted
 
 -- in a table that isn't the first
 later-rows : (tables width counted : ℕ) (rows : List Fields) (n : ℕ) → (tables == 1) ≡ false → AreWide width rows
@@ -41,22 +41,22 @@ abbrev first : ℕ → ℕ → ℕ → Tally
 first width rows counted = in_table 1 width rows counted
 
 first-rows : (width : ℕ) (rows : List Fields) (n counted : ℕ) → AreWide width rows
-    → fold tallied (first width (held n) (held counted)) rows ≡ first width (held (n + length rows)) (held (counted + sum_by count_in rows))
+    → fold tallied (first width (within_u64 n) (within_u64 counted)) rows ≡ first width (within_u64 (n + length rows)) (within_u64 (counted + sum_by count_in rows))
 first-rows width [] n counted wide =
-    ap (λ (k : ℕ). first width (held k) (held counted)) (omega arith) ∙ ap (λ (k : ℕ). first width (held (n + 0)) (held k)) (omega arith)
+    ap (λ (k : ℕ). first width (within_u64 k) (within_u64 counted)) (omega arith) ∙ ap (λ (k : ℕ). first width (within_u64 (n + 0)) (within_u64 k)) (omega arith)
 first-rows width (row ∷ rows) n counted wide =
-    let here : tallied (first width (held n) (held counted)) row ≡ first width (held (n + 1)) (held (counted + count_in row)) =
+    let here : tallied (first width (within_u64 n) (within_u64 counted)) row ≡ first width (within_u64 (n + 1)) (within_u64 (counted + count_in row)) =
     rw (eq-eqb (length row) width wide.0)
-    (ap (λ (k : ℕ). first width k (held (held counted + count_in row))) (held-more n 1) ∙ ap (first width (held (n + 1))) (held-more counted (count_in row))) in
+    (ap (λ (k : ℕ). first width k (within_u64 (within_u64 counted + count_in row))) (held-more n 1) ∙ ap (first width (within_u64 (n + 1))) (held-more counted (count_in row))) in
     ap (λ (tally : Tally). fold tallied tally rows) here
     ∙ first-rows width rows (n + 1) (counted + count_in row) wide.1
-    ∙ ap (λ (k : ℕ). first width (held k) (held (counted + count_in row + sum_by count_in rows))) (omega arith)
-    ∙ ap (λ (k : ℕ). first width (held (n + length (row ∷ rows))) (held k)) (omega (arith, sum_by-cons count_in row rows))
+    ∙ ap (λ (k : ℕ). first width (within_u64 k) (within_u64 (counted + count_in row + sum_by count_in rows))) (omega arith)
+    ∙ ap (λ (k : ℕ). first width (within_u64 (n + length (row ∷ rows))) (within_u64 k)) (omega (arith, sum_by-cons count_in row rows))
 
 -- ---- the four tables
 
 begins : (before : Tally) (head : Fields) (width : ℕ) → length head ≡ width → (width == before.fields) ≡ false
-    → tallied before head ≡ record before { tables = held (before.tables + 1); fields = width; rows = 0 }
+    → tallied before head ≡ record before { tables = within_u64 (before.tables + 1); fields = width; rows = 0 }
 begins before head width e other = rw (e, other) refl
 
 counted-on : (before after : Tally) (head : Fields) (rows rest : List Fields) → fold tallied (tallied before head) rows ≡ after
@@ -71,16 +71,16 @@ pub four-tables : (one two three four : Fields) (ones twos threes fours : List F
     → length one ≡ 3 → length two ≡ 2 → length three ≡ 3 → length four ≡ 2
     → AreWide 3 ones → AreWide 2 twos → AreWide 3 threes → AreWide 2 fours
     → tally_of (all_rows ((one ∷ ones) ∷ (two ∷ twos) ∷ (three ∷ threes) ∷ (four ∷ fours) ∷ []))
-    ≡ later 4 2 (length fours) (held (sum_by count_in ones))
+    ≡ later 4 2 (length fours) (within_u64 (sum_by count_in ones))
 four-tables one two three four ones twos threes fours e1 e2 e3 e4 w1 w2 w3 w4 =
-    let sum = held (sum_by count_in ones) in
+    let sum = within_u64 (sum_by count_in ones) in
     let behind-one : Tally = later 1 3 (length ones) sum in
     let behind-two : Tally = later 2 2 (length twos) sum in
     let behind-three : Tally = later 3 3 (length threes) sum in
     let behind-four : Tally = later 4 2 (length fours) sum in
     let done-one : fold tallied (tallied no_tally one) ones ≡ behind-one =
     ap (λ (tally : Tally). fold tallied tally ones) (begins no_tally one 3 e1 refl) ∙ first-rows 3 ones 0 0 w1
-    ∙ ap (λ (k : ℕ). first 3 (held k) (held (0 + sum_by count_in ones))) (omega arith) ∙ ap (λ (k : ℕ). first 3 (held (length ones)) (held k)) (omega arith) in
+    ∙ ap (λ (k : ℕ). first 3 (within_u64 k) (within_u64 (0 + sum_by count_in ones))) (omega arith) ∙ ap (λ (k : ℕ). first 3 (within_u64 (length ones)) (within_u64 k)) (omega arith) in
     let done-two : fold tallied (tallied behind-one two) twos ≡ behind-two =
     ap (λ (tally : Tally). fold tallied tally twos) (begins behind-one two 2 e2 refl) ∙ later-rows 2 2 sum twos 0 refl w2 ∙ from-none 2 2 sum (length twos) in
     let done-three : fold tallied (tallied behind-two three) threes ≡ behind-three =

@@ -27,7 +27,7 @@ use Rattle.job_answer.proofs.Classes.{Class, all-groups, class_at, classes, inse
 use Rattle.trial_input.specs.FixedJob.{counts, key, keys_query, limits_query, of_price, order_query, price, sums_query, trial_job}
 use Rattle.trial_input.specs.Generator.{heading, number_of_row, numbers_of, row_of, trial_rows}
 use Rattle.trial_input.specs.Lines.{counted, group_count, lines_with, trial_lines, trial_output}
-use Rattle.trial_input.specs.Tallies.{count_in, held, tally_of}
+use Rattle.trial_input.specs.Tallies.{count_in, within_u64, tally_of}
 use Rattle.trial_input.specs.declared.tally.Tally.{Tally}
 use Rattle.trial_input.proofs.Decimals.{signed-spells}
 use Rattle.trial_input.proofs.ReadBack.{HasFields, all_rows, no_mark, tables_read, text_of_tables}
@@ -178,7 +178,7 @@ module _ (rows : List Fields) where
   output-read : rows_of (output trial_job heading rows) ≡ all_rows tables
   output-read = ap rows_of output-tables ∙ ap (records default_config) begins-plain ∙ tables_read tables all-fields
 
-  output-tally : tally_of (rows_of (output trial_job heading rows)) ≡ later 4 2 (length (answer keys_query)) (held (sum_by count_in (answer sums_query)))
+  output-tally : tally_of (rows_of (output trial_job heading rows)) ≡ later 4 2 (length (answer keys_query)) (within_u64 (sum_by count_in (answer sums_query)))
   output-tally =
       ap tally_of output-read
       ∙ four-tables (head sums_query) (head order_query) (head limits_query) (head keys_query) (answer sums_query) (answer order_query) (answer limits_query) (answer keys_query) refl refl refl refl sums-wide ordered-wide limits-wide keys-wide

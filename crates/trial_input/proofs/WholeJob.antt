@@ -9,7 +9,7 @@ use Rattle.row_filter.specs.declared.filter.Comparison.TheVariants.{AtLeast}
 use Rattle.row_filter.specs.declared.filter.Constant.TheVariants.{Number}
 use Rattle.job_text.specs.Columns.{with_names}
 use Rattle.job_text.specs.FilterForms.{FilterForm, IsFilter, filter_places}
-use Rattle.job_text.specs.Jobs.{AreMade, IsColumns, IsDistinct, IsJob, IsPart, IsQuery, IsShortList, columns_named, dataset_places, shape_places}
+use Rattle.job_text.specs.Jobs.{AreGoodDatasets, IsColumns, IsDistinct, IsJob, IsAggregate, IsQuery, IsShortList, columns_named, dataset_places, shape_places}
 use Rattle.job_text.specs.Scan.{is_plain}
 use Rattle.job_text.specs.declared.job.Dataset.{Dataset}
 use Rattle.job_text.specs.declared.job.Job.{Job}
@@ -67,7 +67,7 @@ earlier-parents zero d within = omega arith
 earlier-parents (suc zero) d within = omega arith
 earlier-parents (suc (suc place)) d within = absurd (omega arith)
 
-datasets-made : AreMade 2 trial_job.datasets
+datasets-made : AreGoodDatasets 2 trial_job.datasets
 datasets-made = record {
   few = omega arith;
   short = All-from_recursion (λ dataset. length dataset.name ≤ 64) trial_job.datasets (omega arith, (omega arith, tt));
@@ -100,16 +100,16 @@ both-columns = record {
   distinct = two-distinct key price (λ same. absurd (omega (arith, same)));
 }
 
-counts-part : IsPart 2 counts
+counts-part : IsAggregate 2 counts
 counts-part = record { column = refl; named = tt }
 
-sum-part : IsPart 2 (of_price Sum)
+sum-part : IsAggregate 2 (of_price Sum)
 sum-part = record { column = refl; named = omega arith }
 
-min-part : IsPart 2 (of_price Min)
+min-part : IsAggregate 2 (of_price Min)
 min-part = record { column = refl; named = omega arith }
 
-max-part : IsPart 2 (of_price Max)
+max-part : IsAggregate 2 (of_price Max)
 max-part = record { column = refl; named = omega arith }
 
 parts-differ : (a b : Part) → (a.agg ≡ b.agg → ⊥) → a ≢ b
@@ -124,7 +124,7 @@ one-short a = record { some = omega arith; few = omega arith }
 sums-whole : IsQuery 2 2 sums_query
 sums-whole = record {
   dataset = omega arith;
-  shape = (key-column, two-short counts (of_price Sum), All-from_recursion (IsPart 2) (counts ∷ of_price Sum ∷ []) (counts-part, (sum-part, tt)), two-distinct counts (of_price Sum) (parts-differ _ _ (λ same. cc)));
+  shape = (key-column, two-short counts (of_price Sum), All-from_recursion (IsAggregate 2) (counts ∷ of_price Sum ∷ []) (counts-part, (sum-part, tt)), two-distinct counts (of_price Sum) (parts-differ _ _ (λ same. cc)));
 }
 
 order-whole : IsQuery 2 2 order_query
@@ -133,13 +133,13 @@ order-whole = record { dataset = omega arith; shape = (price-column, both-column
 limits-whole : IsQuery 2 2 limits_query
 limits-whole = record {
   dataset = omega arith;
-  shape = (key-column, two-short (of_price Min) (of_price Max), All-from_recursion (IsPart 2) (of_price Min ∷ of_price Max ∷ []) (min-part, (max-part, tt)), two-distinct (of_price Min) (of_price Max) (parts-differ _ _ (λ same. cc)));
+  shape = (key-column, two-short (of_price Min) (of_price Max), All-from_recursion (IsAggregate 2) (of_price Min ∷ of_price Max ∷ []) (min-part, (max-part, tt)), two-distinct (of_price Min) (of_price Max) (parts-differ _ _ (λ same. cc)));
 }
 
 keys-whole : IsQuery 2 2 keys_query
 keys-whole = record {
   dataset = omega arith;
-  shape = (key-column, one-short counts, All-from_recursion (IsPart 2) (counts ∷ []) (counts-part, tt), one-distinct counts);
+  shape = (key-column, one-short counts, All-from_recursion (IsAggregate 2) (counts ∷ []) (counts-part, tt), one-distinct counts);
 }
 
 pub job-whole : IsJob trial_job

@@ -23,6 +23,7 @@ job_text =
 abbrev pub price : ℕ
 price = 0
 
+-- the column that the text names second
 abbrev pub key : ℕ
 key = 1
 
@@ -32,17 +33,21 @@ key = 1
 abbrev pub priced_from : ℤ → Filter
 priced_from least = Test price AtLeast (Number least)
 
+-- of the input the rows with a price of at least 0, kept on disk
 abbrev pub pos_dataset : Dataset
 pos_dataset = record { name = codes "pos"; parent = 0; filter = Some (priced_from (pos 0)); level = Some Disk }
 
+-- of those the rows with a price of at least 500, not kept
 abbrev pub high_dataset : Dataset
 high_dataset = record { name = codes "high"; parent = 1; filter = Some (priced_from (pos 500)); level = None }
 
 -- ---- the queries
 
+-- how many rows a group has
 abbrev pub counts : Part
 counts = record { agg = Count; column = None }
 
+-- an aggregate over the prices of a group's rows
 abbrev pub of_price : Agg → Part
 of_price agg = record { agg = agg; column = Some price }
 

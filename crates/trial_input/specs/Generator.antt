@@ -28,6 +28,7 @@ numbers_of rows = map number_of_row (range_with_len 1 rows)
 
 -- ---- the input
 
+-- the first record of the input: the names of its two columns
 abbrev pub heading : Fields
 heading = codes "key" ∷ codes "price" ∷ []
 

@@ -10,7 +10,7 @@ ghost use Rattle.trial_input.specs.Tallies.{count_in, no_tally, tallied, tally_o
 use crate::source::TextSource;
 use byte_io::{Origin, RecordFault, Records, Tap};
 use csv::ByteRecord;
-use run_file::parse_number;
+use row_form::parse_number;
 use std::alloc::{AllocError, Global};
 use std::marker::Brand;
 

@@ -8,7 +8,7 @@ use Rattle.clap.specs.Walk.{Row, Rule, row_text, with_default}
 use Rattle.clap.specs.Matches.{first_value, one_text}
 use Rattle.clap.specs.declared.parser.matches.Found.{Found}
 use Rattle.clap.proofs.WalkLemmas.{find-map, one_text-rows}
-use Rattle.words.specs.Reading.{Grammar, Text, Use, bare, collect, kind_in, value_of}
+use Rattle.words.specs.Reading.{Grammar, Text, Use, bare, collect, word_kind_in, value_of}
 use Rattle.words.specs.Commands.{with_flag}
 use Rattle.words.proofs.Rules.{flag_rule, row_for, rows_for}
 use Rattle.words.proofs.Strict.{strict}
@@ -52,11 +52,11 @@ module _ (g : Grammar) where
       go (Some us) h e = ap (list_all (is_set g)) (collect_is us [] uses e) ∙ h
 
   -- the value of a flag that words give
-  pub given_true : (uses : List Use) (n : Text) (u : Use) → kind_in g n ≡ bare → list_all (is_set g) uses ≡ true → find (λ v. bytes_eq v.name n) uses ≡ Some u
+  pub given_true : (uses : List Use) (n : Text) (u : Use) → word_kind_in g n ≡ bare → list_all (is_set g) uses ≡ true → find (λ v. bytes_eq v.name n) uses ≡ Some u
       → u.value ≡ codes "true"
   given_true uses n u flag set found =
       let named : u.name ≡ n = same_text u.name n (found_named uses n u found) in
-      same_text u.value (codes "true") (ap (λ k. not (is_bare k) || bytes_eq u.value (codes "true")) (sym (ap (kind_in g) named ∙ flag)) ∙ found_set g uses n u set found)
+      same_text u.value (codes "true") (ap (λ k. not (is_bare k) || bytes_eq u.value (codes "true")) (sym (ap (word_kind_in g) named ∙ flag)) ∙ found_set g uses n u set found)
 
   -- the row of a flag behind all defaults
   flag_found : (uses : List Use) (n : Text) (before after : List Rule) → rules_for g ≡ before ++ flag_rule n ∷ after → list_all (leaves n) before ≡ true
@@ -78,7 +78,7 @@ abbrev pub AnswersFlag : Found → Text → Bool → Type 0
 AnswersFlag found n given = (one_text found n ≡ Some (codes "true") → given ≡ true) × (one_text found n ≡ Some (codes "false") → given ≡ false)
 
 module _ {X : Type 0} {g : Grammar} {f : List Use → Option X} {words : List Text} {found : Found} (t : Taken g f words found) (n : Text) where
-  pub flag_value : (given : Bool) (before after : List Rule) → kind_in g n ≡ bare → NamesNoFlag g g.places → rules_for g ≡ before ++ flag_rule n ∷ after
+  pub flag_value : (given : Bool) (before after : List Rule) → word_kind_in g n ≡ bare → NamesNoFlag g g.places → rules_for g ≡ before ++ flag_rule n ∷ after
       → list_all (leaves n) before ≡ true → list_all (leaves n) after ≡ true → AnswersFlag found n given
       → value_of n t.uses ≡ cond given (Some (codes "true")) None
   flag_value given before after flag free rules free_before free_after answers = go (find (λ u. bytes_eq u.name n) t.uses) refl

@@ -4,7 +4,7 @@ use Rattle.std.specs.List.{find, list_all}
 use Rattle.std.specs.Option.{option_map_or}
 use Rattle.std.specs.Str.{bytes_eq}
 use Rattle.clap.proofs.WalkLemmas.{both}
-use Rattle.words.specs.Reading.{Grammar, Kind, Text, Use, Word, valued, bare, unknown, dashes, named, refused, plain, kind_in, named_use, read_places, read_word, use_of, with_place, with_use, word_of}
+use Rattle.words.specs.Reading.{Grammar, Kind, Text, Use, Word, valued, bare, unknown, dashes, named, refused, plain, word_kind_in, named_use, read_places, read_word, use_of, with_place, with_use, word_of}
 use Rattle.words.proofs.Strict.{strict, strict_value}
 
 abbrev pub is_bare : Kind → Bool
@@ -13,7 +13,7 @@ is_bare _ = false
 
 module _ (g : Grammar) where
   abbrev pub is_set : Use → Bool
-  is_set u = not (is_bare (kind_in g u.name)) || bytes_eq u.value (codes "true")
+  is_set u = not (is_bare (word_kind_in g u.name)) || bytes_eq u.value (codes "true")
 
   abbrev pub AllSet : Option (List Use) → Type 0
   AllSet r = option_map_or (list_all is_set) r true ≡ true
@@ -24,19 +24,19 @@ module _ (g : Grammar) where
 
   abbrev pub NamesNoFlag : List Text → Type 0
   NamesNoFlag [] = Unit {0}
-  NamesNoFlag (p ∷ ps) = (is_bare (kind_in g p) ≡ false) × NamesNoFlag ps
+  NamesNoFlag (p ∷ ps) = (is_bare (word_kind_in g p) ≡ false) × NamesNoFlag ps
 
-  no_flag : (n v : Text) → is_bare (kind_in g n) ≡ false → is_set (use_of n v) ≡ true
+  no_flag : (n v : Text) → is_bare (word_kind_in g n) ≡ false → is_set (use_of n v) ≡ true
   no_flag n v e = ap (λ b. not b || bytes_eq v (codes "true")) e
 
   abbrev WaitsNoFlag : Option Text → Type 0
   WaitsNoFlag None = Unit {0}
-  WaitsNoFlag (Some n) = is_bare (kind_in g n) ≡ false
+  WaitsNoFlag (Some n) = is_bare (word_kind_in g n) ≡ false
 
-  flag_set : (n : Text) → kind_in g n ≡ bare → is_set (use_of n (codes "true")) ≡ true
+  flag_set : (n : Text) → word_kind_in g n ≡ bare → is_set (use_of n (codes "true")) ≡ true
   flag_set n e = ap (λ k. not (is_bare k) || true) e
 
-  value_set : (n x : Text) (k : Word) (r : Option (List Use)) → is_bare (kind_in g n) ≡ false → AllSet r → AllSet (strict_value n k x r)
+  value_set : (n x : Text) (k : Word) (r : Option (List Use)) → is_bare (word_kind_in g n) ≡ false → AllSet r → AllSet (strict_value n k x r)
   value_set n x plain r e h = set_use (use_of n x) r (no_flag n x e) h
   value_set n x dashes r e h = refl
   value_set n x (named m v) r e h = refl
@@ -47,7 +47,7 @@ module _ (g : Grammar) where
   behind_set (x ∷ rest) [] e = refl
   behind_set (x ∷ rest) (p ∷ ps) e = set_use (use_of p x) (read_places rest ps) (no_flag p x e.0) (behind_set rest ps e.1)
 
-  named_set : (k : Kind) (n : Text) (v : Option Text) → kind_in g n ≡ k → (r : Option Text → Option (List Use)) → ((w : Option Text) → WaitsNoFlag w → AllSet (r w)) → AllSet (named_use k n v r)
+  named_set : (k : Kind) (n : Text) (v : Option Text) → word_kind_in g n ≡ k → (r : Option Text → Option (List Use)) → ((w : Option Text) → WaitsNoFlag w → AllSet (r w)) → AllSet (named_use k n v r)
   named_set valued n (Some v) is r a = set_use (use_of n v) (r None) (no_flag n v (ap is_bare is)) (a None tt)
   named_set valued n None is r a = a (Some n) (ap is_bare is)
   named_set bare n (Some v) is r a = refl
@@ -61,7 +61,7 @@ module _ (g : Grammar) where
   word_set : (k : Word) (x : Text) (places : List Text) (behind : Option (List Use)) (r : List Text → Option Text → Option (List Use)) → NamesNoFlag places → AllSet behind
       → ((ps : List Text) (w : Option Text) → NamesNoFlag ps → WaitsNoFlag w → AllSet (r ps w)) → AllSet (read_word g k x places behind r)
   word_set dashes x places behind r e h a = h
-  word_set (named n v) x places behind r e h a = named_set (kind_in g n) n v refl (r places) (λ w k. a places w e k)
+  word_set (named n v) x places behind r e h a = named_set (word_kind_in g n) n v refl (r places) (λ w k. a places w e k)
   word_set refused x places behind r e h a = refl
   word_set plain x places behind r e h a = place_set places x (λ ps. r ps None) e (λ ps k. a ps None k tt)
 

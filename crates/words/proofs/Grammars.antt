@@ -9,7 +9,7 @@ use Rattle.clap.specs.Walk.{Row, Rule, arg_by_id, arg_by_long, has_long, has_row
 use Rattle.clap.specs.Kinds.{or_else}
 use Rattle.clap.specs.Faults.{default_fault, defaults_fault, given_default_fault}
 use Rattle.clap.proofs.WalkLemmas.{both}
-use Rattle.words.specs.Reading.{Grammar, Kind, Text, valued, bare, unknown, contains_text, kind_in}
+use Rattle.words.specs.Reading.{Grammar, Kind, Text, valued, bare, unknown, contains_text, word_kind_in}
 use Rattle.words.proofs.Rules.{flag_rule, option_rule, place_rule, rule_for}
 
 abbrev pub place_rules : ℕ → List Text → List Rule
@@ -44,7 +44,7 @@ pub or_no : (b : Bool) → (b || false) ≡ b
 or_no true = refl
 or_no false = refl
 
-pub knows_long : (g : Grammar) (n : Text) → arg_by_long (rules_for g) n ≡ rule_for (kind_in g n) n
+pub knows_long : (g : Grammar) (n : Text) → arg_by_long (rules_for g) n ≡ rule_for (word_kind_in g n) n
 knows_long g n =
     let later = map flag_rule g.flags ++ place_rules 1 g.places in
     named_found option_rule (λ a. not (is_some a.index) && has_long a n) n (λ o. or_no (bytes_eq o n)) g.options later
@@ -58,7 +58,7 @@ knows_long g n =
     go false true = refl
     go false false = refl
 
-pub is_option : (g : Grammar) (n : Text) → kind_in g n ≡ valued → contains_text g.options n ≡ true
+pub is_option : (g : Grammar) (n : Text) → word_kind_in g n ≡ valued → contains_text g.options n ≡ true
 is_option g n e = go (contains_text g.options n) (contains_text g.flags n) e
   where
     is_valued : Kind → Bool
@@ -70,7 +70,7 @@ is_option g n e = go (contains_text g.options n) (contains_text g.flags n) e
     go false true k = absurd (true≢false (sym (ap is_valued k)))
     go false false k = absurd (true≢false (sym (ap is_valued k)))
 
-pub knows_id : (g : Grammar) (n : Text) → kind_in g n ≡ valued → arg_by_id (rules_for g) n ≡ Some (option_rule n)
+pub knows_id : (g : Grammar) (n : Text) → word_kind_in g n ≡ valued → arg_by_id (rules_for g) n ≡ Some (option_rule n)
 knows_id g n e =
     named_found option_rule (λ a. bytes_eq a.id n) n (λ o. refl) g.options (map flag_rule g.flags ++ place_rules 1 g.places)
     ∙ ap (λ b. cond b (Some (option_rule n)) (arg_by_id (map flag_rule g.flags ++ place_rules 1 g.places) n)) (is_option g n e)

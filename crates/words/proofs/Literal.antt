@@ -8,8 +8,8 @@ use Rattle.std.specs.Str.Parse.{digits_value}
 use Rattle.std.proofs.lemmas.Slice.Eq.{bytes_eq-Decides}
 use Rattle.std.proofs.lemmas.Bool.{eqb-true}
 use Rattle.std.proofs.Math.Bool.{and-false}
-use Rattle.words.specs.Reading.{Grammar, Kind, Text, Use, Word, valued, bare, unknown, dashes, named, refused, plain, after_dash, collect, contains_text, has_use, kind_in, named_use, read, read_places, read_word, use_of, value_of, with_place, with_use, word_of}
-use Rattle.words.specs.Numbers.{Numbered, fits, fits_text, is_decimal}
+use Rattle.words.specs.Reading.{Grammar, Kind, Text, Use, Word, valued, bare, unknown, dashes, named, refused, plain, after_dash, collect, contains_text, has_use, word_kind_in, named_use, read, read_places, read_word, use_of, value_of, with_place, with_use, word_of}
+use Rattle.words.specs.Numbers.{NumberOption, fits, fits_text, is_decimal}
 use Rattle.words.proofs.Rules.{or_parts}
 use Rattle.words.proofs.Strict.{bytes_same, strict, strict_value}
 
@@ -20,7 +20,7 @@ is_plain _ = false
 module _ (g : Grammar) where
   -- an option with a value that begins with `-`
   pub record Bad (u : Use) : Type 0 where
-    pub option : kind_in g u.name ≡ valued
+    pub option : word_kind_in g u.name ≡ valued
     pub dash : is_plain (word_of u.value) ≡ false
 
   abbrev pub HasBad : List Use → Type 0
@@ -45,15 +45,15 @@ module _ (g : Grammar) where
 
   abbrev Waits : Option Text → Type 0
   Waits None = Unit {0}
-  Waits (Some n) = kind_in g n ≡ valued
+  Waits (Some n) = word_kind_in g n ≡ valued
 
-  value_agrees : (n x : Text) (k : Word) → word_of x ≡ k → kind_in g n ≡ valued → (s r : Option (List Use)) → Agrees s r → Agrees (strict_value n k x s) (with_use (use_of n x) r)
+  value_agrees : (n x : Text) (k : Word) → word_of x ≡ k → word_kind_in g n ≡ valued → (s r : Option (List Use)) → Agrees s r → Agrees (strict_value n k x s) (with_use (use_of n x) r)
   value_agrees n x plain is kind s r a = agrees_use (use_of n x) s r a
   value_agrees n x dashes is kind s r a = inr (refl, bad_use (use_of n x) r (record { option = kind; dash = ap is_plain is }))
   value_agrees n x (named m v) is kind s r a = inr (refl, bad_use (use_of n x) r (record { option = kind; dash = ap is_plain is }))
   value_agrees n x refused is kind s r a = inr (refl, bad_use (use_of n x) r (record { option = kind; dash = ap is_plain is }))
 
-  named_agrees : (k : Kind) (n : Text) (v : Option Text) → kind_in g n ≡ k → (s r : Option Text → Option (List Use)) → ((w : Option Text) → Waits w → Agrees (s w) (r w))
+  named_agrees : (k : Kind) (n : Text) (v : Option Text) → word_kind_in g n ≡ k → (s r : Option Text → Option (List Use)) → ((w : Option Text) → Waits w → Agrees (s w) (r w))
       → Agrees (named_use k n v s) (named_use k n v r)
   named_agrees valued n (Some v) is s r a = agrees_use (use_of n v) (s None) (r None) (a None tt)
   named_agrees valued n None is s r a = a (Some n) is
@@ -68,7 +68,7 @@ module _ (g : Grammar) where
   word_agrees : (k : Word) (x : Text) (places : List Text) (behind : Option (List Use)) (s r : List Text → Option Text → Option (List Use))
       → ((ps : List Text) (w : Option Text) → Waits w → Agrees (s ps w) (r ps w)) → Agrees (read_word g k x places behind s) (read_word g k x places behind r)
   word_agrees dashes x places behind s r a = inl refl
-  word_agrees (named n v) x places behind s r a = named_agrees (kind_in g n) n v refl (s places) (r places) (λ w h. a places w h)
+  word_agrees (named n v) x places behind s r a = named_agrees (word_kind_in g n) n v refl (s places) (r places) (λ w h. a places w h)
   word_agrees refused x places behind s r a = inl refl
   word_agrees plain x places behind s r a = place_agrees places x (λ ps. s ps None) (λ ps. r ps None) (λ ps. a ps None tt)
 
@@ -123,7 +123,7 @@ no_decimal (x ∷ rest) e = go (x == 45) refl
         ∙ ap (λ b. nat_lt 0 (length (45 ∷ rest)) && b) (and-false (nat_le (length (45 ∷ rest)) 20)) ∙ and-false (nat_lt 0 (length (45 ∷ rest)))
     go false t = absurd (true≢false (sym (ap (λ b. is_plain (cond b (after_dash rest) plain)) t) ∙ e))
 
-pub unfit : (table : List Numbered) (us : List Use) (n v : Text) → contains_text (map (λ o. o.name) table) n ≡ true → value_of n us ≡ Some v → is_plain (word_of v) ≡ false
+pub unfit : (table : List NumberOption) (us : List Use) (n v : Text) → contains_text (map (λ o. o.name) table) n ≡ true → value_of n us ≡ Some v → is_plain (word_of v) ≡ false
     → list_all (fits (λ x. value_of x us)) table ≡ false
 unfit [] us n v has is dash = absurd (true≢false (sym has))
 unfit (o ∷ os) us n v has is dash = go (bytes_eq o.name n) refl has (λ t. unfit os us n v t is dash)

@@ -11,7 +11,7 @@ use Rattle.clap.specs.Faults.{check_fault, defaults_fault}
 use Rattle.clap.specs.declared.builder.action.ArgAction.TheVariants.{Set, SetTrue}
 use Rattle.clap.specs.declared.builder.value_parser.Reading.TheVariants.{AsWritten}
 use Rattle.clap.specs.declared.parser.matches.ValueSource.TheVariants.{CommandLine}
-use Rattle.words.specs.Reading.{Grammar, Kind, Text, Use, valued, bare, unknown, use_of, kind_in, has_use}
+use Rattle.words.specs.Reading.{Grammar, Kind, Text, Use, valued, bare, unknown, use_of, word_kind_in, has_use}
 
 -- ---- the rules of a plain command
 
@@ -43,8 +43,8 @@ HasPlaces rules i (p ∷ ps) = (arg_by_index rules i ≡ Some (place_rule i p))
     × (arg_by_id rules p ≡ Some (place_rule i p)) × HasPlaces rules (min (i + 1) usize_max) ps
 
 pub record Knows (rules : List Rule) (g : Grammar) : Type 0 where
-  pub long : (n : Text) → arg_by_long rules n ≡ rule_for (kind_in g n) n
-  pub id : (n : Text) → kind_in g n ≡ valued → arg_by_id rules n ≡ Some (option_rule n)
+  pub long : (n : Text) → arg_by_long rules n ≡ rule_for (word_kind_in g n) n
+  pub id : (n : Text) → word_kind_in g n ≡ valued → arg_by_id rules n ≡ Some (option_rule n)
   pub short : (c : ℕ) → arg_by_short rules c ≡ None
   pub places : HasPlaces rules 1 g.places
   pub ends : (name : Text) (rows : List Row)

@@ -6,7 +6,7 @@ use Rattle.clap.specs.Walk.{Row, Waiting, Walk, after_flag, arg_by_id, arg_by_in
 use Rattle.clap.specs.Kinds.{Kinds, or_else}
 use Rattle.clap.specs.Faults.{check_fault, defaults_fault, long_fault, settle_fault, use_fault, walk_fault, word_fault}
 use Rattle.clap.specs.declared.error.kind.ErrorKind.TheVariants.{ArgumentConflict}
-use Rattle.words.specs.Reading.{Text, Use, valued, bare, named, plain, use_of, kind_in, with_use, read_places, has_use}
+use Rattle.words.specs.Reading.{Text, Use, valued, bare, named, plain, use_of, word_kind_in, with_use, read_places, has_use}
 use Rattle.words.proofs.Rules.{option_rule, flag_rule, place_rule, rule_for, HasPlaces, rows_for, used_new, outcome, IsFault, Reader}
 use Rattle.words.proofs.Looks.{LooksLike}
 use Rattle.words.proofs.Strict.{gives, gives_new, gives_again, repeat_is, bytes_same}
@@ -93,7 +93,7 @@ module _ (reader : Reader) where
 
   -- an option with a value, and a flag
   pub valued_turn : (before : List Use) (rows : List Row) (pending : Option (Text × List Text)) (position : ℕ) (x n v : Text) (rest : List Text)
-      → Settles before rows pending → LooksLike x (named n (Some v)) → kind_in reader.grammar n ≡ valued → has_use n before ≡ false
+      → Settles before rows pending → LooksLike x (named n (Some v)) → word_kind_in reader.grammar n ≡ valued → has_use n before ≡ false
       → result_at reader (at reader rows pending idle position false) (x ∷ rest) ≡ result_at reader (at reader (rows_for (before ++ use_of n v ∷ [])) None idle position false) rest
   valued_turn before rows pending position x n v rest ok like kind new =
       let h = held reader rows pending in
@@ -110,7 +110,7 @@ module _ (reader : Reader) where
       (ap (λ rs. used (option_rule n) (v ∷ []) rs) ok.rows_are ∙ used_new n v before new)
 
   pub bare_turn : (before : List Use) (rows : List Row) (pending : Option (Text × List Text)) (position : ℕ) (x n : Text) (rest : List Text)
-      → Settles before rows pending → LooksLike x (named n None) → kind_in reader.grammar n ≡ bare → has_use n before ≡ false
+      → Settles before rows pending → LooksLike x (named n None) → word_kind_in reader.grammar n ≡ bare → has_use n before ≡ false
       → result_at reader (at reader rows pending idle position false) (x ∷ rest) ≡ result_at reader (at reader (rows_for (before ++ use_of n (codes "true") ∷ [])) None idle position false) rest
   bare_turn before rows pending position x n rest ok like kind new =
       let h = held reader rows pending in
@@ -128,7 +128,7 @@ module _ (reader : Reader) where
 
   -- an option whose value is the next word
   pub waits_turn : (before : List Use) (rows : List Row) (pending : Option (Text × List Text)) (position : ℕ) (x n : Text) (rest : List Text)
-      → Settles before rows pending → LooksLike x (named n None) → kind_in reader.grammar n ≡ valued
+      → Settles before rows pending → LooksLike x (named n None) → word_kind_in reader.grammar n ≡ valued
       → result_at reader (at reader rows pending idle position false) (x ∷ rest) ≡ result_at reader (at reader (rows_for before) (Some (n, [])) (option n) position false) rest
   waits_turn before rows pending position x n rest ok like kind =
       let h = held reader rows pending in

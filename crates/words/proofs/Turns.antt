@@ -12,7 +12,7 @@ use Rattle.clap.specs.Kinds.{Kinds, or_else}
 use Rattle.clap.specs.Faults.{bundle_fault, bundle_step_fault, other_fault, short_fault, check_fault, defaults_fault, flag_word_fault, flags_fault, long_fault, positional_fault, settle_fault, step_fault, stray_fault, walk_fault, word_fault}
 use Rattle.clap.specs.declared.error.kind.ErrorKind.TheVariants.{UnknownArgument}
 use Rattle.words.specs.Texts.{AreTexts}
-use Rattle.words.specs.Reading.{Kind, Text, Word, valued, bare, unknown, dashes, named, refused, plain, kind_in, word_of}
+use Rattle.words.specs.Reading.{Kind, Text, Word, valued, bare, unknown, dashes, named, refused, plain, word_kind_in, word_of}
 use Rattle.words.proofs.Rules.{place_rule, rule_for, plain_shape, HasPlaces, outcome, IsFault, fault_none, fault_first, Reader}
 use Rattle.words.proofs.Looks.{double_dash, LooksLike, looks}
 
@@ -80,7 +80,7 @@ module _ (reader : Reader) where
       ∙ ap (λ b. cond b [] (flag_word_fault reader.rules false (long_of x) x h)) e
 
   pub fault_named : (waiting : Waiting) (x n : Text) (v : Option Text) (h : Held) → LooksLike x (named n v)
-      → word_fault s [] false waiting x h ≡ long_fault reader.rules false (rule_for (kind_in reader.grammar n) n) v h
+      → word_fault s [] false waiting x h ≡ long_fault reader.rules false (rule_for (word_kind_in reader.grammar n) n) v h
   fault_named waiting x n v h like =
       fault_other waiting x h like.0 ∙ ap (λ l. flag_word_fault reader.rules false l x h) like.1
       ∙ ap (λ o. long_fault reader.rules false o v h) (reader.knows.long n)
@@ -185,7 +185,7 @@ module _ (reader : Reader) where
       met_other waiting position x h like.0 ∙ ap (λ l. long_or_other reader.rules waiting x l h) like.1 ∙ ap (λ o. short_or_plain reader.rules waiting x o h) like.2
 
   pub met_named : (waiting : Waiting) (position : ℕ) (x n : Text) (v : Option Text) (h : Held) → LooksLike x (named n v)
-      → let met = long_met reader.rules (rule_for (kind_in reader.grammar n) n) v h in
+      → let met = long_met reader.rules (rule_for (word_kind_in reader.grammar n) n) v h in
       word_met reader.rules [] false waiting position x h ≡ after_flag reader.rules waiting x met.0 met.1
   met_named waiting position x n v h like =
       met_other waiting position x h like.0 ∙ ap (λ l. long_or_other reader.rules waiting x l h) like.1
@@ -217,7 +217,7 @@ module _ (reader : Reader) where
       by dashes like places has = result_dashes rows pending idle position x rest like ∙ broken_behind rest rows pending idle position places has h
       by (named n v) like places has =
           word_fails rows pending idle position x rest
-          (subst IsFault (sym (fault_named idle x n v (held rows pending) like)) (long_fails (kind_in reader.grammar n) n v (held rows pending) h))
+          (subst IsFault (sym (fault_named idle x n v (held rows pending) like)) (long_fails (word_kind_in reader.grammar n) n v (held rows pending) h))
       by refused like places has = word_fails rows pending idle position x rest (fault_refused idle x rows pending like)
       by plain like [] has =
           result_as rows pending idle position false x rest [] (held rows pending, value) (fault_plain idle x (held rows pending) like) (met_plain idle position x (held rows pending) like)

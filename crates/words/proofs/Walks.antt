@@ -4,7 +4,7 @@ use Rattle.std.specs.Str.{IsUtf8}
 use Rattle.clap.specs.Walk.{Row, arg_by_id, idle, option, value}
 use Rattle.clap.specs.Faults.{long_fault, walk_fault}
 use Rattle.words.specs.Texts.{AreTexts}
-use Rattle.words.specs.Reading.{Kind, Text, Use, Word, valued, bare, unknown, dashes, named, refused, plain, use_of, kind_in, word_of, with_use, with_place, read_places, named_use, valued_use, bare_use, read_word, has_use}
+use Rattle.words.specs.Reading.{Kind, Text, Use, Word, valued, bare, unknown, dashes, named, refused, plain, use_of, word_kind_in, word_of, with_use, with_place, read_places, named_use, valued_use, bare_use, read_word, has_use}
 use Rattle.words.proofs.Rules.{option_rule, rule_for, HasPlaces, rows_for, IsFault, Reader}
 use Rattle.words.proofs.Looks.{LooksLike, looks}
 use Rattle.words.proofs.Strict.{strict_value, strict, gives, gives_new, gives_again}
@@ -22,7 +22,7 @@ module _ (reader : Reader) where
 
   module _ (x : Text) (rest : List Text) (u : IsUtf8 x) (us : AreTexts rest) (later : Claim rest) where
     valued_is : (before : List Use) (rows : List Row) (pending : Option (Text × List Text)) (position : ℕ) (places : List Text) (n : Text) (v : Option Text)
-        → Settles reader before rows pending → HasPlaces reader.rules position places → LooksLike x (named n v) → kind_in reader.grammar n ≡ valued
+        → Settles reader before rows pending → HasPlaces reader.rules position places → LooksLike x (named n v) → word_kind_in reader.grammar n ≡ valued
         → result_at reader (at reader rows pending idle position false) (x ∷ rest) ≡ gives before (valued_use n v (strict reader.grammar rest places))
     valued_is before rows pending position places n None ok has like kind =
         waits_turn reader before rows pending position x n rest ok like kind ∙ later.1 before n position places (reader.knows.id n kind) has
@@ -40,7 +40,7 @@ module _ (reader : Reader) where
             ∙ sym (gives_new (use_of n v) (strict reader.grammar rest places None) before e)
 
     bare_is : (before : List Use) (rows : List Row) (pending : Option (Text × List Text)) (position : ℕ) (places : List Text) (n : Text) (v : Option Text)
-        → Settles reader before rows pending → HasPlaces reader.rules position places → LooksLike x (named n v) → kind_in reader.grammar n ≡ bare
+        → Settles reader before rows pending → HasPlaces reader.rules position places → LooksLike x (named n v) → word_kind_in reader.grammar n ≡ bare
         → result_at reader (at reader rows pending idle position false) (x ∷ rest) ≡ gives before (bare_use n v (strict reader.grammar rest places))
     bare_is before rows pending position places n (Some v) ok has like kind =
         word_fails reader rows pending idle position x rest
@@ -59,7 +59,7 @@ module _ (reader : Reader) where
             ∙ sym (gives_new (use_of n (codes "true")) (strict reader.grammar rest places None) before e)
 
     named_is : (k : Kind) (before : List Use) (rows : List Row) (pending : Option (Text × List Text)) (position : ℕ) (places : List Text) (n : Text) (v : Option Text)
-        → Settles reader before rows pending → HasPlaces reader.rules position places → LooksLike x (named n v) → kind_in reader.grammar n ≡ k
+        → Settles reader before rows pending → HasPlaces reader.rules position places → LooksLike x (named n v) → word_kind_in reader.grammar n ≡ k
         → result_at reader (at reader rows pending idle position false) (x ∷ rest) ≡ gives before (named_use k n v (strict reader.grammar rest places))
     named_is valued before rows pending position places n v ok has like kind = valued_is before rows pending position places n v ok has like kind
     named_is bare before rows pending position places n v ok has like kind = bare_is before rows pending position places n v ok has like kind
@@ -91,7 +91,7 @@ module _ (reader : Reader) where
         → result_at reader (at reader rows pending idle position false) (x ∷ rest) ≡ gives before (read_word reader.grammar k x places (read_places rest places) (strict reader.grammar rest))
     idle_is dashes like before rows pending position places ok has =
         result_dashes reader rows pending idle position x rest like ∙ reads_behind reader rest before rows pending idle position places ok has
-    idle_is (named n v) like before rows pending position places ok has = named_is (kind_in reader.grammar n) before rows pending position places n v ok has like refl
+    idle_is (named n v) like before rows pending position places ok has = named_is (word_kind_in reader.grammar n) before rows pending position places n v ok has like refl
     idle_is refused like before rows pending position places ok has = word_fails reader rows pending idle position x rest (fault_refused reader idle x rows pending like)
     idle_is plain like before rows pending position places ok has = plain_is before rows pending position places ok has like
 
@@ -103,7 +103,7 @@ module _ (reader : Reader) where
     waiting_is (named m v) like before n position places known has =
         let h = held reader (rows_for before) (Some (n, [])) in
         word_fails reader (rows_for before) (Some (n, [])) (option n) position x rest
-        (subst IsFault (sym (fault_named reader (option n) x m v h like)) (long_fails reader (kind_in reader.grammar m) m v h (no_value reader n (rows_for before) known)))
+        (subst IsFault (sym (fault_named reader (option n) x m v h like)) (long_fails reader (word_kind_in reader.grammar m) m v h (no_value reader n (rows_for before) known)))
     waiting_is refused like before n position places known has =
         word_fails reader (rows_for before) (Some (n, [])) (option n) position x rest (fault_refused reader (option n) x (rows_for before) (Some (n, [])) like)
     waiting_is plain like before n position places known has = value_turn reader (rows_for before) position x n rest like known ∙ by (has_use n before) refl

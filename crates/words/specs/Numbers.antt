@@ -8,15 +8,15 @@ use Rattle.std.specs.Str.Parse.{digits_value}
 use Rattle.words.specs.Reading.{Text}
 
 -- an option whose value is a number, with the least and the greatest one, and the one that stands where it isn't given
-pub record Numbered : Type 0 where
+pub record NumberOption : Type 0 where
   pub name : Text
   pub least : ℕ
   pub greatest : ℕ
   pub default : ℕ
 
 -- an option of this name, from the least to the greatest number, and the default
-abbrev pub numbered : Text → ℕ → ℕ → ℕ → Numbered
-numbered name least greatest default = record {
+abbrev pub number_option : Text → ℕ → ℕ → ℕ → NumberOption
+number_option name least greatest default = record {
   name = name;
   least = least;
   greatest = greatest;
@@ -41,9 +41,9 @@ abbrev pub number_or : ℕ → Option Text → ℕ
 number_or default text = option_map_or (digits_value 10) text default
 
 -- whether what is given for an option, if it is, is a number of its range
-abbrev pub fits : (Text → Option Text) → Numbered → Bool
+abbrev pub fits : (Text → Option Text) → NumberOption → Bool
 fits look option = fits_text option.least option.greatest (look option.name)
 
 -- the number that is given for an option, or its default
-abbrev pub number_of : (Text → Option Text) → Numbered → ℕ
+abbrev pub number_of : (Text → Option Text) → NumberOption → ℕ
 number_of look option = number_or option.default (look option.name)

@@ -2,38 +2,38 @@
 -- This project's own; the pool's sizes are those of Spark's memory manager, in thousandths where Spark has fractions.
 use Rattle.std.specs.Prelude.{ℕ, ◌≤◌, List, [], ◌∷◌, Option, codes}
 use Rattle.words.specs.Reading.{Text}
-use Rattle.words.specs.Numbers.{Numbered, number_of, numbered}
+use Rattle.words.specs.Numbers.{NumberOption, number_of, number_option}
 
 -- how many threads work
-abbrev pub workers_option : Numbered
-workers_option = numbered (codes "workers") 1 16 4
+abbrev pub workers_option : NumberOption
+workers_option = number_option (codes "workers") 1 16 4
 
 -- the heap, in bytes: to 2^40, else 1 GiB
-abbrev pub heap_option : Numbered
-heap_option = numbered (codes "heap") 1 1099511627776 1073741824
+abbrev pub heap_option : NumberOption
+heap_option = number_option (codes "heap") 1 1099511627776 1073741824
 
 -- what of the heap isn't the pools', in bytes: to 2^40, else 300 MiB
-abbrev pub reserved_option : Numbered
-reserved_option = numbered (codes "reserved") 0 1099511627776 314572800
+abbrev pub reserved_option : NumberOption
+reserved_option = number_option (codes "reserved") 0 1099511627776 314572800
 
 -- the part of the rest that both pools have, in thousandths
-abbrev pub fraction_option : Numbered
-fraction_option = numbered (codes "fraction") 1 1000 600
+abbrev pub fraction_option : NumberOption
+fraction_option = number_option (codes "fraction") 1 1000 600
 
 -- the part of the pools that execution can't evict, in thousandths
-abbrev pub storage_option : Numbered
-storage_option = numbered (codes "storage") 0 1000 500
+abbrev pub storage_option : NumberOption
+storage_option = number_option (codes "storage") 0 1000 500
 
 -- how many rows a partition has at most
-abbrev pub part_rows_option : Numbered
-part_rows_option = numbered (codes "part-rows") 1 1000000 10000
+abbrev pub part_rows_option : NumberOption
+part_rows_option = number_option (codes "part-rows") 1 1000000 10000
 
 -- how many rows an input has at most
-abbrev pub max_rows_option : Numbered
-max_rows_option = numbered (codes "max-rows") 1 10000000 10000000
+abbrev pub max_rows_option : NumberOption
+max_rows_option = number_option (codes "max-rows") 1 10000000 10000000
 
 -- the options of a run over an input, or over one that is made
-abbrev pub work_options : List Numbered
+abbrev pub work_options : List NumberOption
 work_options =
     workers_option ∷ heap_option ∷ reserved_option ∷ fraction_option ∷ storage_option ∷ part_rows_option ∷ []
 

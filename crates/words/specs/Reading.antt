@@ -35,8 +35,8 @@ abbrev pub contains_text : List Text → Text → Bool
 contains_text names name = list_any (λ n. bytes_eq n name) names
 
 -- how a name stands in this grammar
-abbrev pub kind_in : Grammar → Text → Kind
-kind_in g name = if contains_text g.options name then valued else (if contains_text g.flags name then bare else unknown)
+abbrev pub word_kind_in : Grammar → Text → Kind
+word_kind_in g name = if contains_text g.options name then valued else (if contains_text g.flags name then bare else unknown)
 
 -- what a word looks like: `--`; `--name` or `--name=value`; another that begins with `-` and isn't `-`; any other
 pub data Word : Type 0 where
@@ -98,7 +98,7 @@ named_use unknown name value rest = None
 abbrev pub read_word : Grammar → Word → Text → List Text → Option (List Use)
     → (List Text → Option Text → Option (List Use)) → Option (List Use)
 read_word g dashes word places behind rest = behind
-read_word g (named name value) word places behind rest = named_use (kind_in g name) name value (rest places)
+read_word g (named name value) word places behind rest = named_use (word_kind_in g name) name value (rest places)
 read_word g refused word places behind rest = None
 read_word g plain word places behind rest = with_place places word (λ left. rest left None)
 

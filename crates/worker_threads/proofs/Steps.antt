@@ -1,5 +1,5 @@
 -- What holds of each place of two lists, from the first place and the others.
-use Rattle.std.specs.Prelude.{◌≡◌, ℕ, zero, suc, ◌+◌, ◌≤◌, ◌<◌, List, ◌∷◌, Some, length, slice_get, slice_index_or}
+use Rattle.std.specs.Prelude.{◌≡◌, ℕ, zero, suc, ◌+◌, ◌≤◌, ◌<◌, List, ◌∷◌, length, slice_get, slice_index_or}
 use Rattle.std.proofs.Common.{refl, ap, sym, subst, ◌∙◌, ◌++◌, [], take, drop, arith}
 use Rattle.std.proofs.Math.Seq.{drop-length, take-length}
 use Rattle.std.proofs.lemmas.List.{append-nil}

@@ -1,11 +1,12 @@
 //! A task with one consumer.
 
 ghost use Rattle.std.specs.Prelude.{◌≡◌, true, IsSome};
+ghost use Rattle.row_page.specs.Pages.{page_room};
 ghost use Rattle.consumer_trait.specs.States.{Rest, IsEntryBy, as_reset};
 
 use aggregate::Kind;
 use consumer_trait::{Consumer, Fed, Turn};
-use row_page::Page;
+use row_page::{PAGE_ROOM, Page};
 use std::alloc::Global;
 use std::test::Fail;
 
@@ -19,7 +20,7 @@ pub struct Task<C: Consumer> {
     rests: bool,
     ghost its: { begun ≡ true → (C.state consumer).kind ≡ kind },
     ghost stage: { rests ≡ true → (C.state consumer).stage ≡ Rest },
-    ghost room: { page.room ≡ 262144 },
+    ghost room: { page.room ≡ page_room },
 }
 
 /// Whether a consumer that was begun with this kind may be fed such an entry.
@@ -45,7 +46,7 @@ impl<C: Consumer> Task<C> {
     {
         Task {
             consumer,
-            page: Page::new(alloc, 262144),
+            page: Page::new(alloc, PAGE_ROOM),
             kind: None,
             begun: false,
             rests: true,
@@ -62,7 +63,7 @@ impl<C: Consumer> Task<C> {
         consumer.begin(&kind)?;
         Ok(Task {
             consumer,
-            page: Page::new(alloc, 262144),
+            page: Page::new(alloc, PAGE_ROOM),
             kind: Some(kind),
             begun: true,
             rests: true,

@@ -8,6 +8,9 @@ use std::sync::Wait;
 use std::test::Fail;
 use std::thread::Threads;
 
+// Three queries, whose tables are a block each.
+const THREE: &str = "group city: count; group price: count; order number price: city";
+
 // How each call of post 0's disk failed in turn, until none of a run's calls was left.
 #[derive(Clone, Copy)]
 struct Swept {
@@ -127,6 +130,46 @@ fn a_fault_of_the_output_is_told(rt: HostRuntime) -> Result<(), Fail> {
     };
     let ran = run_on(&rt, alloc, second)?;
     assert_eq!(rt; told(alloc, &ran.outcome.status)?.as_str(), "0 ");
+    Ok(())
+}
+
+// Whether a run told a fault of the output after a front of these tables, and not all of them.
+fn is_cut(ran: &Ran, tables: &[u8]) -> bool {
+    let is_named = matches!(&ran.outcome.status, Status::WriteFault);
+    is_named && tables.starts_with(&ran.written) && ran.written.len() < tables.len()
+}
+
+// Whether a run whose output fails at these calls tells so after a front of these tables.
+fn is_cut_by<X: Threads + Wait + Sync>(
+    rt: &X,
+    alloc: Global,
+    writes: &[u64],
+    tables: &[u8],
+) -> Result<bool, AllocError> {
+    let at = Call {
+        writes,
+        ..call_of(&["run", THREE], CITIES)
+    };
+    let ran = ran_with(rt, alloc, 4, at)?;
+    Ok(is_cut(&ran, tables))
+}
+
+#[test]
+fn each_write_of_the_output_is_told_when_it_fails(rt: HostRuntime) -> Result<(), Fail> {
+    let alloc = rt.alloc();
+    let tables = ran_with(&rt, alloc, 4, call_of(&["run", THREE], CITIES))?.written;
+    // Three tables, and a line feed between two.
+    let calls: [u64; 5] = [0, 1, 2, 3, 4];
+    for place in 0..5usize {
+        let rest = &calls[place..];
+        assert!(rt; is_cut_by(&rt, alloc, &rest[..1], &tables)?, "call {place}");
+        assert!(rt;
+            is_cut_by(&rt, alloc, rest, &tables)?,
+            "from call {place} on"
+        );
+    }
+    // There is no call behind these.
+    assert!(rt; !is_cut_by(&rt, alloc, &[5], &tables)?);
     Ok(())
 }
 

@@ -3,8 +3,8 @@ use crate::tests::scripts::plays;
 use crate::tests::told::Told;
 use crate::tests::words::{number_of, parted};
 use aggregate::{Agg, AggList, Kind};
+use row_form::{Form, NumberList, is_decimal, parse_number};
 use row_page::RowBuf;
-use run_file::{Form, NumberList, is_decimal, parse_number};
 use std::alloc::{AllocError, Global};
 use std::test::Fail;
 

@@ -4,7 +4,8 @@ ghost use Rattle.run_file.specs.Readers.{run_of};
 
 use crate::tests::told::Told;
 use crate::tests::words::parted;
-use run_file::{Damage, Form, Run, RunFault, RunReader};
+use row_form::Form;
+use run_file::{Damage, Run, RunFault, RunReader};
 use spill_disk::{Disk, One};
 use std::alloc::Global;
 

@@ -1,7 +1,7 @@
 // Plans of whole jobs: their texts and their passes, worked by hand.
 use crate::tests::plans::plan_over;
 use job_plan::Plan;
-use run_file::Form;
+use row_form::Form;
 use std::alloc::{AllocError, Global};
 use std::test::Fail;
 

@@ -2,13 +2,14 @@
 
 ghost use Rattle.std.specs.Prelude.{◌≡◌, true, Some};
 ghost use Rattle.aggregate.specs.declared.kind.Kind.TheVariants.{Order};
+ghost use Rattle.row_page.specs.Pages.{page_room};
 ghost use Rattle.consumer_trait.specs.States.{Rest, as_reset};
 ghost use Rattle.part_spiller.specs.Spillers.{state_of};
 
 use aggregate::Kind;
 use consumer_trait::{Consumer, Fed, Turn};
 use part_spiller::PartSpiller;
-use row_page::Page;
+use row_page::{PAGE_ROOM, Page};
 use std::alloc::Global;
 use std::test::Fail;
 
@@ -20,7 +21,7 @@ struct Task {
     rests: bool,
     ghost kind: { (state_of spiller).kind ≡ Some Order },
     ghost stage: { rests ≡ true → (state_of spiller).stage ≡ Rest },
-    ghost room: { page.room ≡ 262144 },
+    ghost room: { page.room ≡ page_room },
 }
 
 impl Task {
@@ -60,7 +61,7 @@ fn begun(alloc: Global, mut spiller: PartSpiller) -> Result<Task, Fail>
     spiller.begin(&Kind::Order)?;
     Ok(Task {
         spiller,
-        page: Page::new(alloc, 262144),
+        page: Page::new(alloc, PAGE_ROOM),
         rests: true,
     })
 }

@@ -26,7 +26,7 @@ use Rattle.job_ending.specs.Statuses.{IsCut}
 use Rattle.job_ending.specs.Removals.{RemovesLate}
 use Rattle.job_ending.specs.Tasks.{BeginsAll}
 use Rattle.csv_program.specs.Telling.{status_of_work}
-use Rattle.job_ending.specs.Written.{Gains}
+use Rattle.job_ending.specs.Written.{GainsIfAsked}
 use Rattle.job_ending.specs.declared.status.Status.{Status}
 use Rattle.csv_program.proofs.EndedRuns.{fault_not_done, follows_none, may_end, ok_holds, unprinted_work, prefix_of_nothing, sound_more, sound_ok}
 use Rattle.csv_program.proofs.Gaining.{fault_gains}
@@ -182,9 +182,9 @@ returns-clause-gains g c =
     let text = text_of c.args.asked.now.pool c.in-Some.entries in
     elim c.match-told-2.branch [
       | in-Ok w ↦
-          subst (λ (ended : Status). Gains asked ended text before (g.J.Sink.written c.match-told-2.journal)) (sym w.status-is)
-          (subst (λ (sink : g.row.J.Denot). Gains asked w.print_answers-status.result text before (g.J.Sink.written sink)) (sym w.journal-is) w.print_answers-status.ensures.gains)
+          subst (λ (ended : Status). GainsIfAsked asked ended text before (g.J.Sink.written c.match-told-2.journal)) (sym w.status-is)
+          (subst (λ (sink : g.row.J.Denot). GainsIfAsked asked w.print_answers-status.result text before (g.J.Sink.written sink)) (sym w.journal-is) w.print_answers-status.ensures.gains)
       | in-Err w ↦
-          subst (λ (ended : Status). Gains asked ended text before (g.J.Sink.written c.match-told-2.journal)) (sym (w.status-is ∙ w.status_of_fault-status.ensures))
-          (subst (λ (sink : g.row.J.Denot). Gains asked (status_of_work w.in-Err.fault) text before (g.J.Sink.written sink)) (sym w.journal-is) (fault_gains asked w.in-Err.fault text before))
+          subst (λ (ended : Status). GainsIfAsked asked ended text before (g.J.Sink.written c.match-told-2.journal)) (sym (w.status-is ∙ w.status_of_fault-status.ensures))
+          (subst (λ (sink : g.row.J.Denot). GainsIfAsked asked (status_of_work w.in-Err.fault) text before (g.J.Sink.written sink)) (sym w.journal-is) (fault_gains asked w.in-Err.fault text before))
     ]

@@ -5,7 +5,7 @@ use Rattle.byte_io.specs.Rows.{rows_of}
 use Rattle.byte_io.specs.Sinks.{AppendsPrefix}
 use Rattle.consumer_trait.specs.States.{State}
 use Rattle.landing.specs.Checks.{Checked, Refused, checked}
-use Rattle.landing.specs.Landed.{AreRowsOf}
+use Rattle.landing.specs.Landed.{PassChecks}
 use Rattle.run_file.specs.declared.run.Run.{Run}
 use Rattle.task_runner.specs.Consumers.{HasConsumers, KeepsConsumers}
 use Rattle.task_runner.specs.Pass.{states_at}
@@ -84,7 +84,7 @@ returns-in-Ok-clause-ending g c = if_each (g.S.Source.left c.args.input.now) _ (
     let l = c.in-Ok.ensures.lands in
     let files = post_files g.D.Disk.files c.land_on.new.posts in
     let plan = c.in-Ok.landed.plan in
-    let known = subst (λ (o : Option (List ℕ)). IfSome (option_map rows_of o) (AreRowsOf c.args.asked.now.job c.args.asked.now.max_rows plan l.rows)) is l.are_known in
+    let known = subst (λ (o : Option (List ℕ)). IfSome (option_map rows_of o) (PassChecks c.args.asked.now.job c.args.asked.now.max_rows plan l.rows)) is l.are_known in
     let there = landed_as files c.args.asked.now.part_rows _ c.args.asked.now.pool.workers _ c.deref.result.now l.rows refl (sym c.deref.ensures.value) l.are_landed in
     subst (λ (ending : Ending). MayEndAs ending c.run_queries.result.status)
     (ending_is c.args.asked.now.job c.args.asked.now.max_rows plan l.rows (rows_of bytes) c.requires.run.few c.totals_tell_queries.ensures c.plans_derive_rows.ensures c.requires.run.job known l.are_checked l.few)
@@ -95,7 +95,7 @@ returns-in-Ok-clause-done g c done = if_each (g.S.Source.left c.args.input.now) 
     let l = c.in-Ok.ensures.lands in
     let files = post_files g.D.Disk.files c.land_on.new.posts in
     let plan = c.in-Ok.landed.plan in
-    let known = subst (λ (o : Option (List ℕ)). IfSome (option_map rows_of o) (AreRowsOf c.args.asked.now.job c.args.asked.now.max_rows plan l.rows)) is l.are_known in
+    let known = subst (λ (o : Option (List ℕ)). IfSome (option_map rows_of o) (PassChecks c.args.asked.now.job c.args.asked.now.max_rows plan l.rows)) is l.are_known in
     let there = landed_as files c.args.asked.now.part_rows _ c.args.asked.now.pool.workers _ c.deref.result.now l.rows refl (sym c.deref.ensures.value) l.are_landed in
     subst (λ (ending : Ending). Appends (g.W.Sink.written c.args.output.now) (g.W.Sink.written c.run_queries.new.output) (printed_in ending))
     (ending_is c.args.asked.now.job c.args.asked.now.max_rows plan l.rows (rows_of bytes) c.requires.run.few c.totals_tell_queries.ensures c.plans_derive_rows.ensures c.requires.run.job known l.are_checked l.few)
@@ -106,7 +106,7 @@ returns-in-Ok-clause-prefix g c cut = if_each (g.S.Source.left c.args.input.now)
     let l = c.in-Ok.ensures.lands in
     let files = post_files g.D.Disk.files c.land_on.new.posts in
     let plan = c.in-Ok.landed.plan in
-    let known = subst (λ (o : Option (List ℕ)). IfSome (option_map rows_of o) (AreRowsOf c.args.asked.now.job c.args.asked.now.max_rows plan l.rows)) is l.are_known in
+    let known = subst (λ (o : Option (List ℕ)). IfSome (option_map rows_of o) (PassChecks c.args.asked.now.job c.args.asked.now.max_rows plan l.rows)) is l.are_known in
     let there = landed_as files c.args.asked.now.part_rows _ c.args.asked.now.pool.workers _ c.deref.result.now l.rows refl (sym c.deref.ensures.value) l.are_landed in
     subst (λ (ending : Ending). AppendsPrefix (g.W.Sink.written c.args.output.now) (g.W.Sink.written c.run_queries.new.output) (printed_in ending))
     (ending_is c.args.asked.now.job c.args.asked.now.max_rows plan l.rows (rows_of bytes) c.requires.run.few c.totals_tell_queries.ensures c.plans_derive_rows.ensures c.requires.run.job known l.are_checked l.few)
@@ -123,7 +123,7 @@ returns-in-Ok-clause-tasks g c =
         cached = λ done. record { header = l.header; plan = c.in-Ok.landed.plan; planned = l.planned; tells = c.run_queries.ensures.told done; removes = c.run_queries.ensures.removes done };
       },
       if_each (g.S.Source.left c.args.input.now) _ (λ bytes is.
-          let known = subst (λ (o : Option (List ℕ)). IfSome (option_map rows_of o) (AreRowsOf c.args.asked.now.job c.args.asked.now.max_rows c.in-Ok.landed.plan l.rows)) is l.are_known in
+          let known = subst (λ (o : Option (List ℕ)). IfSome (option_map rows_of o) (PassChecks c.args.asked.now.job c.args.asked.now.max_rows c.in-Ok.landed.plan l.rows)) is l.are_known in
           ap (λ (runs : List Run). length runs) c.deref.ensures.value ∙ l.are_landed.count ∙ partitions_are c.args.asked.now.job c.args.asked.now.max_rows c.args.asked.now.part_rows c.in-Ok.landed.plan l.rows (rows_of bytes) known),
     )
 
@@ -133,7 +133,7 @@ returns-in-Ok-clause-fed g c done = if_each (g.S.Source.left c.args.input.now) _
     let asked = c.args.asked.now in
     let files = post_files g.D.Disk.files c.land_on.new.posts in
     let plan = c.in-Ok.landed.plan in
-    let known = subst (λ (o : Option (List ℕ)). IfSome (option_map rows_of o) (AreRowsOf asked.job asked.max_rows plan l.rows)) is l.are_known in
+    let known = subst (λ (o : Option (List ℕ)). IfSome (option_map rows_of o) (PassChecks asked.job asked.max_rows plan l.rows)) is l.are_known in
     let there = landed_as files asked.part_rows _ asked.pool.workers _ c.deref.result.now l.rows refl (sym c.deref.ensures.value) l.are_landed in
     let before = states_at g.C.Consumer.state c.args.posts.now.items worker in
     let after = states_at g.C.Consumer.state c.run_queries.new.posts.items worker in
@@ -150,7 +150,7 @@ returns-in-Ok-clause-charged g c done = if_each (g.S.Source.left c.args.input.no
     let asked = c.args.asked.now in
     let files = post_files g.D.Disk.files c.land_on.new.posts in
     let plan = c.in-Ok.landed.plan in
-    let known = subst (λ (o : Option (List ℕ)). IfSome (option_map rows_of o) (AreRowsOf asked.job asked.max_rows plan l.rows)) is l.are_known in
+    let known = subst (λ (o : Option (List ℕ)). IfSome (option_map rows_of o) (PassChecks asked.job asked.max_rows plan l.rows)) is l.are_known in
     let there = landed_as files asked.part_rows _ asked.pool.workers _ c.deref.result.now l.rows refl (sym c.deref.ensures.value) l.are_landed in
     subst (λ (what : Checked). ChargesRun asked what (states_at g.C.Consumer.state c.args.posts.now.items) c.run_queries.result.journal) (sym known.passed)
     (charges_job (states_at g.C.Consumer.state c.args.posts.now.items) (states_at g.C.Consumer.state c.land_on.new.posts.items) asked.job known.header plan asked.part_rows (length c.deref.result.now) asked.pool.workers l.rows known.rows

@@ -2,7 +2,7 @@ use Rattle.std.proofs.Common.{◌≡◌, ℕ, arith, inr, length, sym, subst, re
 use Rattle.words.specs.Texts.{texts}
 use Rattle.trial_input.specs.Lines.{trial_lines}
 use Rattle.job_ending.specs.Calls.{IsWhyNot, Runs}
-use Rattle.csv_program.specs.Trials.{IsOfTrial, IsSound, trial_of}
+use Rattle.csv_program.specs.Trials.{IsOfTrial, IsSoundEnd, trial_of}
 use Rattle.csv_program.proofs.Called.{for_no_run, for_none, for_run, no_run_not, none_has, tells_run, tells_why, wanting_not_done, wanting_undamaged_on}
 use Rattle.csv_program.proofs.EndedRuns.{prefix_of_nothing}
 use Rattle.csv_program.proofs.trial.trial.Goals as goal
@@ -57,7 +57,7 @@ pub returns-in-Err-clause-ends : goal.returns-in-Err-clause-ends
 returns-in-Err-clause-ends g c = subst IsOfTrial (sym c.unpooled.ensures.status) c.in-Err.ensures.ends
 
 pub returns-in-Err-clause-sound : goal.returns-in-Err-clause-sound
-returns-in-Err-clause-sound g c = for_none (trial_of (length c.args.posts.now.items) (texts c.args.words.now)) c.unpooled.result.status _ (subst (λ (posts : ℕ). IsWhyNot (trial_of posts (texts c.args.words.now)) c.unpooled.result.status) (omega (arith, c.len.ensures, c.args.posts.now.ok.0)) (subst (IsWhyNot (trial_of c.len.result (texts c.args.words.now))) (sym c.unpooled.ensures.status) c.in-Err.ensures.why)) (λ asked is tell. subst IsSound (sym is) _)
+returns-in-Err-clause-sound g c = for_none (trial_of (length c.args.posts.now.items) (texts c.args.words.now)) c.unpooled.result.status _ (subst (λ (posts : ℕ). IsWhyNot (trial_of posts (texts c.args.words.now)) c.unpooled.result.status) (omega (arith, c.len.ensures, c.args.posts.now.ok.0)) (subst (IsWhyNot (trial_of c.len.result (texts c.args.words.now))) (sym c.unpooled.ensures.status) c.in-Err.ensures.why)) (λ asked is tell. subst IsSoundEnd (sym is) _)
 
 pub returns-in-Err-clause-complete : goal.returns-in-Err-clause-complete
 returns-in-Err-clause-complete g c = for_none (trial_of (length c.args.posts.now.items) (texts c.args.words.now)) c.unpooled.result.status _ (subst (λ (posts : ℕ). IsWhyNot (trial_of posts (texts c.args.words.now)) c.unpooled.result.status) (omega (arith, c.len.ensures, c.args.posts.now.ok.0)) (subst (IsWhyNot (trial_of c.len.result (texts c.args.words.now))) (sym c.unpooled.ensures.status) c.in-Err.ensures.why)) (λ asked is tell nothing all. inr is)

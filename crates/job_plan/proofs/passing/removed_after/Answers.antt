@@ -1,7 +1,7 @@
 use Rattle.std.proofs.Common.{◌≡◌, ◌++◌, ◌∷◌, ◌∙◌, ◌+◌, ℕ, [], true, false, sym, rules, arith}
 use Rattle.std.specs.Prelude.{◌&&◌}
 use Rattle.row_filter.specs.Chains.{links_of}
-use Rattle.job_plan.specs.Passes.{is_kept, is_last_use}
+use Rattle.job_plan.specs.Passes.{has_level, is_last_use}
 use Rattle.job_plan.proofs.PassLists.{none_kept, one_kept}
 use Rattle.job_plan.proofs.passing.removed_after.Goals as goal
 use Rattle.job_plan.proofs.passing.removed_after.Goals.{then-is_removed+in_ok-push, else-is_removed}
@@ -12,7 +12,7 @@ loop-before-preserved c =
     let passes = c.args.passes.now in
     let pass = c.args.pass in
     let before = c.loop-before.before in
-    let goes = λ (d : ℕ). is_kept links d && is_last_use links passes d pass in
+    let goes = λ (d : ℕ). has_level links d && is_last_use links passes d pass in
     elim c.if-is_removed.branch [
       | then-is_removed+in_ok-push w ↦
           let removed : goes (before + 1) ≡ true = sym c.is_removed.ensures ∙ w.if-is_removed.true in

@@ -4,7 +4,6 @@ use Rattle.std.proofs.lemmas.List.{map-append, take_more}
 use Rattle.std.proofs.lemmas.List.Elements.{All-push}
 use Rattle.csv.specs.Records.{fields_of}
 use Rattle.job_plan.specs.Plans.{form_in, places_in}
-use Rattle.job_plan.specs.Rows.{AreBytes}
 use Rattle.landing.proofs.Keeping.{is_kept, row_fits}
 use Rattle.landing.proofs.rules.make_row.Goals as goal
 

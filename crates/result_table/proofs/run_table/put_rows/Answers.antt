@@ -7,7 +7,7 @@ use Rattle.run_file.specs.AtEntries.{entry_at}
 use Rattle.run_file.specs.Shelved.{files_on}
 use Rattle.run_file.specs.declared.run.Run.{Run}
 use Rattle.job_plan.specs.Telling.{IsTold, row_of}
-use Rattle.result_table.specs.Ahead.{Takes}
+use Rattle.result_table.specs.Ahead.{TakesEntry}
 use Rattle.result_table.specs.Table.{text_in}
 use Rattle.result_table.proofs.Ahead.{goes_on_run, same_entry}
 use Rattle.result_table.proofs.Leaving.{leaves_self, leaves_trans}
@@ -38,19 +38,19 @@ returns-in_err-go_on-clause-stops g c =
 
 pub key-requires : goal.key-requires
 key-requires g c =
-    let takes : Takes c.entries.reader c.go_on.new.self (Ok true) = rw c.if-branch.true at c.in_ok-go_on.ensures.takes in
+    let takes : TakesEntry c.entries.reader c.go_on.new.self (Ok true) = rw c.if-branch.true at c.in_ok-go_on.ensures.takes in
     (c.args.kind.now, takes.0 c.args.kind.now c.entries.invariant.form)
 
 pub value-requires : goal.value-requires
 value-requires g c =
-    let takes : Takes c.entries.reader c.go_on.new.self (Ok true) = rw c.if-branch.true at c.in_ok-go_on.ensures.takes in
+    let takes : TakesEntry c.entries.reader c.go_on.new.self (Ok true) = rw c.if-branch.true at c.in_ok-go_on.ensures.takes in
     (c.args.kind.now, takes.0 c.args.kind.now c.entries.invariant.form)
 
 pub returns-then-not-branch-clause-stops : goal.returns-then-not-branch-clause-stops
 returns-then-not-branch-clause-stops g c =
     let files : _ → ℕ → Option Files = files_on g.H.Shelf.disk_of g.D.Disk.files in
     let inv = c.entries.invariant in
-    let takes : Takes c.entries.reader c.go_on.new.self (Ok true) = rw c.if-branch.true at c.in_ok-go_on.ensures.takes in
+    let takes : TakesEntry c.entries.reader c.go_on.new.self (Ok true) = rw c.if-branch.true at c.in_ok-go_on.ensures.takes in
     let goes : Goes (files c.entries.shelf c.args.reader.now.run.disk) (files c.go_on.new.shelf c.args.reader.now.run.disk) c.entries.reader c.go_on.new.self true =
     goes_on_run (files c.entries.shelf) (files c.go_on.new.shelf) c.entries.reader c.go_on.new.self c.args.reader.now.run (Ok true) inv.run
     (rw c.if-branch.true at c.in_ok-go_on.ensures.gives) in
@@ -64,7 +64,7 @@ returns-then-len-ge-BLOCK-clause-tells g c =
     let files : _ → ℕ → Option Files = files_on g.H.Shelf.disk_of g.D.Disk.files in
     let inv = c.entries.invariant in
     let shape = c.args.shape.now in
-    let takes : Takes c.entries.reader c.go_on.new.self (Ok true) = rw c.if-branch.true at c.in_ok-go_on.ensures.takes in
+    let takes : TakesEntry c.entries.reader c.go_on.new.self (Ok true) = rw c.if-branch.true at c.in_ok-go_on.ensures.takes in
     let goes : Goes (files c.entries.shelf c.args.reader.now.run.disk) (files c.go_on.new.shelf c.args.reader.now.run.disk) c.entries.reader c.go_on.new.self true =
     goes_on_run (files c.entries.shelf) (files c.go_on.new.shelf) c.entries.reader c.go_on.new.self c.args.reader.now.run (Ok true) inv.run
     (rw c.if-branch.true at c.in_ok-go_on.ensures.gives) in
@@ -83,7 +83,7 @@ entries-preserved g c =
     let files : _ → ℕ → Option Files = files_on g.H.Shelf.disk_of g.D.Disk.files in
     let inv = c.entries.invariant in
     let shape = c.args.shape.now in
-    let takes : Takes c.entries.reader c.go_on.new.self (Ok true) = rw c.if-branch.true at c.in_ok-go_on.ensures.takes in
+    let takes : TakesEntry c.entries.reader c.go_on.new.self (Ok true) = rw c.if-branch.true at c.in_ok-go_on.ensures.takes in
     let goes : Goes (files c.entries.shelf c.args.reader.now.run.disk) (files c.go_on.new.shelf c.args.reader.now.run.disk) c.entries.reader c.go_on.new.self true =
     goes_on_run (files c.entries.shelf) (files c.go_on.new.shelf) c.entries.reader c.go_on.new.self c.args.reader.now.run (Ok true) inv.run
     (rw c.if-branch.true at c.in_ok-go_on.ensures.gives) in
@@ -106,7 +106,7 @@ entries-preserved g c =
 pub returns-clause-tells : goal.returns-clause-tells
 returns-clause-tells g c =
     let inv = c.entries.invariant in
-    let stays : Takes c.entries.reader c.go_on.new.self (Ok false) = rw c.if-branch.false at c.in_ok-go_on.ensures.takes in (
+    let stays : TakesEntry c.entries.reader c.go_on.new.self (Ok false) = rw c.if-branch.false at c.in_ok-go_on.ensures.takes in (
       inv.told,
       tells_same c.args.shape.now _ _ _ c.args.reader.now c.entries.reader c.go_on.new.self inv.told inv.tells stays.0
           (c.go_on.ensures.shelf.same c.args.reader.now.run.disk),
@@ -115,5 +115,5 @@ returns-clause-tells g c =
 
 pub returns-clause-whole : goal.returns-clause-whole
 returns-clause-whole g c none =
-    let stays : Takes c.entries.reader c.go_on.new.self (Ok false) = rw c.if-branch.false at c.in_ok-go_on.ensures.takes in
+    let stays : TakesEntry c.entries.reader c.go_on.new.self (Ok false) = rw c.if-branch.false at c.in_ok-go_on.ensures.takes in
     stays.1 ∙ ap (λ (r : Run). r.count) c.entries.invariant.run

@@ -7,7 +7,7 @@ use Rattle.run_file.specs.declared.run.Run.{Run}
 use Rattle.run_file.specs.Shelved.{files_on}
 use Rattle.job_plan.specs.Telling.{is_wide, value_numbers}
 use Rattle.run_file.specs.AtEntries.{entry_at}
-use Rattle.result_table.specs.Ahead.{GoesTo, Takes}
+use Rattle.result_table.specs.Ahead.{GoesTo, TakesEntry}
 use Rattle.result_table.proofs.Leaving.{leaves_trans}
 use Rattle.result_table.proofs.WideKeys.{goes_sound, is_outside, wide_ended, wide_found, wide_next}
 use Rattle.result_table.proofs.wide.first_wide.Goals as goal
@@ -20,17 +20,17 @@ returns-in_err-go_on-clause-undamaged g c entries ahead =
 
 pub value-requires : goal.value-requires
 value-requires g c =
-    let takes : Takes c.entries.reader c.go_on.new.self (Ok true) = rw c.if-branch.true at c.in_ok-go_on.ensures.takes in
+    let takes : TakesEntry c.entries.reader c.go_on.new.self (Ok true) = rw c.if-branch.true at c.in_ok-go_on.ensures.takes in
     (Group c.args.aggs.now, takes.0 (Group c.args.aggs.now) c.entries.invariant.kind)
 
 pub has_wide-requires : goal.has_wide-requires
 has_wide-requires g c =
-    let takes : Takes c.entries.reader c.go_on.new.self (Ok true) = rw c.if-branch.true at c.in_ok-go_on.ensures.takes in
+    let takes : TakesEntry c.entries.reader c.go_on.new.self (Ok true) = rw c.if-branch.true at c.in_ok-go_on.ensures.takes in
     c.value.ensures.kind (Group c.args.aggs.now) (takes.0 (Group c.args.aggs.now) c.entries.invariant.kind)
 
 pub key-requires : goal.key-requires
 key-requires g c =
-    let takes : Takes c.entries.reader c.go_on.new.self (Ok true) = rw c.if-branch.true at c.in_ok-go_on.ensures.takes in
+    let takes : TakesEntry c.entries.reader c.go_on.new.self (Ok true) = rw c.if-branch.true at c.in_ok-go_on.ensures.takes in
     (Group c.args.aggs.now, takes.0 (Group c.args.aggs.now) c.entries.invariant.kind)
 
 pub returns-then-has_wide-clause-ok : goal.returns-then-has_wide-clause-ok

@@ -2,7 +2,7 @@ use Rattle.std.proofs.Common.{◌≡◌, List, ℕ, length, take, sym, ap, subst
 use Rattle.std.specs.List.{AllByRecursion}
 use Rattle.std.proofs.lemmas.List.{take_all}
 use Rattle.row_page.specs.Grammar.{IsPage}
-use Rattle.run_file.specs.Forms.{IsWellFormed}
+use Rattle.row_form.specs.Forms.{IsWellFormed}
 use Rattle.run_file.specs.Whole.{BeginsRows}
 use Rattle.run_file.proofs.Wholes.{same_rows}
 use Rattle.run_file.proofs.whole.page_of.Goals as goal

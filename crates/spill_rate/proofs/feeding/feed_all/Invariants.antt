@@ -1,4 +1,5 @@
 use Rattle.std.proofs.Common.{◌≡◌, [], Some, ◌≤◌, ◌^◌}
+use Rattle.row_page.specs.Pages.{empty_page}
 use Rattle.consumer_trait.specs.States.{Rest}
 use Rattle.spill_rate.proofs.feeding.feed_all.Given as goal
 
@@ -7,5 +8,5 @@ abbrev pub invariant-loop-entry : goal.invariant-loop-entry
 invariant-loop-entry g l = record {
   kind : (g.C.Consumer.state l.consumer).kind ≡ Some l.kind;
   rest : (g.C.Consumer.state l.consumer).stage ≡ Rest;
-  page : l.page ≡ record { rows = []; room = 262144 };
+  page : l.page ≡ empty_page;
 }

@@ -1,5 +1,6 @@
 use Rattle.std.proofs.Common.{◌≡◌, [], Some, ◌-◌, ◌^◌}
 use Rattle.aggregate.specs.declared.kind.Kind.TheVariants.{Order}
+use Rattle.row_page.specs.Pages.{empty_page}
 use Rattle.consumer_trait.specs.States.{Rest}
 use Rattle.row_sorter.specs.Sorters.{state_of}
 use Rattle.run_merge.specs.Merging.{runs_of}
@@ -11,7 +12,7 @@ abbrev pub invariant-loop-run : goal.invariant-loop-run
 invariant-loop-run l = record {
   kind : (state_of l.sorter).kind ≡ Some Order;
   rest : (state_of l.sorter).stage ≡ Rest;
-  page : l.page ≡ record { rows = []; room = 262144 };
+  page : l.page ≡ empty_page;
   on : AreOn (2 ^ 32 - 1) l.runs.items;
 }
 

@@ -1,4 +1,5 @@
 use Rattle.std.proofs.Common.{◌≡◌, []}
+use Rattle.row_page.specs.Pages.{empty_page}
 use Rattle.spill_disk.specs.Files.{IsThere}
 use Rattle.spill_rate.proofs.merging.spill_to.Given as goal
 
@@ -6,7 +7,7 @@ use Rattle.spill_rate.proofs.merging.spill_to.Given as goal
 abbrev pub invariant-loop-turn : goal.invariant-loop-turn
 invariant-loop-turn g l = record {
   kind : (g.C.Consumer.state l.consumer).kind ≡ (g.C.Consumer.state l.fn.consumer).kind;
-  page : l.page ≡ record { rows = []; room = 262144 };
+  page : l.page ≡ empty_page;
   there : IsThere (g.D.Disk.files l.disk) l.writer.file;
   disk : l.writer.disk ≡ l.fn.writer.disk;
 }

@@ -4,7 +4,7 @@ use Rattle.std.proofs.lemmas.Result.{err_from_is_err_and}
 use Rattle.pool_ledger.specs.History.{was_begun}
 use Rattle.memory_lock.specs.Workers.{own_of}
 use Rattle.run_file.specs.declared.run.Run.{Run}
-use Rattle.task_runner.specs.OneWorker.{DoesFirst, DoesOne, Scene, scene_of}
+use Rattle.task_runner.specs.OneWorker.{DoesFirst, DoesOne, WorkerScene, scene_by}
 use Rattle.task_runner.specs.PartAnswers.{HoldsPart, SaysPart}
 use Rattle.task_runner.specs.PassViews.{PassView, parts_of, task_for}
 use Rattle.task_runner.specs.Workers.{part_at}
@@ -17,7 +17,7 @@ use Rattle.task_runner.proofs.worker.run_worker.Goals as goal
 pub tasks-init : goal.tasks-init
 tasks-init g c =
     let post = c.args.post.now in
-    let start : Scene = scene_of c.args.worker.now (map g.C.Consumer.state post.consumers.items) (g.D.Disk.files post.disk) (g.D.Disk.faults post.disk) in
+    let start : WorkerScene = scene_by c.args.worker.now (map g.C.Consumer.state post.consumers.items) (g.D.Disk.files post.disk) (g.D.Disk.faults post.disk) in
     record {
       tasks = 0;
       first = subst (λ (answers : List (Option Run)). DoesFirst g.B.Basis.rows c.args.pass.now c.args.workers c.args.place start start 0 answers) (sym c.new-answers.ensures.items)
@@ -83,18 +83,18 @@ returns-in_err-next_task-clause-stays g c =
     let post = c.args.post.now in
     let mid = c.tasks.post in
     let new = c.next_task.new.post in
-    stays_trans (scene_of c.args.worker.now (map g.C.Consumer.state post.consumers.items) (g.D.Disk.files post.disk) (g.D.Disk.faults post.disk))
-    (scene_of c.tasks.worker (map g.C.Consumer.state mid.consumers.items) (g.D.Disk.files mid.disk) (g.D.Disk.faults mid.disk))
-    (scene_of c.next_task.new.worker (map g.C.Consumer.state new.consumers.items) (g.D.Disk.files new.disk) (g.D.Disk.faults new.disk)) c.tasks.invariant.first.stays c.next_task.ensures.stays
+    stays_trans (scene_by c.args.worker.now (map g.C.Consumer.state post.consumers.items) (g.D.Disk.files post.disk) (g.D.Disk.faults post.disk))
+    (scene_by c.tasks.worker (map g.C.Consumer.state mid.consumers.items) (g.D.Disk.files mid.disk) (g.D.Disk.faults mid.disk))
+    (scene_by c.next_task.new.worker (map g.C.Consumer.state new.consumers.items) (g.D.Disk.files new.disk) (g.D.Disk.faults new.disk)) c.tasks.invariant.first.stays c.next_task.ensures.stays
 
 pub returns-in_err-next_task-clause-may_work : goal.returns-in_err-next_task-clause-may_work
 returns-in_err-next_task-clause-may_work g c =
     let size = ap (λ (view : PassView). parts_of view) c.pass.view_is in
     let inside : c.tasks.part < parts_of c.args.pass.now = omega (arith, size, c.tasks-test.true) in
     let post = c.args.post.now in
-    let start : Scene = scene_of c.args.worker.now (map g.C.Consumer.state post.consumers.items) (g.D.Disk.files post.disk) (g.D.Disk.faults post.disk) in
+    let start : WorkerScene = scene_by c.args.worker.now (map g.C.Consumer.state post.consumers.items) (g.D.Disk.files post.disk) (g.D.Disk.faults post.disk) in
     let mid = c.tasks.post in
-    let now : Scene = scene_of c.tasks.worker (map g.C.Consumer.state mid.consumers.items) (g.D.Disk.files mid.disk) (g.D.Disk.faults mid.disk) in
+    let now : WorkerScene = scene_by c.tasks.worker (map g.C.Consumer.state mid.consumers.items) (g.D.Disk.files mid.disk) (g.D.Disk.faults mid.disk) in
     let k = c.tasks.invariant.tasks in
     let pass = c.args.pass.now in
     let part = part_at c.args.workers c.args.place k in
@@ -107,11 +107,11 @@ tasks-preserved g c =
     let size = ap (λ (view : PassView). parts_of view) c.pass.view_is in
     let inside : c.tasks.part < parts_of c.args.pass.now = omega (arith, size, c.tasks-test.true) in
     let post = c.args.post.now in
-    let start : Scene = scene_of c.args.worker.now (map g.C.Consumer.state post.consumers.items) (g.D.Disk.files post.disk) (g.D.Disk.faults post.disk) in
+    let start : WorkerScene = scene_by c.args.worker.now (map g.C.Consumer.state post.consumers.items) (g.D.Disk.files post.disk) (g.D.Disk.faults post.disk) in
     let mid = c.tasks.post in
-    let now : Scene = scene_of c.tasks.worker (map g.C.Consumer.state mid.consumers.items) (g.D.Disk.files mid.disk) (g.D.Disk.faults mid.disk) in
+    let now : WorkerScene = scene_by c.tasks.worker (map g.C.Consumer.state mid.consumers.items) (g.D.Disk.files mid.disk) (g.D.Disk.faults mid.disk) in
     let new = c.next_task.new.post in
-    let after : Scene = scene_of c.next_task.new.worker (map g.C.Consumer.state new.consumers.items) (g.D.Disk.files new.disk) (g.D.Disk.faults new.disk) in
+    let after : WorkerScene = scene_by c.next_task.new.worker (map g.C.Consumer.state new.consumers.items) (g.D.Disk.files new.disk) (g.D.Disk.faults new.disk) in
     let pass = c.args.pass.now in
     let workers = c.args.workers in
     let place = c.args.place in
@@ -130,9 +130,9 @@ tasks-preserved g c =
 pub returns-clause-all : goal.returns-clause-all
 returns-clause-all g c =
     let post = c.args.post.now in
-    let start : Scene = scene_of c.args.worker.now (map g.C.Consumer.state post.consumers.items) (g.D.Disk.files post.disk) (g.D.Disk.faults post.disk) in
+    let start : WorkerScene = scene_by c.args.worker.now (map g.C.Consumer.state post.consumers.items) (g.D.Disk.files post.disk) (g.D.Disk.faults post.disk) in
     let mid = c.tasks.post in
-    let now : Scene = scene_of c.tasks.worker (map g.C.Consumer.state mid.consumers.items) (g.D.Disk.files mid.disk) (g.D.Disk.faults mid.disk) in
+    let now : WorkerScene = scene_by c.tasks.worker (map g.C.Consumer.state mid.consumers.items) (g.D.Disk.files mid.disk) (g.D.Disk.faults mid.disk) in
     let size = ap (λ (view : PassView). parts_of view) c.pass.view_is in
     let inv = c.tasks.invariant in (
       inv.tasks,

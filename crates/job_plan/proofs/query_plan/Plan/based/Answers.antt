@@ -1,5 +1,5 @@
 use Rattle.std.proofs.Common.{sym, subst}
-use Rattle.run_file.specs.declared.form.Form.{Form}
+use Rattle.row_form.specs.declared.form.Form.{Form}
 use Rattle.row_filter.specs.declared.chain.Link.{Link}
 use Rattle.std.proofs.Common.{List}
 use Rattle.row_filter.specs.Chains.{form_of, links_of}

@@ -5,7 +5,7 @@ use Rattle.std.proofs.lemmas.Result.{on_ok_weaker}
 use Rattle.row_page.specs.Views.{fields_in}
 use Rattle.job_plan.specs.Entries.{field_bytes, key_of, value_of}
 use Rattle.job_plan.specs.Plans.{kept_at}
-use Rattle.job_plan.specs.Within.{Covers}
+use Rattle.job_plan.specs.Within.{HasColumnsOf}
 use Rattle.job_plan.specs.declared.planned.Planned.{Planned}
 use Rattle.job_plan.proofs.Queries.{kept_read, with_shape}
 use Rattle.job_plan.proofs.Sizes.{covers, covers-prop, key-long, value-kind, value-long}
@@ -17,7 +17,7 @@ put_key-requires-clause-covers c =
     let row = fields_in c.args.row in
     let query = c.index.result.now in
     let within : c.args.query < length plan.queries.items = omega (arith, length-map plan.queries.items (λ (q : Planned). q.kept)) in
-    with_shape plan.chain plan.queries.items plan.passes.items c.args.query query row (Covers row query.kept) plan.planned within c.index.ensures c.requires.row (covers-prop row query.kept)
+    with_shape plan.chain plan.queries.items plan.passes.items c.args.query query row (HasColumnsOf row query.kept) plan.planned within c.index.ensures c.requires.row (covers-prop row query.kept)
     (λ n e eight s. covers row n query.kept e s)
 
 pub put_value-requires : goal.put_value-requires
@@ -26,7 +26,7 @@ put_value-requires c =
     let row = fields_in c.args.row in
     let query = c.index.result.now in
     let within : c.args.query < length plan.queries.items = omega (arith, length-map plan.queries.items (λ (q : Planned). q.kept)) in
-    with_shape plan.chain plan.queries.items plan.passes.items c.args.query query row (Covers row query.kept) plan.planned within c.index.ensures c.requires.row (covers-prop row query.kept)
+    with_shape plan.chain plan.queries.items plan.passes.items c.args.query query row (HasColumnsOf row query.kept) plan.planned within c.index.ensures c.requires.row (covers-prop row query.kept)
     (λ n e eight s. covers row n query.kept e s)
 
 pub returns-clause-kind : goal.returns-clause-kind

@@ -1,8 +1,6 @@
 use Rattle.std.proofs.Common.{◌≤◌, length, arith}
 use Rattle.std.proofs.Math.Logic.{∥∥₁_elim}
 use Rattle.std.proofs.Props.{props}
-use Rattle.std.proofs.lemmas.List.{length-map}
-use Rattle.job_plan.specs.declared.passing.Pass.{Pass}
 use Rattle.job_plan.proofs.query_plan.Plan.passes.Goals as goal
 
 pub overflow_cast-result : goal.overflow_cast-result

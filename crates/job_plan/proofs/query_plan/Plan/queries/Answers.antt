@@ -1,7 +1,6 @@
-use Rattle.std.proofs.Common.{◌≡◌, ◌<◌, ◌∙◌, [], length, map, sym, subst, arith}
+use Rattle.std.proofs.Common.{◌<◌, ◌∙◌, [], length, arith}
 use Rattle.std.proofs.Math.Logic.{∥∥₁_elim}
 use Rattle.std.proofs.lemmas.List.{length-map}
-use Rattle.job_plan.specs.Planning.{FitsQueries}
 use Rattle.job_plan.specs.declared.passing.Pass.{Pass}
 use Rattle.job_plan.specs.declared.planned.Planned.{Planned}
 use Rattle.job_plan.proofs.Queries.{pass_field, pass_read, queries-prop}

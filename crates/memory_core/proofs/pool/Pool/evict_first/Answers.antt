@@ -7,7 +7,7 @@ use Rattle.pool_ledger.specs.Sizes.{Sizes}
 use Rattle.pool_laws.specs.Growing.{entry_by}
 use Rattle.pool_laws.specs.Evicting.{IsEvicting}
 use Rattle.eviction.specs.declared.candidate.Candidate.{Candidate}
-use Rattle.block_store.specs.Stores.{Held, candidate_of, held_at}
+use Rattle.block_store.specs.Stores.{HeldBlock, candidate_of, held_at}
 use Rattle.block_store.specs.Seen.{blocks_of, copies_of, disk_of}
 use Rattle.memory_core.specs.Caches.{Cache, PoolView}
 use Rattle.memory_core.specs.Evictions.{EvictsInTurn}
@@ -24,7 +24,7 @@ unreachable-requires g c =
     some_goes now.history now.cache (map candidate_of now.cache.blocks) c.args.except (record { list_is = refl; apart = c.next_to_go.ensures.apart }) c.requires.amid.in_step next.3 (next.2 ++ next.4.behind) next.4.left_first (sym c.next_to_go.ensures.found ∙ c.in_default.is)
 
 -- the block in memory that was found
-found : (g : given.Over) (c : In-Some g) → (held : Held) × IsNext c.args.self.now.history c.args.self.now.cache c.args.except c.in-Some.next held
+found : (g : given.Over) (c : In-Some g) → (held : HeldBlock) × IsNext c.args.self.now.history c.args.self.now.cache c.args.except c.in-Some.next held
 found g c =
     let now = c.args.self.now in
     next_goes now.history now.cache (map candidate_of now.cache.blocks) c.args.except (record { list_is = refl; apart = c.next_to_go.ensures.apart }) c.requires.amid.in_step c.in-Some.next (sym c.next_to_go.ensures.found ∙ c.in-Some.is)
@@ -44,7 +44,7 @@ evict_one-fate-requires-clause-resident g c =
 pub evict_one-fate-requires-clause-unpinned : goal.evict_one-fate-requires-clause-unpinned
 evict_one-fate-requires-clause-unpinned g c =
     let at = (goal.at.evict_one-fate-requires-clause-unpinned g c).In-Some in
-    ap (λ found. option_map_or (λ (h : Held). h.pins) found 0) (there g at _ (c.self.view_is ∙ c.next_to_go.ensures.same)) ∙ (found g at).1.unpinned
+    ap (λ found. option_map_or (λ (h : HeldBlock). h.pins) found 0) (there g at _ (c.self.view_is ∙ c.next_to_go.ensures.same)) ∙ (found g at).1.unpinned
 
 -- what is kept of blocks once it is put out
 abbrev left : (g : given.Over) (c : After-evict_one-fate g) → Cache
@@ -75,7 +75,7 @@ put_out g c =
     }
 
 -- what follows once it is put out, for whichever victims are left
-follows : (g : given.Over) (c : After-evict_one-fate g) (held : Held) → IsNext c.args.self.now.history c.args.self.now.cache c.args.except c.in-Some.next held
+follows : (g : given.Over) (c : After-evict_one-fate g) (held : HeldBlock) → IsNext c.args.self.now.history c.args.self.now.cache c.args.except c.in-Some.next held
     → IsFollowed c.args.self.now.setup c.args.self.now.history c.args.self.now.cache (left g c) c.args.worker c.args.except held c.evict_one-fate.result
 follows g c held is =
     let now = c.args.self.now in

@@ -4,7 +4,7 @@ use Rattle.std.specs.List.{list_any}
 use Rattle.pool_ledger.specs.Blocks.{Resident}
 use Rattle.pool_ledger.specs.Legal.{pending}
 use Rattle.memory_core.specs.Changes.{RemovesInTurn, may_be_removed, may_be_removed_below, removable_of}
-use Rattle.memory_core.specs.Evictions.{WritesNothing}
+use Rattle.memory_core.specs.Evictions.{KeepsStore}
 use Rattle.memory_core.specs.Steady.{IsAmid}
 use Rattle.memory_core.proofs.pool.Pool.remove.Given as goal
 
@@ -18,6 +18,6 @@ invariant-loop-step g l = record {
   none_before : list_any (may_be_removed_below l.dataset l.from) l.self.cache.blocks ≡ false;
   removes : (gone : List Resident) × RemovesInTurn l.worker l.dataset 0 l.from gone l.fn.self.history l.fn.self.cache.blocks l.self.history l.self.cache.blocks
       × IsPermutation (gone ++ removable_of l.dataset l.self.cache.blocks) (removable_of l.dataset l.fn.self.cache.blocks);
-  disk : WritesNothing l.fn.self.cache l.self.cache;
+  disk : KeepsStore l.fn.self.cache l.self.cache;
   room_left : l.self.spare + l._step ≡ l.fn.self.spare;
 }

@@ -6,7 +6,7 @@ use Rattle.pool_ledger.specs.Recorded.{CanFollow}
 use Rattle.pool_ledger.specs.Sizes.{Sizes}
 use Rattle.pool_ledger.specs.History.{History}
 use Rattle.pool_laws.specs.Growing.{entry_by}
-use Rattle.block_store.specs.Stores.{Held, held_at, pins_at, without}
+use Rattle.block_store.specs.Stores.{HeldBlock, held_at, pins_at, without}
 use Rattle.block_store.specs.Seen.{blocks_of, copies_of, disk_of}
 use Rattle.memory_core.specs.Caches.{Cache, PoolView}
 use Rattle.memory_core.specs.Changes.{may_be_removed, may_be_removed_below}
@@ -79,7 +79,7 @@ returns-clause-count g c =
     let next = c.in-Some.next in
     let it = (found g (goal.at.returns-clause-count g c).In-Some).0 in
     let is = c.self.view_is ∙ c.next_to_remove.ensures.same in
-    ap (λ (bs : List Held). count_by (may_be_removed c.args.dataset) bs + 1) (c.remove.ensures.blocks ∙ ap (λ (v : PoolView). without next.dataset next.part v.cache.blocks) is)
+    ap (λ (bs : List HeldBlock). count_by (may_be_removed c.args.dataset) bs + 1) (c.remove.ensures.blocks ∙ ap (λ (v : PoolView). without next.dataset next.part v.cache.blocks) is)
     ∙ fewer c.args.dataset now.cache.blocks next it c.next_to_remove.ensures.apart
 
 pub returns-clause-from : goal.returns-clause-from

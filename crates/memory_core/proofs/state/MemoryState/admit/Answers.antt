@@ -15,7 +15,7 @@ use Rattle.block_store.specs.Stores.{held_of}
 use Rattle.memory_core.specs.Caches.{Cache, Memory, PoolView}
 use Rattle.memory_core.specs.Changes.{StillFitsWith}
 use Rattle.memory_core.specs.Evictions.{EvictsInTurn, admission_by, refusal_by}
-use Rattle.memory_core.specs.Steady.{Goes}
+use Rattle.memory_core.specs.Steady.{GoesSteadily}
 use Rattle.memory_core.proofs.Planned.{IsPlan, Turned, admit_entry, history_planned, own_planned, refusal_entry, steady_after, turned}
 use Rattle.memory_core.proofs.state.MemoryState.admit.Given as given
 use Rattle.memory_core.proofs.state.MemoryState.admit.Goals as goal
@@ -60,7 +60,7 @@ absent g c =
 
 -- where it is admitted, its admission may follow
 admits : (g : given.Over) (c : After-evict g) → c.plan_admission-plan.result.admitted ≡ true
-    → Goes c.self.inside.pool.setup c.self.inside.pool.history
+    → GoesSteadily c.self.inside.pool.setup c.self.inside.pool.history
     (admission_by c.self.inside.pool.setup c.self.inside.pool.history c.args.worker (arc_value c.args.block).dataset (arc_value c.args.block).part (page_cost (arc_value c.args.block).page.rows) (arc_value c.args.block).level ∷ c.evict.new.self.history)
     c.args.worker 0 0
 admits g c admitted =
@@ -72,7 +72,7 @@ admits g c admitted =
 
 -- and where it isn't, its refusal
 refuses : (g : given.Over) (c : After-evict g) → c.plan_admission-plan.result.admitted ≡ false
-    → Goes c.self.inside.pool.setup c.self.inside.pool.history
+    → GoesSteadily c.self.inside.pool.setup c.self.inside.pool.history
     (refusal_by c.self.inside.pool.setup c.self.inside.pool.history c.args.worker (arc_value c.args.block).dataset (arc_value c.args.block).part (page_cost (arc_value c.args.block).page.rows) ∷ c.evict.new.self.history)
     c.args.worker 0 0
 refuses g c refused =

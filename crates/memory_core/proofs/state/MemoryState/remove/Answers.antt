@@ -4,7 +4,7 @@ use Rattle.pool_ledger.specs.Sizes.{Sizes}
 use Rattle.pool_ledger.specs.History.{History}
 use Rattle.pool_ledger.specs.Journal.{journal_of}
 use Rattle.pool_ledger.specs.Workers.{Continues}
-use Rattle.block_store.specs.Stores.{Held}
+use Rattle.block_store.specs.Stores.{HeldBlock}
 use Rattle.memory_core.specs.Caches.{Cache, Memory, PoolView}
 use Rattle.memory_core.specs.Changes.{StillFits, may_be_removed}
 use Rattle.memory_core.proofs.Fitting.{cleared_fits}
@@ -32,4 +32,4 @@ returns-clause-rows g c =
 pub returns-clause-left : goal.returns-clause-left
 returns-clause-left g c =
     pinned_alone c.args.dataset c.forget.new.self.history c.forget.new.self.cache c.forget.ensures.amid.in_step
-    (ap (λ (bs : List Held). list_any (may_be_removed c.args.dataset) bs) c.forget.ensures.blocks ∙ c.remove.ensures.none_left)
+    (ap (λ (bs : List HeldBlock). list_any (may_be_removed c.args.dataset) bs) c.forget.ensures.blocks ∙ c.remove.ensures.none_left)

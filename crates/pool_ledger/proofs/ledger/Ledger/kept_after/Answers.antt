@@ -1,5 +1,5 @@
 use Rattle.std.proofs.Common.{arith, subst}
-use Rattle.pool_ledger.specs.Recorded.{CanCome, CanFollow, IsAttempt, IsRelease}
+use Rattle.pool_ledger.specs.Recorded.{CanCome, CanFollow, CanAttempt, CanRelease}
 use Rattle.pool_ledger.proofs.Tasks.{entry_of}
 use Rattle.pool_ledger.proofs.After.{IsSeated, is_seated, kept-Begin, kept-Attempt, kept-Release, kept-End, kept-Leave, kept-Remove, kept-Pin, at_entry}
 use Rattle.pool_ledger.proofs.Residents.{stored-without}
@@ -7,19 +7,19 @@ use Rattle.pool_ledger.specs.declared.entry.Event.TheVariants.{Evict, Remove}
 use Rattle.pool_ledger.proofs.ledger.Ledger.kept_after.Goals as goal
 use Rattle.pool_ledger.proofs.ledger.Ledger.kept_after.Goals.{In-Begin-default, In-Attempt-Some, In-Release-Some, In-End-Some, In-Evict-default, In-Remove-default}
 
-can_attempt : (c : In-Attempt-Some) → IsAttempt c.args.self.now.setup c.args.self.now.history c.args.entry.worker c.in-Attempt-Some.task-0 c.in-Attempt-Some.moved c.in-Attempt-Some.got
+can_attempt : (c : In-Attempt-Some) → CanAttempt c.args.self.now.setup c.args.self.now.history c.args.entry.worker c.in-Attempt-Some.task-0 c.in-Attempt-Some.moved c.in-Attempt-Some.got
 can_attempt c = subst (λ e. CanCome c.args.self.now.setup c.args.self.now.history c.args.entry.worker e) c.in-Attempt-Some.is-0 c.requires.event_fits
 
 attempt_seat : (c : In-Attempt-Some) → IsSeated c.args.self.now.setup c.args.self.now.history c.kept-kept.result c.in-Attempt-Some.open c.in-Attempt-Some.task-0
 attempt_seat c = is_seated _ _ _ _ _ _ c.kept-kept.ensures.sums c.kept-kept.ensures.recorded (can_attempt c).open_now c.in-Attempt-Some.is-1
 
-can_release : (c : In-Release-Some) → IsRelease c.args.self.now.history c.args.entry.worker c.in-Release-Some.task-0 c.in-Release-Some.freed
+can_release : (c : In-Release-Some) → CanRelease c.args.self.now.history c.args.entry.worker c.in-Release-Some.task-0 c.in-Release-Some.freed
 can_release c = subst (λ e. CanCome c.args.self.now.setup c.args.self.now.history c.args.entry.worker e) c.in-Release-Some.is-0 c.requires.event_fits
 
 release_seat : (c : In-Release-Some) → IsSeated c.args.self.now.setup c.args.self.now.history c.kept-kept.result c.in-Release-Some.open c.in-Release-Some.task-0
 release_seat c = is_seated _ _ _ _ _ _ c.kept-kept.ensures.sums c.kept-kept.ensures.recorded (can_release c).open_now c.in-Release-Some.is-1
 
-can_end : (c : In-End-Some) → IsRelease c.args.self.now.history c.args.entry.worker c.in-End-Some.task-0 c.in-End-Some.freed
+can_end : (c : In-End-Some) → CanRelease c.args.self.now.history c.args.entry.worker c.in-End-Some.task-0 c.in-End-Some.freed
 can_end c = subst (λ e. CanCome c.args.self.now.setup c.args.self.now.history c.args.entry.worker e) c.in-End-Some.is-0 c.requires.event_fits
 
 end_seat : (c : In-End-Some) → IsSeated c.args.self.now.setup c.args.self.now.history c.kept-kept.result c.in-End-Some.open c.in-End-Some.task-0

@@ -2,7 +2,7 @@ use Rattle.std.proofs.Common.{◌≡◌, ◌<◌, ◌≤◌, ◌∙◌, ℕ, Lis
 use Rattle.std.specs.Prelude.{◌↔◌}
 use Rattle.spill_disk.specs.Files.{Files}
 use Rattle.run_file.specs.Readers.{ReaderView}
-use Rattle.run_file.specs.Reading.{GoesOn, IsAhead, Moves, TakesRow}
+use Rattle.run_file.specs.Reading.{ReadsOn, IsAhead, Moves, TakesRow}
 use Rattle.run_file.specs.Shelved.{files_on}
 use Rattle.run_file.proofs.Standing.{entry_taken}
 use Rattle.result_table.proofs.Ahead.{gave_fewer, goes_to, said}
@@ -12,7 +12,7 @@ pub returns-then-branch-clause-gives : goal.returns-then-branch-clause-gives
 returns-then-branch-clause-gives g c entries ahead =
     let files : _ → ℕ → Option Files = files_on g.H.Shelf.disk_of g.D.Disk.files in
     let gives = subst (λ (v : ReaderView). (rows : List (List (List ℕ))) → IsAhead (files c.args.shelf.now v.run.disk) v rows
-    → GoesOn (files c.advance.new.shelf v.run.disk) c.advance.new.self rows (Ok true)) c.self.view_is (rw c.if-branch.true at c.in_ok-advance.ensures.gives) in
+    → ReadsOn (files c.advance.new.shelf v.run.disk) c.advance.new.self rows (Ok true)) c.self.view_is (rw c.if-branch.true at c.in_ok-advance.ensures.gives) in
     goes_to _ _ c.args.self.now c.advance.new.self entries (Ok true) gives ahead
 
 pub returns-then-branch-clause-takes : goal.returns-then-branch-clause-takes

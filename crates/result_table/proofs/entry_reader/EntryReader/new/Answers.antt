@@ -1,5 +1,5 @@
 use Rattle.std.proofs.Common.{◌∙◌, ap}
-use Rattle.run_file.specs.declared.form.Form.TheVariants.{Entries}
+use Rattle.row_form.specs.declared.form.Form.TheVariants.{Entries}
 use Rattle.result_table.proofs.Ahead.{begins_with}
 use Rattle.result_table.proofs.entry_reader.EntryReader.new.Goals as goal
 

@@ -1,6 +1,6 @@
 use Rattle.std.proofs.Common.{ℕ, ◌+◌, max, ap, ◌∙◌}
 use Rattle.run_file.specs.declared.run.Run.{Run}
-use Rattle.run_file.specs.Runs.{Counts}
+use Rattle.run_file.specs.Runs.{CountsRows}
 use Rattle.row_page.specs.Spelling.{page_bytes}
 use Rattle.run_file.proofs.Filing.{nothing_appended, longer_file}
 use Rattle.run_file.proofs.Writing.{counts_more}
@@ -22,7 +22,7 @@ pub returns-in-Ok-clause-counts : goal.returns-in-Ok-clause-counts
 returns-in-Ok-clause-counts g c rows h =
     let before : Run = c.self.inside.run in
     let after : Run = record { disk = before.disk; file = before.file; bytes = c.in-Some.total; count = c.in-Some-checked_add.count; greatest = c.max-greatest.result } in
-    let counted : Counts before rows = rw (← c.self.view_is) at h in
+    let counted : CountsRows before rows = rw (← c.self.view_is) at h in
     counts_more before after rows c.args.page.now.rows
     (c.in-Some.ensures.1 ∙ ap (λ (n : ℕ). before.bytes + n) c.bytes-bytes.ensures.length)
     (c.in-Some-checked_add.ensures.1 ∙ ap (λ (n : ℕ). before.count + n) c.rows.ensures)

@@ -2,8 +2,8 @@ use Rattle.std.proofs.Common.{[], ◌∷◌, map, subst, sym}
 use Rattle.std.specs.Prelude.{Some}
 use Rattle.aggregate.specs.declared.kind.Kind.{Kind}
 use Rattle.aggregate.specs.declared.kind.Kind.TheVariants.{Group, Order}
-use Rattle.run_file.specs.declared.form.Form.TheVariants.{Entries}
-use Rattle.run_file.specs.Forms.{IsWellFormed}
+use Rattle.row_form.specs.declared.form.Form.TheVariants.{Entries}
+use Rattle.row_form.specs.Forms.{IsWellFormed}
 use Rattle.run_file.specs.Readers.{run_of}
 use Rattle.run_file.specs.Several.{greatest_of}
 use Rattle.run_merge.specs.Heads.{row_lent}

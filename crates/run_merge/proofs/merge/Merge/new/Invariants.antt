@@ -1,6 +1,6 @@
 use Rattle.std.proofs.Common.{◌≡◌, ℕ, map, take, length, false}
 use Rattle.std.specs.Prelude.{sum_by}
-use Rattle.run_file.specs.declared.form.Form.TheVariants.{Entries}
+use Rattle.row_form.specs.declared.form.Form.TheVariants.{Entries}
 use Rattle.run_file.specs.Readers.{form_of, run_of}
 use Rattle.run_file.specs.Reading.{Begins}
 use Rattle.run_merge.specs.Heads.{EachReader, has_head}

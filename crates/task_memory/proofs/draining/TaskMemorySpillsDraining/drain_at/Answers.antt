@@ -1,7 +1,7 @@
 use Rattle.std.proofs.Common.{◌<◌, List, length, ap, subst, sym, ◌∙◌}
 use Rattle.std.specs.Prelude.{All}
 use Rattle.run_file.specs.declared.run.Run.{Run}
-use Rattle.task_memory.specs.RunLists.{IsBounded, lists_of}
+use Rattle.task_memory.specs.RunLists.{IsTaskRun, lists_of}
 use Rattle.task_memory.specs.Scenes.{IsBetween, Scene}
 use Rattle.task_memory.specs.Words.{scene_of}
 use Rattle.task_memory.proofs.Between.{between_kept, between_taken}
@@ -26,7 +26,7 @@ returns-in-Ok-clause-drains g c =
       empty = empties.empty;
       kept = keeps.kept;
       picks = picks ∙ keeps.picks;
-      bounded = subst (λ (list : List Run). All IsBounded list) (sym c.take_runs.ensures.taken) (keeps.ready.bounded c.args.place);
+      bounded = subst (λ (list : List Run). All IsTaskRun list) (sym c.take_runs.ensures.taken) (keeps.ready.bounded c.args.place);
       totals = drains_totals old.stack new.stack runs c.args.place taken within goes.same keeps.runs.totals empties.empty c.take_runs.ensures.taken c.take_runs.ensures.runs;
       new_files = takes_new old.stack runs c.args.place taken keeps.runs.grow keeps.runs.added c.take_runs.ensures.taken;
       only = adds_only old.stack new.stack runs c.args.place taken keeps.runs c.take_runs.ensures.taken c.take_runs.ensures.runs;

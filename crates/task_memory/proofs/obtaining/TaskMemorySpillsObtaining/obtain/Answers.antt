@@ -1,5 +1,6 @@
 use Rattle.std.proofs.Common.{◌≡◌, ◌<◌, [], ◌∷◌, length, map, List, ℕ, refl, sym, ap, subst, inl, ◌∙◌, arith}
 use Rattle.std.proofs.lemmas.List.{length-map, get_or_default}
+use Rattle.row_page.specs.Pages.{empty_page}
 use Rattle.task_pool.specs.Accounts.{Held, less_by}
 use Rattle.task_pool.specs.Asks.{FirstAsks}
 use Rattle.task_memory.specs.declared.ask.Ask.{Ask}
@@ -44,7 +45,7 @@ returns-then-got-must-clause-obtains g c =
     let ready : Stack = (scene_of g.C.Consumer.state g.P.Pool.state g.D.Disk.files g.D.Disk.faults self).stack in
     let begun : IsBegun (single ready ask) (stack_of (map g.C.Consumer.state self.consumers.now) (g.D.Disk.files self.disk.now) (g.P.Pool.state c.try_pool.new.pool).account tried) =
     begun_is _ _ _ _ self.spills c.open.new.self tried _ ask c.args.wish c.requires.rests.ready fresh count c.in-Ok.ensures.opens refl refl refl refl c.in-Ok-try_pool.ensures.tries c.requires.bytes.ordered c.requires.bytes.some in
-    let page : c.open.new.self.page ≡ record { rows = []; room = 262144 } = c.open.ensures.page ∙ c.requires.rests.page in
+    let page : c.open.new.self.page ≡ empty_page = c.open.ensures.page ∙ c.requires.rests.page in
     let served : Stack = (scene_of g.C.Consumer.state g.P.Pool.state g.D.Disk.files g.D.Disk.faults c.if-index-must.self).stack in
     let answered : IsAnswered ready served ask = elim c.if-index-must.branch [
       | then-index-must+in_ok-serve w ↦ rw w.self-is (answered_later ready _ _ ask begun w.in_ok-serve.ensures.serves.serves)
@@ -54,7 +55,7 @@ returns-then-got-must-clause-obtains g c =
           let got : (ask_at c.try_pool.new.asks.items 0).got ≡ c.index.result.now.got = ap (λ (each : Ask). each.got) top in
           rw w.self-is (answered_at_once ready _ ask begun (omega (arith, w.if-index-must.false)))
     ] in
-    let clean : (scene_of g.C.Consumer.state g.P.Pool.state g.D.Disk.files g.D.Disk.faults c.if-index-must.self).page ≡ record { rows = []; room = 262144 } = elim c.if-index-must.branch [
+    let clean : (scene_of g.C.Consumer.state g.P.Pool.state g.D.Disk.files g.D.Disk.faults c.if-index-must.self).page ≡ empty_page = elim c.if-index-must.branch [
       | then-index-must+in_ok-serve w ↦ rw w.self-is w.in_ok-serve.ensures.serves.page
       | else-index-must w ↦ rw w.self-is page
     ] in
@@ -109,7 +110,7 @@ returns-in-Ok-release-clause-obtains g c =
     let ready : Stack = (scene_of g.C.Consumer.state g.P.Pool.state g.D.Disk.files g.D.Disk.faults self).stack in
     let begun : IsBegun (single ready ask) (stack_of (map g.C.Consumer.state self.consumers.now) (g.D.Disk.files self.disk.now) (g.P.Pool.state c.try_pool.new.pool).account tried) =
     begun_is _ _ _ _ self.spills c.open.new.self tried _ ask c.args.wish c.requires.rests.ready fresh count c.in-Ok.ensures.opens refl refl refl refl c.in-Ok-try_pool.ensures.tries c.requires.bytes.ordered c.requires.bytes.some in
-    let page : c.open.new.self.page ≡ record { rows = []; room = 262144 } = c.open.ensures.page ∙ c.requires.rests.page in
+    let page : c.open.new.self.page ≡ empty_page = c.open.ensures.page ∙ c.requires.rests.page in
     let served : Stack = (scene_of g.C.Consumer.state g.P.Pool.state g.D.Disk.files g.D.Disk.faults c.if-index-must.self).stack in
     let answered : IsAnswered ready served ask = elim c.if-index-must.branch [
       | then-index-must+in_ok-serve w ↦ rw w.self-is (answered_later ready _ _ ask begun w.in_ok-serve.ensures.serves.serves)
@@ -119,7 +120,7 @@ returns-in-Ok-release-clause-obtains g c =
           let got : (ask_at c.try_pool.new.asks.items 0).got ≡ c.index.result.now.got = ap (λ (each : Ask). each.got) top in
           rw w.self-is (answered_at_once ready _ ask begun (omega (arith, w.if-index-must.false)))
     ] in
-    let clean : (scene_of g.C.Consumer.state g.P.Pool.state g.D.Disk.files g.D.Disk.faults c.if-index-must.self).page ≡ record { rows = []; room = 262144 } = elim c.if-index-must.branch [
+    let clean : (scene_of g.C.Consumer.state g.P.Pool.state g.D.Disk.files g.D.Disk.faults c.if-index-must.self).page ≡ empty_page = elim c.if-index-must.branch [
       | then-index-must+in_ok-serve w ↦ rw w.self-is w.in_ok-serve.ensures.serves.page
       | else-index-must w ↦ rw w.self-is page
     ] in

@@ -3,7 +3,7 @@ use Rattle.task_memory.specs.Inner.{IsStanding}
 use Rattle.task_memory.specs.Scenes.{GoesOn, Scene}
 use Rattle.task_memory.specs.Asks.{lacking, top_of}
 use Rattle.task_memory.specs.Stacks.{IsTried}
-use Rattle.task_memory.specs.Serving.{AddsRunsWithin, GetsFew, Moves, remaining}
+use Rattle.task_memory.specs.Serving.{AddsRunsWithin, GetsFew, KeepsInSteps, remaining}
 use Rattle.task_memory.specs.Words.{scene_of}
 use Rattle.task_memory.proofs.steps.TaskMemorySpillsServing.serve.Given as goal
 
@@ -14,7 +14,7 @@ invariant-spills g l =
     record {
       stands : IsStanding now;
       tried : IsTried now.stack;
-      moves : Moves first.stack now.stack;
+      moves : KeepsInSteps first.stack now.stack;
       few : GetsFew first.stack now.stack;
       few_runs : AddsRunsWithin (lacking (top_of first.stack.asks)) first.stack now.stack;
       falls : remaining now.stack ≤ remaining first.stack;
