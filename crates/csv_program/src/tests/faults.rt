@@ -1,6 +1,6 @@
 // Each call of the input, of the output and of a disk fails in turn.
 use crate::tests::running::{
-    BOTH, CITIES, Call, Ran, call_of, generated, run_on, run_with, told, words_with,
+    BOTH, CITIES, Call, Ran, answer, call_of, cities, ends, generated, run_on, run_with, words_with,
 };
 use job_ending::Status;
 use std::alloc::{AllocError, Global};
@@ -10,6 +10,8 @@ use std::thread::Threads;
 
 // Three queries, whose tables are a block each.
 const THREE: &str = "group city: count; group price: count; order number price: city";
+
+const TABLE: &str = "0 |city,count,sum_price\nBergen,1,4\nOslo,2,8\n";
 
 // How each call of post 0's disk failed in turn, until none of a run's calls was left.
 #[derive(Clone, Copy)]
@@ -30,20 +32,6 @@ fn is_told(ran: &Ran, table: &[u8]) -> bool {
     is_named && table.starts_with(&ran.written)
 }
 
-// Makes a call, for which there is memory.
-fn ran_with<X: Threads + Wait + Sync>(
-    rt: &X,
-    alloc: Global,
-    posts: usize,
-    call: Call<'_>,
-) -> Result<Ran, AllocError> {
-    let ran = run_with(rt, alloc, posts, call)?;
-    match ran.outcome.status {
-        Status::NoMemory => Err(AllocError),
-        _ => Ok(ran),
-    }
-}
-
 fn sweep<X: Threads + Wait + Sync>(
     rt: &X,
     alloc: Global,
@@ -52,7 +40,7 @@ fn sweep<X: Threads + Wait + Sync>(
     input: &[u8],
     limit: u64,
 ) -> Result<Swept, AllocError> {
-    let whole = ran_with(rt, alloc, posts, call_of(words, input))?;
+    let whole = run_with(rt, alloc, posts, call_of(words, input))?;
     let mut swept = Swept {
         calls: 0,
         told: true,
@@ -65,7 +53,7 @@ fn sweep<X: Threads + Wait + Sync>(
             disk: &fails,
             ..call_of(words, input)
         };
-        let ran = ran_with(rt, alloc, posts, at)?;
+        let ran = run_with(rt, alloc, posts, at)?;
         if ran.outcome.status.number() == 0 {
             return Ok(swept);
         }
@@ -79,32 +67,37 @@ fn sweep<X: Threads + Wait + Sync>(
     Ok(swept)
 }
 
+// How a run ends in which this call of the input fails: whether it is done, or else tells so before it has a pool.
+fn ends_at_read<X: Threads + Wait + Sync>(
+    rt: &X,
+    alloc: Global,
+    call: u64,
+) -> Result<(bool, bool), AllocError> {
+    let fails = [call];
+    let at = Call {
+        reads: &fails,
+        ..cities(&["run", BOTH])
+    };
+    let ran = run_on(rt, alloc, at)?;
+    let found = answer(alloc, &ran.outcome.status, &ran.written)?;
+    let told = found.as_str() == "13 input failed|" && ran.outcome.setup.is_none();
+    Ok((found.as_str() == TABLE, told))
+}
+
 #[test]
 fn a_fault_of_the_input_is_told_and_nothing_is_written(rt: HostRuntime) -> Result<(), Fail> {
     let alloc = rt.alloc();
-    let words = ["run", BOTH];
-    let mut last = 0u64;
+    let mut calls = 0u64;
     for call in 0..64u64 {
-        let fails = [call];
-        let at = Call {
-            reads: &fails,
-            ..call_of(&words, CITIES)
-        };
-        let ran = run_on(&rt, alloc, at)?;
-        if ran.outcome.status.number() == 0 {
+        let (done, told) = ends_at_read(&rt, alloc, call)?;
+        if done {
             break;
         }
-        last = call.wrapping_add(1);
-        assert_eq!(rt;
-            told(alloc, &ran.outcome.status)?.as_str(),
-            "13 input failed"
-        );
-        assert!(rt; ran.written.is_empty());
-        assert!(rt; ran.outcome.setup.is_none());
+        assert!(rt; told, "call {call}");
+        calls = call.wrapping_add(1);
     }
     // At least the bytes, and the end.
-    assert!(rt; last >= 2);
-    assert!(rt; last < 64);
+    assert!(rt; calls >= 2 && calls < 64, "{calls}");
     Ok(())
 }
 
@@ -114,22 +107,17 @@ fn a_fault_of_the_output_is_told(rt: HostRuntime) -> Result<(), Fail> {
     let words = ["run", BOTH];
     let first = Call {
         writes: &[0],
-        ..call_of(&words, CITIES)
+        ..cities(&words)
     };
     let ran = run_on(&rt, alloc, first)?;
-    assert_eq!(rt;
-        told(alloc, &ran.outcome.status)?.as_str(),
-        "14 output failed"
-    );
-    assert!(rt; ran.written.is_empty());
-    assert!(rt; ran.outcome.setup.is_some());
+    let found = answer(alloc, &ran.outcome.status, &ran.written)?;
+    assert!(rt; found.as_str() == "14 output failed|" && ran.outcome.setup.is_some());
     // The table is one block.
     let second = Call {
         writes: &[1],
-        ..call_of(&words, CITIES)
+        ..cities(&words)
     };
-    let ran = run_on(&rt, alloc, second)?;
-    assert_eq!(rt; told(alloc, &ran.outcome.status)?.as_str(), "0 ");
+    assert!(rt; ends(&rt, alloc, 4, second, TABLE)?);
     Ok(())
 }
 
@@ -148,25 +136,33 @@ fn is_cut_by<X: Threads + Wait + Sync>(
 ) -> Result<bool, AllocError> {
     let at = Call {
         writes,
-        ..call_of(&["run", THREE], CITIES)
+        ..cities(&["run", THREE])
     };
-    let ran = ran_with(rt, alloc, 4, at)?;
+    let ran = run_with(rt, alloc, 4, at)?;
     Ok(is_cut(&ran, tables))
+}
+
+// The same of this call alone, and of it and all behind it.
+fn is_cut_at<X: Threads + Wait + Sync>(
+    rt: &X,
+    alloc: Global,
+    call: u64,
+    tables: &[u8],
+) -> Result<bool, AllocError> {
+    let mut from = Vec::new(alloc);
+    for more in 0..5u64 {
+        from.push(call.wrapping_add(more))?;
+    }
+    Ok(is_cut_by(rt, alloc, &[call], tables)? && is_cut_by(rt, alloc, &from, tables)?)
 }
 
 #[test]
 fn each_write_of_the_output_is_told_when_it_fails(rt: HostRuntime) -> Result<(), Fail> {
     let alloc = rt.alloc();
-    let tables = ran_with(&rt, alloc, 4, call_of(&["run", THREE], CITIES))?.written;
+    let tables = run_with(&rt, alloc, 4, cities(&["run", THREE]))?.written;
     // Three tables, and a line feed between two.
-    let calls: [u64; 5] = [0, 1, 2, 3, 4];
-    for place in 0..5usize {
-        let rest = &calls[place..];
-        assert!(rt; is_cut_by(&rt, alloc, &rest[..1], &tables)?, "call {place}");
-        assert!(rt;
-            is_cut_by(&rt, alloc, rest, &tables)?,
-            "from call {place} on"
-        );
+    for call in 0..5u64 {
+        assert!(rt; is_cut_at(&rt, alloc, call, &tables)?, "call {call}");
     }
     // There is no call behind these.
     assert!(rt; !is_cut_by(&rt, alloc, &[5], &tables)?);
@@ -176,17 +172,11 @@ fn each_write_of_the_output_is_told_when_it_fails(rt: HostRuntime) -> Result<(),
 #[test]
 fn a_fault_of_a_disk_names_its_post(rt: HostRuntime) -> Result<(), Fail> {
     let alloc = rt.alloc();
-    let words = ["run", BOTH];
     let second = Call {
         disk: &[1],
-        ..call_of(&words, CITIES)
+        ..cities(&["run", BOTH])
     };
-    let ran = run_on(&rt, alloc, second)?;
-    assert_eq!(rt;
-        told(alloc, &ran.outcome.status)?.as_str(),
-        "16 disk of post 0 failed"
-    );
-    assert!(rt; ran.written.is_empty());
+    assert!(rt; ends(&rt, alloc, 4, second, "16 disk of post 0 failed|")?);
     Ok(())
 }
 
@@ -194,7 +184,7 @@ fn a_fault_of_a_disk_names_its_post(rt: HostRuntime) -> Result<(), Fail> {
 fn each_call_of_a_disk_is_told_when_it_fails(rt: HostRuntime) -> Result<(), Fail> {
     let alloc = rt.alloc();
     for job in [BOTH, "order number price: city"] {
-        let swept = sweep(&rt, alloc, 4, &["run", job], CITIES, 100)?;
+        let swept = sweep(&rt, alloc, 4, &["run", job], CITIES.as_bytes(), 100)?;
         assert!(rt; swept.told, "{job}");
         // A file of rows and one of a run are each made, written and read.
         assert_eq!(rt; swept.files, 2, "{job}");

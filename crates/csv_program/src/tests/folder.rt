@@ -2,10 +2,10 @@
 use crate::spill::prepare;
 use spill_disk::Disk;
 use std::alloc::AllocError;
+use std::fs;
 use std::fs::File;
 use std::rt::Files;
 use std::test::*;
-use std::{fs, io};
 
 // The number and the text; `had` where it has the folder.
 fn told<R: Files<File = File> + AllocGlobal + Clone + Drop>(rt: &R) -> Result<String, AllocError> {
@@ -18,22 +18,36 @@ fn told<R: Files<File = File> + AllocGlobal + Clone + Drop>(rt: &R) -> Result<St
     }
 }
 
+// Whether a run is told so where a file stands at this place.
+fn is_told_of<R: Files<File = File> + AllocGlobal + Clone + Drop>(
+    rt: &R,
+    place: &str,
+    wanted: &str,
+) -> Result<bool, Fail> {
+    fs::write(rt, place, b"a file".as_slice())?;
+    let found = told(rt)?;
+    fs::remove_file(rt, place)?;
+    Ok(found.as_str() == wanted)
+}
+
+// Whether a run is told so beside another one.
+fn is_told_beside<R: Files<File = File> + AllocGlobal + Clone + Drop>(
+    rt: &R,
+    wanted: &str,
+) -> Result<bool, AllocError> {
+    let _first = prepare(rt, &["run", "group city: count"]);
+    let found = told(rt)?;
+    Ok(found.as_str() == wanted)
+}
+
 #[test]
 fn a_folder_that_cannot_be_had_is_named_with_the_reason(rt: HostRuntime) -> Result<(), Fail> {
     // A run of the program in this folder may have left its own.
     let _ = fs::remove_dir_all(&rt, "spill");
-    fs::write(&rt, "spill", b"a file".as_slice())?;
-    let of_a_file = told(&rt)?;
-    fs::remove_file(&rt, "spill")?;
-    assert_eq!(rt; of_a_file.as_str(), "16 spill/lock: not a directory");
+    assert!(rt; is_told_of(&rt, "spill", "16 spill/lock: not a directory")?);
     fs::create_dir(&rt, "spill")?;
-    fs::write(&rt, "spill/post3", b"a file".as_slice())?;
-    let of_a_post = told(&rt)?;
-    fs::remove_file(&rt, "spill/post3")?;
-    assert_eq!(rt; of_a_post.as_str(), "16 spill/post3: not a directory");
-    let _first = prepare(&rt, &["run", "group city: count"]);
-    let of_the_second = told(&rt)?;
-    assert_eq!(rt; of_the_second.as_str(), "16 spill: another run is using it");
+    assert!(rt; is_told_of(&rt, "spill/post3", "16 spill/post3: not a directory")?);
+    assert!(rt; is_told_beside(&rt, "16 spill: another run is using it")?);
     Ok(())
 }
 
@@ -45,44 +59,26 @@ fn put_file<D: Disk>(disk: &mut D) -> bool {
     }
 }
 
-// How many files are in a folder.
-fn files_in<R: Files + AllocGlobal + Clone + Drop>(rt: &R, folder: &str) -> io::Result<usize> {
-    let mut files = 0usize;
-    for entry in fs::read_dir(rt, folder)? {
-        let _ = entry?;
-        files = files.wrapping_add(1);
-    }
-    Ok(files)
+// Makes two files on a disk.
+fn put_files<D: Disk>(disk: &mut D) -> bool {
+    put_file(disk) && put_file(disk)
 }
 
-// How many files are in the folders of the posts and of the store, in that order.
-fn all_files<R: Files + AllocGlobal + Clone + Drop>(rt: &R) -> Result<Vec<usize>, Fail> {
-    let mut all = Vec::new(rt.alloc());
-    for place in 0..16u64 {
-        let folder = format!(in rt.alloc(); "spill/post{place}")?;
-        all.push(files_in(rt, &folder)?)?;
-    }
-    all.push(files_in(rt, "spill/store")?)?;
-    Ok(all)
-}
-
-// Makes a file on the disk of each post and of the store, in the folder of a run.
+// Makes two files on the disk of each post and of the store, in the folder of a run.
 fn put_all<R: Files<File = File> + AllocGlobal + Clone + Drop>(rt: &R) -> Result<bool, Fail> {
     let (mut posts, mut store, _lock) = prepare(rt, &["run", "group city: count"])?;
-    let mut all = put_file(&mut store);
+    let mut all = put_files(&mut store);
     for place in 0..posts.len() {
-        all = put_file(&mut posts[place].disk) && all;
+        all = put_files(&mut posts[place].disk) && all;
     }
     Ok(all)
 }
 
+// A file that is there already can't be made, and each disk calls its first one 0.
 #[test]
 fn each_post_has_a_folder_that_a_run_finds_empty(rt: HostRuntime) -> Result<(), Fail> {
     let _ = fs::remove_dir_all(&rt, "spill");
-    assert!(rt; put_all(&rt)?);
-    assert_eq!(rt; all_files(&rt)?.as_slice(), [1usize; 17].as_slice());
-    // What a run left goes when the next one begins.
-    let _next = prepare(&rt, &["run", "group city: count"])?;
-    assert_eq!(rt; all_files(&rt)?.as_slice(), [0usize; 17].as_slice());
+    assert!(rt; put_all(&rt)?, "a folder of several disks");
+    assert!(rt; put_all(&rt)?, "a folder that wasn't emptied");
     Ok(())
 }

@@ -1,8 +1,11 @@
 // Tasks that are held where they start: the workers of a pass are there at the same time, and no delay changes a table.
 use crate::tests::records::is_legal;
-use crate::tests::running::{BOTH, CITIES, call_of, run_through, told};
+use crate::tests::running::{BOTH, cities, run_through};
+use std::alloc::{AllocError, Global};
+use std::sync::Wait;
 use std::sync::atomic::{AtomicU64, Ordering};
 use std::test::*;
+use std::thread::Threads;
 use task_runner::{Gate, Place};
 
 const TABLE: &[u8] = b"city,count,sum_price\nBergen,1,4\nOslo,2,8\n";
@@ -42,6 +45,17 @@ impl Gate for Meeting {
     }
 }
 
+// Whether a run of two workers through a gate has the table.
+fn has_table<X: Threads + Wait + Sync>(
+    rt: &X,
+    alloc: Global,
+    gate: &Meeting,
+) -> Result<bool, AllocError> {
+    let words = ["run", "--workers", "2", "--part-rows", "2", BOTH];
+    let ran = run_through(rt, alloc, 2, cities(&words), gate)?;
+    Ok(ran.outcome.status.number() == 0 && ran.written.as_slice() == TABLE)
+}
+
 // Workers that run one after another reach the limit.
 #[test]
 fn two_workers_are_in_their_tasks_at_the_same_time(rt: HostRuntime) -> Result<(), Fail> {
@@ -51,10 +65,7 @@ fn two_workers_are_in_their_tasks_at_the_same_time(rt: HostRuntime) -> Result<()
         came: AtomicU64::new(0),
         given_up: AtomicU64::new(0),
     };
-    let words = ["run", "--workers", "2", "--part-rows", "2", BOTH];
-    let ran = run_through(&rt, alloc, 2, call_of(&words, CITIES), &gate)?;
-    assert_eq!(rt; told(alloc, &ran.outcome.status)?.as_str(), "0 ");
-    assert_eq!(rt; ran.written.as_slice(), TABLE);
+    assert!(rt; has_table(&rt, alloc, &gate)?);
     assert_eq!(rt; gate.given_up.load(Ordering::SeqCst), 0);
     Ok(())
 }
@@ -81,6 +92,21 @@ impl Gate for Delays {
     }
 }
 
+// Whether a run with delays drawn from a seed has the table and a legal journal.
+fn is_as_ever<X: Threads + Wait + Sync>(
+    rt: &X,
+    alloc: Global,
+    words: &[&str],
+    seed: u64,
+) -> Result<bool, AllocError> {
+    let gate = Delays {
+        seed,
+        turns: AtomicU64::new(0),
+    };
+    let ran = run_through(rt, alloc, 2, cities(words), &gate)?;
+    Ok(ran.written.as_slice() == TABLE && is_legal(alloc, &ran)?)
+}
+
 // In a pool of 9,000 bytes, of which the first task that asks gets all, the other waits, whichever it is.
 #[test]
 fn delays_change_no_table(rt: HostRuntime) -> Result<(), Fail> {
@@ -97,13 +123,7 @@ fn delays_change_no_table(rt: HostRuntime) -> Result<(), Fail> {
         BOTH,
     ];
     for seed in 0..1000 {
-        let gate = Delays {
-            seed,
-            turns: AtomicU64::new(0),
-        };
-        let ran = run_through(&rt, alloc, 2, call_of(&words, CITIES), &gate)?;
-        assert!(rt; ran.written.as_slice() == TABLE, "{seed}");
-        assert!(rt; is_legal(alloc, &ran)?, "{seed}");
+        assert!(rt; is_as_ever(&rt, alloc, &words, seed)?, "{seed}");
     }
     Ok(())
 }

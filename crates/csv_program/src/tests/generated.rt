@@ -1,5 +1,5 @@
 // A large input in pools from too small to ample.
-use crate::tests::running::{Ran, call_of, generated, run_with, words_with};
+use crate::tests::running::{Ran, answer, call_of, ends, generated, run_with, words_with};
 use std::alloc::{AllocError, Global};
 use std::sync::Wait;
 use std::test::Fail;
@@ -63,35 +63,32 @@ fn pools_that_have_room_agree_on_orders(rt: HostRuntime) -> Result<(), Fail> {
     Ok(())
 }
 
+// The words of a job in partitions of 2,000 rows.
+fn words_of<'a>(workers: &'a str, heap: &'a str, job: &'a str) -> [&'a str; 7] {
+    [
+        "run",
+        workers,
+        "--reserved=0",
+        "--fraction=1000",
+        "--part-rows=2000",
+        heap,
+        job,
+    ]
+}
+
 #[test]
 fn any_number_of_workers_gives_the_same_table(rt: HostRuntime) -> Result<(), Fail> {
     let alloc = rt.alloc();
     let input = generated(alloc, ROWS)?;
     let job = "group k: count, sum price";
     let alone = run_in(&rt, alloc, "1073741824", job, &input)?;
-    assert_eq!(rt; alone.outcome.status.number(), 0);
-    for workers in ["2", "4", "16"] {
-        for heap in ["262144", "1073741824"] {
-            let words = [
-                "run",
-                "--workers",
-                workers,
-                "--reserved",
-                "0",
-                "--fraction",
-                "1000",
-                "--part-rows",
-                "2000",
-                "--heap",
-                heap,
-                job,
-            ];
-            let ran = run_with(&rt, alloc, 16, call_of(&words, &input))?;
-            assert_eq!(rt; ran.outcome.status.number(), 0, "{workers} {heap}");
-            assert!(rt;
-                ran.written.as_slice() == alone.written.as_slice(),
-                "{workers} {heap}"
-            );
+    let table = answer(alloc, &alone.outcome.status, &alone.written)?;
+    assert!(rt; table.as_str().starts_with("0 |k,count,sum_price\n"));
+    for workers in ["--workers=2", "--workers=4", "--workers=16"] {
+        for heap in ["--heap=262144", "--heap=1073741824"] {
+            let words = words_of(workers, heap, job);
+            let call = call_of(&words, &input);
+            assert!(rt; ends(&rt, alloc, 16, call, &table)?, "{workers} {heap}");
         }
     }
     Ok(())

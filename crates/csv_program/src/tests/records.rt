@@ -1,9 +1,11 @@
 // Journals that are written, and what their audit says.
-use crate::tests::running::{BOTH, CITIES, Call, Ran, call_of, generated, run_with, told};
+use crate::tests::running::{BOTH, Call, Ran, answer, call_of, cities, ends, generated, run_with};
 use audit_program::audit_call;
 use byte_io::{MemorySink, MemorySource};
 use std::alloc::{AllocError, Global};
+use std::sync::Wait;
 use std::test::Fail;
+use std::thread::Threads;
 
 // The line that an audit prints of a journal's text.
 fn verdict(alloc: Global, text: &[u8]) -> Result<Vec<u8>, AllocError> {
@@ -21,22 +23,39 @@ pub fn is_legal(alloc: Global, ran: &Ran) -> Result<bool, AllocError> {
     Ok(line.as_slice() == wanted.as_bytes())
 }
 
+const TABLE: &str = "0 |city,count,sum_price\nBergen,1,4\nOslo,2,8\n";
+
+// The journal of a run on the cities by one worker.
+const JOURNAL: &[u8] =
+    b"memory journal 1,455501414,227750707,1\nbegin,0,0\nattempt,0,0,1024,0,0,1024\nattempt,0,0,16384,0,0,16384\nattempt,0,0,16,0,0,16\nrelease,0,0,16400\nrelease,0,0,1024\nend,0,0,0\nbegin,0,1\nend,0,1,0\n";
+
+// Whether a call has this answer and a whole journal, or else writes no byte of one.
+fn ends_with<X: Threads + Wait + Sync>(
+    rt: &X,
+    alloc: Global,
+    call: Call<'_>,
+    wanted: &str,
+    is_whole: bool,
+) -> Result<bool, AllocError> {
+    let ran = run_with(rt, alloc, 4, call)?;
+    let found = answer(alloc, &ran.outcome.status, &ran.written)?;
+    let is_recorded = if is_whole {
+        is_legal(alloc, &ran)?
+    } else {
+        ran.recorded.is_empty()
+    };
+    Ok(found.as_str() == wanted && is_recorded)
+}
+
 #[test]
 fn a_journal_is_written_where_it_is_asked_for(rt: HostRuntime) -> Result<(), Fail> {
     let alloc = rt.alloc();
     let words = ["run", "--workers=1", "--journal", BOTH];
-    let ran = run_with(&rt, alloc, 1, call_of(&words, CITIES))?;
-    assert_eq!(rt; told(alloc, &ran.outcome.status)?.as_str(), "0 ");
-    assert_eq!(rt;
-        ran.written.as_slice(),
-        b"city,count,sum_price\nBergen,1,4\nOslo,2,8\n".as_slice()
-    );
-    let text: &[u8] =
-        b"memory journal 1,455501414,227750707,1\nbegin,0,0\nattempt,0,0,1024,0,0,1024\nattempt,0,0,16384,0,0,16384\nattempt,0,0,16,0,0,16\nrelease,0,0,16400\nrelease,0,0,1024\nend,0,0,0\nbegin,0,1\nend,0,1,0\n";
-    assert_eq!(rt; ran.recorded.as_slice(), text);
-    assert!(rt; is_legal(alloc, &ran)?);
-    let silent = run_with(&rt, alloc, 4, call_of(&["run", BOTH], CITIES))?;
-    assert!(rt; silent.recorded.is_empty());
+    let ran = run_with(&rt, alloc, 1, cities(&words))?;
+    assert!(rt; ran.recorded.as_slice() == JOURNAL);
+    assert!(rt; ends_with(&rt, alloc, cities(&words), TABLE, true)?);
+    let words = ["run", BOTH];
+    assert!(rt; ends_with(&rt, alloc, cities(&words), TABLE, false)?);
     Ok(())
 }
 
@@ -69,43 +88,35 @@ fn the_journals_of_runs_that_spill_and_wait_are_legal(rt: HostRuntime) -> Result
 #[test]
 fn a_journal_that_fails_is_told_before_anything_is_printed(rt: HostRuntime) -> Result<(), Fail> {
     let alloc = rt.alloc();
-    let words = ["run", "--journal", BOTH];
-    let call = Call {
+    let asked = Call {
         records: &[0],
-        ..call_of(&words, CITIES)
+        ..cities(&["run", "--journal", BOTH])
     };
-    let ran = run_with(&rt, alloc, 4, call)?;
-    assert_eq!(rt;
-        told(alloc, &ran.outcome.status)?.as_str(),
-        "15 journal failed"
-    );
-    assert!(rt; ran.written.is_empty());
+    assert!(rt; ends(&rt, alloc, 4, asked, "15 journal failed|")?);
     // Without the option the sink isn't called.
-    let call = Call {
+    let unasked = Call {
         records: &[0],
-        ..call_of(&["run", BOTH], CITIES)
+        ..cities(&["run", BOTH])
     };
-    let ran = run_with(&rt, alloc, 4, call)?;
-    assert_eq!(rt; told(alloc, &ran.outcome.status)?.as_str(), "0 ");
-    // Behind the journal the output may fail: the journal is then whole.
-    let call = Call {
+    assert!(rt; ends(&rt, alloc, 4, unasked, TABLE)?);
+    Ok(())
+}
+
+// Behind the journal the output may fail; a refusal, of the input or of a sum, comes before it.
+#[test]
+fn a_journal_is_whole_or_not_begun(rt: HostRuntime) -> Result<(), Fail> {
+    let alloc = rt.alloc();
+    let words = ["run", "--journal", BOTH];
+    let written = Call {
         writes: &[0],
-        ..call_of(&words, CITIES)
+        ..cities(&words)
     };
-    let ran = run_with(&rt, alloc, 4, call)?;
-    assert_eq!(rt;
-        told(alloc, &ran.outcome.status)?.as_str(),
-        "14 output failed"
-    );
-    assert!(rt; is_legal(alloc, &ran)?);
-    // A refusal, of the input or of a sum, comes before it.
-    for input in [
-        b"city,price\nOslo,x\n".as_slice(),
-        b"city,price\nOslo,9223372036854775807\nOslo,1\n".as_slice(),
-    ] {
-        let ran = run_with(&rt, alloc, 4, call_of(&words, input))?;
-        assert!(rt; ran.outcome.status.number() > 4);
-        assert!(rt; ran.recorded.is_empty());
-    }
+    assert!(rt; ends_with(&rt, alloc, written, "14 output failed|", true)?);
+    let number = call_of(&words, b"city,price\nOslo,x\n");
+    let refused = "9 row 1 column 1: not a number|";
+    assert!(rt; ends_with(&rt, alloc, number, refused, false)?);
+    let sum = call_of(&words, b"city,price\nOslo,9223372036854775807\nOslo,1\n");
+    let refused = "11 query 0: a sum is too wide|";
+    assert!(rt; ends_with(&rt, alloc, sum, refused, false)?);
     Ok(())
 }

@@ -13,7 +13,7 @@ use std::sync::Wait;
 use std::thread::Threads;
 use task_runner::{Gate, NoGate, Post};
 
-pub const CITIES: &[u8] = b"city,price\nOslo,3\nBergen,4\nOslo,5\n";
+pub const CITIES: &str = "city,price\nOslo,3\nBergen,4\nOslo,5\n";
 
 pub const BOTH: &str = "group city: count, sum price";
 
@@ -39,6 +39,11 @@ pub struct Ran {
     pub files: u64,
 }
 
+/// A call with these words on the cities, in which nothing outside fails.
+pub fn cities<'a>(words: &'a [&'a str]) -> Call<'a> {
+    call_of(words, CITIES.as_bytes())
+}
+
 /// A call with these words on this input, in which nothing outside fails.
 pub fn call_of<'a>(words: &'a [&'a str], input: &'a [u8]) -> Call<'a> {
     Call {
@@ -56,6 +61,17 @@ pub fn call_of<'a>(words: &'a [&'a str], input: &'a [u8]) -> Call<'a> {
 pub fn told(alloc: Global, status: &Status) -> Result<String, AllocError> {
     let number = status.number();
     format!(in alloc; "{number} {status}")
+}
+
+/// A status and what was written, as one text: the status's number and text, `|`, and the bytes. An `Err` is want of
+/// memory, here or as the status.
+pub fn answer(alloc: Global, status: &Status, written: &[u8]) -> Result<String, AllocError> {
+    if matches!(status, Status::NoMemory) {
+        return Err(AllocError);
+    }
+    let number = status.number();
+    let text = str::from_utf8(written).unwrap_or("no text");
+    format!(in alloc; "{number} {status}|{text}")
 }
 
 // A post with a disk on which these calls fail.
@@ -120,14 +136,18 @@ pub fn run_through<X: Threads + Wait + Sync, G: Gate + Sync>(
     })
 }
 
-/// Makes a call with so many posts.
+/// Makes a call with so many posts. An `Err` is want of memory, here or in the call.
 pub fn run_with<X: Threads + Wait + Sync>(
     rt: &X,
     alloc: Global,
     posts: usize,
     call: Call<'_>,
 ) -> Result<Ran, AllocError> {
-    run_through(rt, alloc, posts, call, &NoGate)
+    let ran = run_through(rt, alloc, posts, call, &NoGate)?;
+    match ran.outcome.status {
+        Status::NoMemory => Err(AllocError),
+        _ => Ok(ran),
+    }
 }
 
 /// Makes a call with a post for each of the four workers that there are by default.
@@ -137,6 +157,30 @@ pub fn run_on<X: Threads + Wait + Sync>(
     call: Call<'_>,
 ) -> Result<Ran, AllocError> {
     run_with(rt, alloc, 4, call)
+}
+
+/// Whether a call with so many posts has this answer.
+pub fn ends<X: Threads + Wait + Sync>(
+    rt: &X,
+    alloc: Global,
+    posts: usize,
+    call: Call<'_>,
+    wanted: &str,
+) -> Result<bool, AllocError> {
+    let ran = run_with(rt, alloc, posts, call)?;
+    let found = answer(alloc, &ran.outcome.status, &ran.written)?;
+    Ok(found.as_str() == wanted)
+}
+
+/// The words that a line has, with `^` between two.
+pub fn words_in<'a>(alloc: Global, line: &'a str) -> Result<Vec<&'a str>, AllocError> {
+    let mut words = Vec::new(alloc);
+    for word in line.split('^') {
+        if !word.is_empty() {
+            words.push(word)?;
+        }
+    }
+    Ok(words)
 }
 
 /// The words of a job in a pool of one worker that is all of a heap of so many bytes.
