@@ -266,6 +266,8 @@ impl<'a, C: Consumer, P: Pool, D: Disk> TaskMemory<'a, C, P, D, Spills> {
         ensures consumers { self.new.consumers ≡ self.old.consumers }
         ensures disk { self.new.disk ≡ self.old.disk }
         ensures live { self.new.live ≡ self.old.live }
+        ensures leasts { self.new.leasts ≡ self.old.leasts }
+        ensures roomed { self.new.roomed ≡ self.old.roomed }
     {
         let place = match self.spills.picks().get(consumer) {
             Some(place) => *place,
