@@ -13,9 +13,9 @@ tools/edits/NAME/, which only this script does. Run it at the top of the reposit
 An edit is tried on a copy of its crate, over what earlier checks kept of it in out/, so that little more is proved than the
 function that it changes. What isn't built below is built first, and a crate that was never checked is proved once.
 
-Edits of different functions are tried together. The prover names each function that it can't prove, so an edit counts as
-refused there where its own function has a goal that isn't proved. Every other one is tried alone, and is judged as `rt ci`
-judges it. At the end of each lot the crate as it is has to be proved over what the tries left, else the lot is tried anew,
+Edits of different functions are tried together. The prover tells of each goal that it can't prove by a line of the function or
+of the function's proof by hand, so an edit counts as refused there where its own function has such a goal. Every other one is
+tried alone, and is judged as `rt ci` judges it. At the end of each lot the crate as it is has to be proved over what the tries left, else the lot is tried anew,
 one by one. The status is 0 where all were refused, 1 where some weren't, and 2 where nothing was judged.
 """
 import argparse
@@ -31,12 +31,15 @@ import sys
 import tempfile
 import threading
 import time
+from collections import namedtuple
 from concurrent.futures import ThreadPoolExecutor
 
 sys.dont_write_bytecode = True
 GIGABYTES_A_CHECK = 4
-IN_A_CHECK = 6
+IN_A_CHECK = 10
 NOT_TRIED = 'not tried'
+# What the prover says of a proof file that names what an edit took away, and of what cites that proof.
+LOST_NAME = re.compile(r'(note: )?(\./)?proofs/.*(has no field|is not in scope|has no `|was not admitted)')
 FUNCTION = re.compile(r'^( *)(?:pub(?:\([a-z]+\))? )?(?:const |unsafe )*fn ([a-z_0-9]+)')
 
 
@@ -79,8 +82,11 @@ def unread_line(path):
     return None
 
 
+Place = namedtuple('Place', 'path name first last')
+
+
 def place_of(crate, texts):
-    """The file and the function in whose body the only change stands, or None."""
+    """The file, the function in whose body the only change stands, and its first and last lines, or None."""
     if len(texts) != 1:
         return None
     (path, text), = texts.items()
@@ -98,8 +104,10 @@ def place_of(crate, texts):
         if found and at < changed[0]:
             indent, name = found.groups()
             opens = [row for row in range(at, changed[0]) if lines[row] == indent + '{' or row == at and lines[at].endswith(' {')]
-            ends = [row for row in range(at + 1, changed[0]) if lines[row] == indent + '}']
-            return (path, name) if opens and not ends else None
+            ends = [row for row in range(at + 1, len(lines)) if lines[row] == indent + '}']
+            while lines[at - 1].startswith(indent + '#['):
+                at -= 1
+            return Place(path, name, at + 1, ends[0] + 1) if opens and ends and ends[0] > changed[0] else None
     return None
 
 
@@ -118,24 +126,30 @@ def apply_all(edits, folder):
 
 
 def is_own_refusal(output, crate, place):
-    """Whether a goal of this function itself wasn't proved."""
-    path, name = place
-    module = re.sub(r'(^|/)(lib|main|mod)$', '', path[len('src/'):-len('.rt')]).replace('/', '::')
-    start = '::'.join(part for part in (crate.name, module) if part) + '::'
+    """Whether a goal of this function itself wasn't proved: in its lines, or in a file of its proof by hand."""
+    module = re.sub(r'(^|/)(lib|main|mod)$', '', place.path[len('src/'):-len('.rt')])
+    start = '::'.join(part for part in (crate.name, *module.split('/')) if part) + '::'
     for line in output.split('\n'):
         found = re.match(r'fn (\S+): (?:not proved|no proof)(.*)', line)
-        if found and found[1].startswith(start) and found[1].split('::')[-1] == name and 'did not prove' in found[2]:
+        if found and found[1].startswith(start) and found[1].split('::')[-1] == place.name and 'did not prove' in found[2]:
+            return True
+        found = re.match(r'(?:note: )?(?:\./)?(\S+?):(\d+):\d+: (?:error|it is not proved)', line)
+        if not found or LOST_NAME.match(line):
+            continue
+        if found[1] == place.path and place.first <= int(found[2]) <= place.last:
+            return True
+        if found[1].startswith('/'.join(part for part in ('proofs', module) if part) + '/') and f'/{place.name}/' in found[1]:
             return True
     return False
 
 
 def lots_of(edits, alone):
-    """Lists of edits that are tried in one check: of different functions, six at most."""
+    """Lists of edits that are tried in one check: of different functions, ten at most."""
     lots = []
     for edit in edits:
-        free = [lot for lot in lots if len(lot) < IN_A_CHECK and all(it.place for it in lot)
-                and edit.place not in [it.place for it in lot]]
-        if alone or not edit.place or not free:
+        free = [lot for lot in lots if edit.place and len(lot) < IN_A_CHECK and all(it.place for it in lot)
+                and edit.place[:2] not in [it.place[:2] for it in lot]]
+        if alone or not free:
             lots.append([edit])
         else:
             free[0].append(edit)
@@ -282,7 +296,7 @@ def main():
                 return 2
         lots = lots_of(own, words.alone)
         # Each lane takes a copy of what is kept, and ends with a check of the crate as it is.
-        lanes = min(len(lots), 1 + len(own) // 8)
+        lanes = min(len(lots), 1 + len(own) // 16)
         tasks += [(crate, lots[at::lanes]) for at in range(lanes)]
     # The dearest first: they are the uppermost.
     tasks.reverse()
