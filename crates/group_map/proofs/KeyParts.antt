@@ -1,11 +1,9 @@
 -- A key is the one that its parts make, and two keys are one where their parts are.
-use Rattle.std.proofs.Common.{◌≡◌, ℕ, zero, suc, ◌+◌, ◌*◌, ◌/◌, ◌%◌, ◌^◌, ◌<◌, Bool, true, false, List, [], ◌∷◌, ◌++◌, length, take, drop, slice_index, refl, sym, ap, ◌∙◌, arith}
-use Rattle.std.specs.Prelude.{nat_eq}
-use Rattle.std.specs.Cmp.Lexicographic.{bytes_decides, pointwise}
+use Rattle.std.proofs.Common.{◌≡◌, ℕ, zero, suc, ◌+◌, ◌*◌, ◌/◌, ◌%◌, ◌^◌, ◌<◌, List, [], ◌∷◌, ◌++◌, length, take, drop, slice_index, refl, sym, ap, ◌∙◌, arith, append_assoc, length-drop}
 use Rattle.std.specs.Int.{byte_at, bytes_high_first}
 use Rattle.std.proofs.Math.Nat.{div-one, mod-eq_of_lt, mul-add-div_right, mul-add-mod_self_right, mul_assoc, one-le-pow, pow-succ'}
 use Rattle.std.proofs.lemmas.Nat.{div-mul-add}
-use Rattle.byteorder.specs.Endian.{big_from}
+use Rattle.byteorder.specs.Endian.{big_bytes, big_from}
 use Rattle.byteorder.specs.Numbers.{big_from-cons, big_from-lt}
 use Rattle.aggregate.specs.Fronts.{front_of}
 use Rattle.group_map.specs.Keys.{AreParts, bytes_by}
@@ -66,37 +64,48 @@ parts_from (suc n) (x ∷ xs) bytes =
     ∙ ap (λ (bs : List ℕ). x ∷ (take (length xs) bs ++ drop n xs)) (low_bytes n x (big_from 0 n xs))
     ∙ ap (λ (bs : List ℕ). x ∷ bs) (parts_from n xs rest_bytes)
 
--- a key is what its parts make
-pub parts_make : (key : List ℕ) → AreBytes key → bytes_by (front_of key) (length key) (drop 8 key) ≡ key
+-- where there are no bytes, the number that the first are is 0
+pub none_front : (bytes : List ℕ) → length bytes ≡ 0 → 0 ≡ front_of bytes
 unfolding front_of
-parts_make key bytes = parts_from 8 key bytes
+none_front [] none = refl
+none_front (b ∷ bytes) none = omega (arith, none)
+
+-- what a number and the bytes behind it make
+front_and : (key : List ℕ) → AreBytes key → take (length key) (big_bytes 8 (front_of key)) ++ drop 8 key ≡ key
+unfolding front_of
+front_and key bytes = parts_from 8 key bytes
+
+drop_bytes : (n : ℕ) (key : List ℕ) → AreBytes key → AreBytes (drop n key)
+drop_bytes zero key bytes = bytes
+drop_bytes (suc n) [] bytes = bytes
+drop_bytes (suc n) (x ∷ xs) bytes = drop_bytes n xs (tail_bytes x xs bytes)
+
+-- a key is what its parts make
+pub parts_make : (key : List ℕ) → AreBytes key → bytes_by (front_of key) (front_of (drop 8 key)) (length key) (drop 8 (drop 8 key)) ≡ key
+parts_make key bytes =
+    let tail = drop 8 key in
+    let first = take (length key) (big_bytes 8 (front_of key)) in
+    ap (λ (n : ℕ). first ++ take n (big_bytes 8 (front_of tail)) ++ drop 8 tail) (sym (length-drop 8 key))
+    ∙ append_assoc first (take (length tail) (big_bytes 8 (front_of tail))) (drop 8 tail)
+    ∙ ap (λ (bs : List ℕ). first ++ bs) (front_and tail (drop_bytes 8 key bytes))
+    ∙ front_and key bytes
 
 -- ---- what was made of a key has its parts
 
-pub made_by : (front len : ℕ) (rest key : List ℕ) → AreBytes key → front ≡ front_of key → len ≡ length key → rest ≡ drop 8 key → bytes_by front len rest ≡ key
-made_by front len rest key bytes is_front is_len is_rest =
-    ap (λ (f : ℕ). bytes_by f len rest) is_front
-    ∙ ap (λ (n : ℕ). bytes_by (front_of key) n rest) is_len
-    ∙ ap (λ (bs : List ℕ). bytes_by (front_of key) (length key) bs) is_rest
+pub made_by : (front next len : ℕ) (rest key : List ℕ) → AreBytes key → front ≡ front_of key → next ≡ front_of (drop 8 key) → len ≡ length key → rest ≡ drop 8 (drop 8 key) → bytes_by front next len rest ≡ key
+made_by front next len rest key bytes is_front is_next is_len is_rest =
+    ap (λ (f : ℕ). bytes_by f next len rest) is_front
+    ∙ ap (λ (f : ℕ). bytes_by (front_of key) f len rest) is_next
+    ∙ ap (λ (n : ℕ). bytes_by (front_of key) (front_of (drop 8 key)) n rest) is_len
+    ∙ ap (λ (bs : List ℕ). bytes_by (front_of key) (front_of (drop 8 key)) (length key) bs) is_rest
     ∙ parts_make key bytes
 
-pub parts_of : (front len : ℕ) (rest key : List ℕ) → AreBytes key → front ≡ front_of key → len ≡ length key → rest ≡ drop 8 key → AreParts front len rest
-parts_of front len rest key bytes is_front is_len is_rest =
-    let made = made_by front len rest key bytes is_front is_len is_rest in
+pub parts_of : (front next len : ℕ) (rest key : List ℕ) → AreBytes key → front ≡ front_of key → next ≡ front_of (drop 8 key) → len ≡ length key → rest ≡ drop 8 (drop 8 key) → AreParts front next len rest
+parts_of front next len rest key bytes is_front is_next is_len is_rest =
+    let made = made_by front next len rest key bytes is_front is_next is_len is_rest in
     record {
       front_is = is_front ∙ sym (ap front_of made);
+      next_is = is_next ∙ sym (ap (λ (k : List ℕ). front_of (drop 8 k)) made);
       len_is = is_len ∙ sym (ap length made);
-      rest_is = is_rest ∙ sym (ap (drop 8) made);
+      rest_is = is_rest ∙ sym (ap (λ (k : List ℕ). drop 8 (drop 8 k)) made);
     }
-
--- ---- keys are compared by their parts
-
-same_is : (a b : List ℕ) → a ≡ b → pointwise nat_eq a b ≡ true
-same_is a b same = (bytes_decides a b).1 same
-
-other_is : (a b : List ℕ) → (a ≡ b → ⊥) → pointwise nat_eq a b ≡ false
-other_is a b differs = at (pointwise nat_eq a b) refl
-  where
-    at : (t : Bool) → pointwise nat_eq a b ≡ t → t ≡ false
-    at true e = absurd (differs ((bytes_decides a b).0 e))
-    at false e = refl

@@ -6,7 +6,7 @@ ghost use Rattle.std.specs.Cmp.Lexicographic.{bytes_decides, nat_list_eq_equiv, 
 ghost use Rattle.std.proofs.Common.{ap};
 ghost use Rattle.std.specs.Hash as fed;
 ghost use Rattle.aggregate.specs.Fronts.{front_of};
-ghost use Rattle.group_map.specs.Keys.{rest_input};
+ghost use Rattle.group_map.specs.Keys.{next_input, rest_input};
 
 use aggregate::front;
 use std::alloc::{AllocError, Global};
@@ -14,11 +14,12 @@ use std::borrow::CowSlice;
 use std::hash::{Hash, Hasher};
 use std::marker::Model;
 
-/// A key's bytes. The first 8 are kept as one number, which is hashed and compared at once; those behind them are its
-/// own, or lent by who looks a key up. A key that has no more than 8 has no memory of its own.
+/// A key's bytes. The first 8 are kept as one number, which is hashed and compared at once, and the next 8 as another;
+/// those behind them are its own, or lent by who looks a key up. A key that has no more than 16 has no memory of its own.
 #[derive(Drop)]
 pub struct GroupKey<'a> {
     front: u64,
+    next: u64,
     len: usize,
     rest: CowSlice<'a, u8>,
 }
@@ -30,9 +31,9 @@ impl<'a> Model for GroupKey<'a> {
 
     ghost Value = { List ℕ };
 
-    ghost view = { λ key. bytes_by key.front key.len (cow_slice_items key.rest) };
+    ghost view = { λ key. bytes_by key.front key.next key.len (cow_slice_items key.rest) };
 
-    ghost invariant = { λ key. AreParts key.front key.len (cow_slice_items key.rest) };
+    ghost invariant = { λ key. AreParts key.front key.next key.len (cow_slice_items key.rest) };
 }
 
 impl GroupKey<'static> {
@@ -40,10 +41,12 @@ impl GroupKey<'static> {
     pub fn owned(alloc: Global, bytes: &[u8]) -> Result<GroupKey<'static>, AllocError>
         ensures { IfOk result (λ key. key ≡ bytes.now) }
     {
+        let tail = behind(bytes);
         let mut rest = Vec::new(alloc);
-        rest.extend_from_slice(behind(bytes))?;
+        rest.extend_from_slice(behind(tail))?;
         Ok(GroupKey {
             front: front(bytes),
+            next: next(tail),
             len: bytes.len(),
             rest: CowSlice::Owned(rest),
         })
@@ -55,10 +58,12 @@ impl<'a> GroupKey<'a> {
     pub fn lent(bytes: &'a [u8]) -> GroupKey<'a>
         ensures { result ≡ bytes.now }
     {
+        let tail = behind(bytes);
         GroupKey {
             front: front(bytes),
+            next: next(tail),
             len: bytes.len(),
-            rest: CowSlice::Borrowed(behind(bytes)),
+            rest: CowSlice::Borrowed(behind(tail)),
         }
     }
 
@@ -68,8 +73,17 @@ impl<'a> GroupKey<'a> {
     {
         let first = self.front.to_be_bytes();
         into.extend_from_slice(&first[..self.len.min(8)])?;
+        let second = self.next.to_be_bytes();
+        into.extend_from_slice(&second[..self.len.saturating_sub(8).min(8)])?;
         into.extend_from_slice(self.rest.as_slice())
     }
+}
+
+/// The number that the next 8 bytes are: that of a key which has no more than 8 is 0, and isn't worked out.
+fn next(tail: &[u8]) -> u64
+    ensures { result ≡ front_of tail.now }
+{
+    if tail.is_empty() { 0 } else { front(tail) }
 }
 
 /// The bytes behind the first 8.
@@ -87,7 +101,8 @@ impl<'a> PartialEq for GroupKey<'a> {
     fn eq(&self, other: &GroupKey<'a>) -> bool {
         self.front == other.front
             && self.len == other.len
-            && (self.len <= 8 || self.rest.as_slice() == other.rest.as_slice())
+            && self.next == other.next
+            && (self.len <= 16 || self.rest.as_slice() == other.rest.as_slice())
     }
 }
 
@@ -96,16 +111,19 @@ impl<'a> Eq for GroupKey<'a> {
 }
 
 impl<'a> Hash for GroupKey<'a> {
-    ghost hash_input = { λ key. rest_input (drop 8 key) ++ fed.u64 (front_of key) };
+    ghost hash_input = { λ key. rest_input (drop 8 (drop 8 key)) ++ next_input (drop 8 key) ++ fed.u64 (front_of key) };
 
     ghost respects_eq = { λ x y same.
-        ap (λ key. rest_input (drop 8 key) ++ fed.u64 (front_of key)) ((bytes_decides x y).0 same) };
+        ap (λ key. rest_input (drop 8 (drop 8 key)) ++ next_input (drop 8 key) ++ fed.u64 (front_of key)) ((bytes_decides x y).0 same) };
 
     // The front comes last: of four bytes alone std's hasher makes numbers whose low bits are often the same.
     fn hash<H: Hasher>(&self, state: &mut H) {
         let rest = self.rest.as_slice();
         if !rest.is_empty() {
             state.write(rest);
+        }
+        if self.len > 8 {
+            state.write_u64(self.next);
         }
         state.write_u64(self.front);
     }

@@ -10,6 +10,9 @@ use entry_list::EntryList;
 use indexmap::IndexSet;
 use std::alloc::{AllocError, Global};
 
+/// How many bytes most keys have at most. A list whose keys have more grows.
+const KEY_BYTES: usize = 16;
+
 /// Keys in the order in which they came, and their values in one run of bytes: that of the key at place i
 /// from `width * i` on. Contracts see them as `entries_of_groups`.
 #[derive(Drop)]
@@ -104,7 +107,9 @@ impl Groups {
     pub fn copy_from(&self, alloc: Global, first: usize) -> Result<EntryList, AllocError>
         ensures { IfOk result (λ list. entries_of_list list ≡ drop first (entries_of_groups self.now)) }
     {
-        let mut list = EntryList::new(alloc);
+        let count = self.keys.len().saturating_sub(first);
+        let bytes = count.saturating_mul(KEY_BYTES + self.width);
+        let mut list = EntryList::with_room(alloc, count, bytes)?;
         let mut key = Vec::new(alloc);
         for place in first..self.keys.len() {
             let at = self.width * place;
