@@ -15,8 +15,9 @@ function that it changes. What isn't built below is built first, and a crate tha
 
 Edits of different functions are tried together. The prover tells of each goal that it can't prove by a line of the function or
 of the function's proof by hand, so an edit counts as refused there where its own function has such a goal. Every other one is
-tried alone, and is judged as `rt ci` judges it. At the end of each lot the crate as it is has to be proved over what the tries left, else the lot is tried anew,
-one by one. The status is 0 where all were refused, 1 where some weren't, and 2 where nothing was judged.
+tried alone, and is judged as `rt ci` judges it. At the end of each lot the crate as it is has to be proved over what the tries
+left, else the lot is tried anew, one by one. The status is 0 where all were refused, 1 where some weren't, and 2 where nothing
+was judged.
 """
 import argparse
 import hashlib
@@ -38,7 +39,7 @@ sys.dont_write_bytecode = True
 GIGABYTES_A_CHECK = 4
 IN_A_CHECK = 10
 NOT_TRIED = 'not tried'
-# What the prover says of a proof file that names what an edit took away, and of what cites that proof.
+# What the prover says of a proof file that names what an edit took away, and of what cites that proof, as `rt` has it.
 LOST_NAME = re.compile(r'(note: )?(\./)?proofs/.*(has no field|is not in scope|has no `|was not admitted)')
 FUNCTION = re.compile(r'^( *)(?:pub(?:\([a-z]+\))? )?(?:const |unsafe )*fn ([a-z_0-9]+)')
 
@@ -160,10 +161,14 @@ class Verdicts:
     """Those of earlier runs, in a file."""
 
     def __init__(self, path):
-        self.path, self.found, self.turn = path, {}, threading.Lock()
-        if path and os.path.isfile(path):
-            with open(path, encoding='utf-8') as file:
-                self.found = json.load(file)
+        self.path, self.turn = path, threading.Lock()
+        self.found = self.written()
+
+    def written(self):
+        if not self.path or not os.path.isfile(self.path):
+            return {}
+        with open(self.path, encoding='utf-8') as file:
+            return json.load(file)
 
     def give(self, edits):
         for edit in edits:
@@ -171,7 +176,8 @@ class Verdicts:
 
     def take(self, edits):
         with self.turn:
-            self.found.update({edit.sum(): (edit.refused, edit.said) for edit in edits})
+            # Another run over the same file may have written there since.
+            self.found = {**self.written(), **self.found, **{edit.sum(): (edit.refused, edit.said) for edit in edits}}
             if self.path:
                 with open(f'{self.path}.new', 'w', encoding='utf-8') as file:
                     json.dump(self.found, file)
