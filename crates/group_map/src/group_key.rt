@@ -42,8 +42,7 @@ impl GroupKey<'static> {
         ensures { IfOk result (λ key. key ≡ bytes.now) }
     {
         let tail = behind(bytes);
-        let mut rest = Vec::new(alloc);
-        rest.extend_from_slice(behind(tail))?;
+        let rest = copy_behind(alloc, tail)?;
         Ok(GroupKey {
             front: front(bytes),
             next: next(tail),
@@ -75,6 +74,9 @@ impl<'a> GroupKey<'a> {
         into.extend_from_slice(&first[..self.len.min(8)])?;
         let second = self.next.to_be_bytes();
         into.extend_from_slice(&second[..self.len.saturating_sub(8).min(8)])?;
+        if self.len <= 16 {
+            return Ok(());
+        }
         into.extend_from_slice(self.rest.as_slice())
     }
 }
@@ -84,6 +86,17 @@ fn next(tail: &[u8]) -> u64
     ensures { result ≡ front_of tail.now }
 {
     if tail.is_empty() { 0 } else { front(tail) }
+}
+
+/// A copy of the bytes behind the first 8, which asks for no memory where there are none.
+fn copy_behind(alloc: Global, bytes: &[u8]) -> Result<Vec<u8>, AllocError>
+    ensures { IfOk result (λ copy. copy.items ≡ drop 8 bytes.now) }
+{
+    let mut copy = Vec::new(alloc);
+    if bytes.len() > 8 {
+        copy.extend_from_slice(behind(bytes))?;
+    }
+    Ok(copy)
 }
 
 /// The bytes behind the first 8.
