@@ -31,6 +31,7 @@ pub mod Leaving
 pub mod Passed
 pub mod Followed
 pub mod RemovedLate
+pub mod GoneBehind
 pub mod Worked
 pub mod Making
 pub mod StillThere

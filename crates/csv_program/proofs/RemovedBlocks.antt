@@ -1,14 +1,16 @@
 -- A worker that removes blocks, dataset by dataset.
-use Rattle.std.proofs.Common.{◌≡◌, ◌∙◌, ℕ, ◌<◌, ◌+◌, List, [], ◌∷◌, ◌++◌, get_or, length, sym, ap, refl, subst, append-nil, append_assoc}
+use Rattle.std.proofs.Common.{◌≡◌, ◌∙◌, ℕ, ◌<◌, ◌+◌, List, [], ◌∷◌, ◌++◌, get_or, length, sym, ap, refl, subst, inl, inr, arith, append-nil, append_assoc}
 use Rattle.std.specs.Prelude.{Contains}
 use Rattle.std.specs.List.{AllByRecursion}
+use Rattle.std.proofs.lemmas.Bool.{cases_lt}
+use Rattle.std.proofs.lemmas.List.{get_or_default}
 use Rattle.std.proofs.lemmas.List.Elements.{Contains-get_or}
 use Rattle.pool_ledger.specs.declared.entry.Entry.{Entry}
 use Rattle.turn_lock.specs.Passes.{PassState}
 use Rattle.task_pool.specs.Workers.{KeepsPin, KeepsTask, SeesMore, own_entries}
 use Rattle.task_pool.proofs.GoingOn.{all_append, sees_itself, sees_more}
 use Rattle.memory_lock.specs.Workers.{AddsRemovals, AreRemovals}
-use Rattle.csv_program.specs.Doing.{Clears, IsRemovalOf}
+use Rattle.csv_program.specs.Doing.{Clears, IsRemovalOf, SawGone}
 
 pub cleared_none : (datasets : List ℕ) (worker : PassState) → Clears datasets worker worker
 cleared_none datasets worker = record {
@@ -49,3 +51,25 @@ cleared_more datasets first before after i below cleared task pin sees adds =
       all = all_append (IsRemovalOf first.number datasets) cleared.removed adds.0 cleared.all
           (subst (λ (n : ℕ). AllByRecursion (IsRemovalOf n datasets) adds.0) cleared.sees.number_is gone);
     }
+
+-- ---- which datasets' blocks it saw gone
+
+-- those of the first places, and then of one more
+pub gone_more : (datasets : List ℕ) (first before after : PassState) (i : ℕ) → i < length datasets → SeesMore first before → SeesMore before after → AddsRemovals (get_or datasets i 0) before after
+    → ((k any : ℕ) → k < i → SawGone (get_or datasets k any) first before) → (k any : ℕ) → k < i + 1 → SawGone (get_or datasets k any) first after
+gone_more datasets first before after i below seen sees adds sofar k any low = elim (cases_lt k i) [
+  | inl old ↦
+      let was = sofar k any old in
+      record { moment = was.moment; since = was.since; until = sees_more was.moment before after was.until sees; gone = was.gone }
+  | inr here ↦
+      let same : i ≡ k = omega (arith, here, low) in
+      subst (λ (n : ℕ). SawGone (get_or datasets n any) first after) same
+      (subst (λ (dataset : ℕ). SawGone dataset first after) (get_or_default datasets i 0 any below)
+      (record { moment = after; since = sees_more first before after seen sees; until = sees_itself after; gone = adds.3 }))
+]
+
+-- those of all places are all
+pub gone_all : (datasets : List ℕ) (first after : PassState) (count : ℕ) → count ≡ length datasets → ((k any : ℕ) → k < count → SawGone (get_or datasets k any) first after)
+    → (dataset : ℕ) → Contains datasets dataset → SawGone dataset first after
+gone_all datasets first after count all saw dataset within =
+    subst (λ (d : ℕ). SawGone d first after) within.2 (saw within.0 dataset (omega (arith, within.1, all)))

@@ -9,6 +9,7 @@ use Rattle.pool_ledger.specs.declared.entry.Event.TheVariants.{Remove}
 use Rattle.pool_laws.specs.Growing.{entry_by}
 use Rattle.pool_laws.specs.Owners.{IsByOwner}
 use Rattle.turn_lock.specs.Passes.{LockId, PassState}
+use Rattle.memory_core.specs.Changes.{HasPinnedAlone}
 use Rattle.memory_lock.specs.Crew.{AreWorkers}
 use Rattle.memory_lock.specs.Workers.{HasNoPin, IsFree, KeepsPin, KeepsTask, SeesMore, own_entries}
 use Rattle.job_ending.specs.Removals.{IfRemoves, RemovesBehind}
@@ -75,6 +76,13 @@ pub record Clears (datasets : List ℕ) (before after : PassState) : Type 0 wher
   pub removed : List Entry
   pub adds : own_entries after ≡ own_entries before ++ removed
   pub all : AllByRecursion (IsRemovalOf before.number datasets) removed
+
+-- at one moment since, the worker saw no block of the dataset in memory but pinned ones
+pub record SawGone (dataset : ℕ) (before after : PassState) : Type 0 where
+  pub moment : PassState
+  pub since : SeesMore before moment
+  pub until : SeesMore moment after
+  pub gone : HasPinnedAlone dataset (history_of moment.seen)
 
 -- the tasks of a pass over so many partitions, from a first one on, are their workers'
 abbrev pub OwnsPass : (ℕ → Option ℕ) → ℕ → ℕ → ℕ → Type 0

@@ -1,9 +1,9 @@
 //! Blocks that no later pass needs.
 
-ghost use Rattle.std.specs.Prelude.{◌≡◌, ◌≢◌, ◌≤◌, ℕ, None, slice_index_or};
+ghost use Rattle.std.specs.Prelude.{◌≡◌, ◌≢◌, ◌≤◌, ℕ, Contains, None, OnOk, slice_index_or};
 ghost use Rattle.memory_lock.specs.Crew.{AreWorkers};
 ghost use Rattle.turn_lock.specs.Passes.{PassState};
-ghost use Rattle.csv_program.specs.Doing.{Clears};
+ghost use Rattle.csv_program.specs.Doing.{Clears, SawGone};
 
 use memory_lock::{Basis, Worker};
 use spill_disk::Disk;
@@ -22,6 +22,8 @@ pub fn remove_blocks<K: Disk, B: Basis, R: Wait>(
     ensures workers { AreWorkers executor.now.manager.now B.sizes.workers workers.new.items }
     ensures clears { (any : PassState) → Clears datasets.now
         (slice_index_or workers.old.items 0 any) (slice_index_or workers.new.items 0 any) }
+    ensures gone { OnOk result ((any : PassState) (dataset : ℕ) → Contains datasets.now dataset
+        → SawGone dataset (slice_index_or workers.old.items 0 any) (slice_index_or workers.new.items 0 any)) }
     ensures others { (worker : ℕ) (any : PassState) → worker ≢ 0
         → slice_index_or workers.new.items worker any ≡ slice_index_or workers.old.items worker any }
 {
@@ -36,6 +38,8 @@ fn clear_all<K: Disk, B: Basis, R: Wait>(
 ) -> Result<(), AllocError>
     requires manager { worker.old.lock ≡ executor.now.manager.now }
     ensures clears { Clears datasets.now worker.old worker.new }
+    ensures gone { OnOk result ((dataset : ℕ) → Contains datasets.now dataset
+        → SawGone dataset worker.old worker.new) }
     ensures rests { worker.new.base ≡ None }
 {
     let cleared = clear_each(executor, worker, datasets);
@@ -52,6 +56,8 @@ fn clear_each<K: Disk, B: Basis, R: Wait>(
 ) -> Result<(), AllocError>
     requires manager { worker.old.lock ≡ executor.now.manager.now }
     ensures clears { Clears datasets.now worker.old worker.new }
+    ensures gone { OnOk result ((dataset : ℕ) → Contains datasets.now dataset
+        → SawGone dataset worker.old worker.new) }
 {
     for i in 0..datasets.len() {
         executor.manager.remove(executor.rt, worker, datasets[i])?;

@@ -18,7 +18,7 @@ ghost use Rattle.task_runner.specs.Queries.{IsPass};
 ghost use Rattle.task_runner.specs.Workers.{IfSound};
 ghost use Rattle.task_runner.specs.Works.{IfNoRoom, ShowsNoRoom};
 ghost use Rattle.turn_lock.specs.Passes.{PassState};
-ghost use Rattle.csv_program.specs.Cached.{EachTells, TellsPasses};
+ghost use Rattle.csv_program.specs.Cached.{EachTells, GoesBehind, TellsPasses};
 ghost use Rattle.csv_program.specs.Charges.{EachCharges, ChargesPlan};
 ghost use Rattle.csv_program.specs.Doing.{AreBetween, EachBegins, EachRemoves, EachSees, OwnsPass};
 ghost use Rattle.csv_program.specs.Feeds.{FeedsPlan};
@@ -119,6 +119,8 @@ pub fn run_tasks<
         (length parts.now) (length (passes_in plan.now)) journal)) }
     ensures removes { OnOk result.0 (IfSome result.1
         (RemovesLate plan.now asked.now.pool.workers (length parts.now))) }
+    ensures gone { OnOk result.0 (IfSome result.1
+        (GoesBehind plan.now (length parts.now) (length (passes_in plan.now)))) }
     ensures no_room { IfNoRoom result.0 (λ wanted held floor.
         IfSome result.1 (λ journal. ShowsShort asked.now.pool journal wanted held floor)) }
 {
@@ -209,6 +211,8 @@ fn run_passes<
         workers.new.items) }
     ensures removes { OnOk result (EachRemoves (free_from plan.now (length parts.now)) B.sizes.workers
         (length (passes_in plan.now) * (length parts.now + 1)) workers.new.items) }
+    ensures gone { OnOk result ((any : PassState) → GoesBehind plan.now (length parts.now)
+        (length (passes_in plan.now)) (slice_index_or workers.new.items 0 any).seen) }
     ensures no_room { IfNoRoom result (λ asked held floor. (worker task : ℕ) × (worker < B.sizes.workers)
         × ((any : PassState)
         → ShowsNoRoom B.sizes (own_of (slice_index_or workers.new.items worker any)) task asked held floor)) }

@@ -15,7 +15,7 @@ ghost use Rattle.task_runner.specs.Pass.{KeepsAll, states_at};
 ghost use Rattle.job_ending.specs.Endings.{MayEndAs, ending_of_totals, printed_in, totals_of};
 ghost use Rattle.csv_program.specs.Feeds.{FeedsPlan};
 ghost use Rattle.csv_program.specs.Basis.{StandAs};
-ghost use Rattle.csv_program.specs.Cached.{TellsPasses};
+ghost use Rattle.csv_program.specs.Cached.{GoesBehind, TellsPasses};
 ghost use Rattle.csv_program.specs.Charges.{ChargesPlan};
 ghost use Rattle.csv_program.specs.Posts.{post_faults, post_files};
 ghost use Rattle.csv_program.specs.QueryResults.{HasPasses, SaysParts};
@@ -117,6 +117,8 @@ pub fn run_queries<
         (length (passes_in plan.now)) result.journal }
     ensures removes { result.status ≡ Status.Done
         → RemovesLate plan.now asked.now.pool.workers (length parts.now) result.journal }
+    ensures gone { result.status ≡ Status.Done
+        → GoesBehind plan.now (length parts.now) (length (passes_in plan.now)) result.journal }
     ensures charged { result.status ≡ Status.Done → (rows : List (List (List ℕ))) →
         StandAs B.rows (post_files D.files posts.old) asked.now plan.now parts.now rows →
         ChargesPlan (states_at C.state posts.old.items) plan.now (length parts.now)

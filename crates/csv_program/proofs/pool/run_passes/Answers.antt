@@ -1,11 +1,11 @@
 use Rattle.std.proofs.Common.{◌≡◌, ◌∙◌, ◌+◌, ◌*◌, ◌<◌, ◌≤◌, ℕ, List, Option, length, refl, sym, subst, arith}
 use Rattle.std.specs.Global.{Vec}
-use Rattle.std.specs.Prelude.{IfSome}
+use Rattle.std.specs.Prelude.{IfSome, slice_index_or}
 use Rattle.run_file.specs.declared.run.Run.{Run}
 use Rattle.job_plan.specs.Plans.{passes_in}
 use Rattle.task_runner.specs.Pass.{states_at}
 use Rattle.task_runner.specs.PassViews.{pass_with}
-use Rattle.csv_program.specs.Cached.{EachTells}
+use Rattle.csv_program.specs.Cached.{EachTells, GoesBehind}
 use Rattle.csv_program.specs.Charges.{EachCharges}
 use Rattle.job_ending.specs.Removals.{free_from}
 use Rattle.csv_program.specs.Doing.{AreBetween, EachBegins, EachRemoves, OwnsPass}
@@ -18,6 +18,7 @@ use Rattle.csv_program.proofs.FedByPasses.{FeedsUpTo, feeds_all, feeds_none}
 use Rattle.csv_program.proofs.Gathered.{HaveUpTo, all_put, have_all, have_none, parts_kept, says_kept}
 use Rattle.csv_program.proofs.ChargedPasses.{each_charges_later, each_charges_more}
 use Rattle.csv_program.proofs.RemovedLate.{free_behind, removes_behind}
+use Rattle.csv_program.proofs.GoneBehind.{final_ended, goes_more}
 use Rattle.csv_program.proofs.Leaving.{leaves_same, leaves_then, serve_still}
 use Rattle.csv_program.proofs.Passed.{feeds_step, first_is, have_step, is_pass, next_is, next_least, sound_fault}
 use Rattle.csv_program.proofs.pool.run_passes.Goals as goal
@@ -41,6 +42,7 @@ loop-number-init g c = record {
   removes =
       let none : 0 ≡ 0 * (length c.args.parts.now + 1) = omega arith in
       subst (λ (limit : ℕ). EachRemoves (free_from c.args.plan.now (length c.args.parts.now)) g.B.Basis.sizes.workers limit c.args.workers.now.items) none c.requires.new;
+  gone = λ any pass dataset below within. absurd (omega (arith, below));
   begun = λ w any below task low own. absurd (omega (arith, low));
 }
 
@@ -158,6 +160,13 @@ loop-number-preserved g c =
           (subst (λ (limit : ℕ). EachRemoves (free_from plan (length parts)) workers limit mids) next
           (c.in-Ok-work.ensures.removes (free_from plan (length parts))
           (subst (λ (limit : ℕ). EachRemoves (free_from plan (length parts)) workers limit c.loop-number.workers.items) (sym first) held.removes)));
+      gone = λ any.
+          goes_more plan (length parts) number c.task.result c.removed.result.now (slice_index_or c.loop-number.workers.items 0 any) (slice_index_or mids 0 any) (slice_index_or news 0 any) c.removed.ensures first
+          (c.work.ensures.sees 0 any (omega (arith, c.requires.some))) (clears any).sees
+          (final_ended g.B.Basis.owner workers (length parts) c.task.result mids any c.requires.some
+          (subst (OwnsPass g.B.Basis.owner workers (length parts)) (sym first) (owns_pass g.B.Basis.owner workers (length parts) (length (passes_in plan)) number c.requires.owner below))
+          c.work.ensures.workers.does c.in-Ok-work.ensures.begun)
+          (c.in-Ok-remove_blocks.ensures.gone any) (held.gone any);
       begun = begun_cleared g.B.Basis.owner workers ((number + 1) * (length parts + 1)) c.removed.result.now mids news clears others
           (subst (λ (limit : ℕ). EachBegins g.B.Basis.owner workers limit mids) next c.in-Ok-work.ensures.begun);
     }
@@ -200,3 +209,8 @@ pub returns-clause-removes : goal.returns-clause-removes
 returns-clause-removes g c =
     let all : c.loop-number.number ≡ length (passes_in c.args.plan.now) = omega (arith, c.loop-number-test.false, c.loop-number.auto.number-end, c.passes-number-end.ensures.count) in
     subst (λ (passes : ℕ). EachRemoves (free_from c.args.plan.now (length c.args.parts.now)) g.B.Basis.sizes.workers (passes * (length c.args.parts.now + 1)) c.loop-number.workers.items) all c.loop-number.invariant.removes
+
+pub returns-clause-gone : goal.returns-clause-gone
+returns-clause-gone g c any =
+    let all : c.loop-number.number ≡ length (passes_in c.args.plan.now) = omega (arith, c.loop-number-test.false, c.loop-number.auto.number-end, c.passes-number-end.ensures.count) in
+    subst (λ (passes : ℕ). GoesBehind c.args.plan.now (length c.args.parts.now) passes (slice_index_or c.loop-number.workers.items 0 any).seen) all (c.loop-number.invariant.gone any)

@@ -7,7 +7,7 @@ use Rattle.memory_lock.specs.Workers.{own_of}
 use Rattle.job_plan.specs.Plans.{passes_in}
 use Rattle.task_runner.specs.Pass.{states_at}
 use Rattle.task_runner.specs.Works.{ShowsNoRoom}
-use Rattle.csv_program.specs.Cached.{EachTells, TellsPasses}
+use Rattle.csv_program.specs.Cached.{EachTells, GoesBehind, TellsPasses}
 use Rattle.csv_program.specs.Charges.{EachCharges, ChargesPlan}
 use Rattle.csv_program.specs.Doing.{EachBegins, EachRemoves}
 use Rattle.csv_program.specs.Feeds.{FeedsPlan}
@@ -21,6 +21,7 @@ use Rattle.csv_program.proofs.Crews.{new_between}
 use Rattle.csv_program.proofs.Followed.{begins_all, follows, on_ok_more, room_more, shows_short}
 use Rattle.csv_program.proofs.ChargedPasses.{journal_charges}
 use Rattle.csv_program.proofs.RemovedLate.{removes_late, removes_new}
+use Rattle.csv_program.proofs.GoneBehind.{journal_goes}
 use Rattle.csv_program.proofs.pool.run_tasks.Goals as goal
 
 pub run_passes-answers-requires-clause-workers : goal.run_passes-answers-requires-clause-workers
@@ -61,6 +62,19 @@ returns-clause-removes g c =
     (removes_late c.args.plan.now c.in-Ok.manager g.B.Basis.sizes.workers partitions (passes * (partitions + 1)) c.run_passes-answers.new.workers.items (new_worker c.in-Ok.manager 0 0) c.close-journal.result.0
     c.run_passes-answers.ensures.workers.workers_are c.close-journal.ensures.whole did))
     c.run_passes-answers.ensures.removes
+
+pub returns-clause-gone : goal.returns-clause-gone
+returns-clause-gone g c =
+    let plan = c.args.plan.now in
+    let partitions = length c.args.parts.now in
+    let passes = length (passes_in plan) in
+    let workers = c.run_passes-answers.new.workers.items in
+    let any = new_worker c.in-Ok.manager 0 0 in
+    let size : c.args.asked.now.pool.workers ≡ g.B.Basis.sizes.workers = ap (λ (s : Sizes). s.workers) c.requires.basis in
+    let some : 1 ≤ g.B.Basis.sizes.workers = let range = c.max-range.ensures.range in omega (arith, size, range.some_worker) in
+    on_ok_more c.run_passes-answers.result ((other : PassState) → GoesBehind plan partitions passes (slice_index_or workers 0 other).seen) (GoesBehind plan partitions passes c.close-journal.result.0)
+    (λ goes. journal_goes plan partitions passes g.B.Basis.sizes.workers c.in-Ok.manager workers any c.close-journal.result.0 some c.run_passes-answers.ensures.workers.workers_are c.close-journal.ensures.whole (goes any))
+    c.run_passes-answers.ensures.gone
 
 pub returns-clause-charged : goal.returns-clause-charged
 returns-clause-charged g c =

@@ -18,7 +18,7 @@ use Rattle.task_runner.specs.declared.post.Post.{Post}
 use Rattle.job_ending.specs.Endings.{MayEndAs, ending_of_totals, printed_in, totals_of, wide_of}
 use Rattle.csv_program.specs.Feeds.{FeedsPlan}
 use Rattle.csv_program.specs.Basis.{StandAs}
-use Rattle.csv_program.specs.Cached.{TellsPasses}
+use Rattle.csv_program.specs.Cached.{GoesBehind, TellsPasses}
 use Rattle.csv_program.specs.Charges.{ChargesPlan}
 use Rattle.csv_program.specs.Posts.{post_files}
 use Rattle.csv_program.specs.QueryResults.{HaveResults, HoldsParts, totals_of_parts}
@@ -119,6 +119,14 @@ returns-clause-removes g c done = elim c.match-told-2.branch [
   | in-Ok w ↦
       ok_holds c.run_tasks-told.result.0 w.in-Ok.answers w.in-Ok.is
       (subst (λ (journal : Option (List JournalEntry)). OnOk c.run_tasks-told.result.0 (IfSome journal (RemovesLate c.args.plan.now c.args.asked.now.pool.workers (length c.args.parts.now)))) c.in-Some.is c.run_tasks-told.ensures.removes)
+  | in-Err w ↦ absurd (fault_not_done w.in-Err.fault c.match-told-2.status (w.status-is ∙ w.status_of_fault-status.ensures) done)
+]
+
+pub returns-clause-gone : goal.returns-clause-gone
+returns-clause-gone g c done = elim c.match-told-2.branch [
+  | in-Ok w ↦
+      ok_holds c.run_tasks-told.result.0 w.in-Ok.answers w.in-Ok.is
+      (subst (λ (journal : Option (List JournalEntry)). OnOk c.run_tasks-told.result.0 (IfSome journal (GoesBehind c.args.plan.now (length c.args.parts.now) (length (passes_in c.args.plan.now))))) c.in-Some.is c.run_tasks-told.ensures.gone)
   | in-Err w ↦ absurd (fault_not_done w.in-Err.fault c.match-told-2.status (w.status-is ∙ w.status_of_fault-status.ensures) done)
 ]
 

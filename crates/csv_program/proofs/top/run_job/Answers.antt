@@ -120,7 +120,7 @@ returns-in-Ok-clause-tasks g c =
       record {
         follows = subst (λ (n : ℕ). FollowsPlan (owner_of 0 0 c.args.asked.now.pool.workers (length c.deref.result.now) n) c.run_queries.result.journal) (passes_are c.args.asked.now.job l.header c.in-Ok.landed.plan l.planned) c.run_queries.ensures.tasks;
         all = λ done. subst (λ (n : ℕ). BeginsAll 0 (length c.deref.result.now) n c.run_queries.result.journal) (passes_are c.args.asked.now.job l.header c.in-Ok.landed.plan l.planned) (c.run_queries.ensures.all done);
-        cached = λ done. record { header = l.header; plan = c.in-Ok.landed.plan; planned = l.planned; tells = c.run_queries.ensures.told done; removes = c.run_queries.ensures.removes done };
+        cached = λ done. record { header = l.header; plan = c.in-Ok.landed.plan; planned = l.planned; tells = c.run_queries.ensures.told done; removes = c.run_queries.ensures.removes done; goes = c.run_queries.ensures.gone done };
       },
       if_each (g.S.Source.left c.args.input.now) _ (λ bytes is.
           let known = subst (λ (o : Option (List ℕ)). IfSome (option_map rows_of o) (PassChecks c.args.asked.now.job c.args.asked.now.max_rows c.in-Ok.landed.plan l.rows)) is l.are_known in
