@@ -5,21 +5,21 @@ tools/edits/NAME/, which only this script does. Run it at the top of the reposit
     python3 tools/edits.py --look       whether each edit's old text stands where it says, once; proves nothing
     python3 tools/edits.py NAME ..      tries the edits of these crates; CRATE/EDIT names one
     python3 tools/edits.py              tries all
-        --jobs N    so many checks side by side: one a processor, where each has 4 GB
+        --jobs N    so many checks side by side: one a processor, as many as memory holds
         --alone     one edit a check
         --keep F    writes each verdict to the file F, and takes it from there while the edit, its crate and those below are
                     as they were: so a run that was stopped goes on
 
 An edit is tried on a copy of its crate, over what earlier checks kept of it in out/, so that little more is proved than the
-function that it changes. What isn't built below is built first, and a crate that was never checked is proved once.
+function that it changes. What isn't proved there or below is proved first, once, and edits take the processors that proofs leave.
 
 Edits of different functions are tried together. The prover tells of each goal that it can't prove by a line of the function or
 of the function's proof by hand, so an edit counts as refused there where its own function has such a goal. Every other one is
 tried alone, and is judged as `rt ci` judges it. At the end of each lot the crate as it is has to be proved over what the tries
-left, else the lot is tried anew, one by one. The status is 0 where all were refused, 1 where some weren't, and 2 where nothing
-was judged.
+left, else the lot is tried anew, one by one. The status is 0 where all were refused, else 1.
 """
 import argparse
+import copy
 import hashlib
 import importlib.machinery
 import importlib.util
@@ -33,10 +33,8 @@ import tempfile
 import threading
 import time
 from collections import namedtuple
-from concurrent.futures import ThreadPoolExecutor
 
 sys.dont_write_bytecode = True
-GIGABYTES_A_CHECK = 4
 IN_A_CHECK = 10
 NOT_TRIED = 'not tried'
 # What the prover says of a proof file that names what an edit took away, and of what cites that proof, as `rt` has it.
@@ -228,6 +226,52 @@ class Trial:
         return time.time() - start
 
 
+def prove(crate, jobs):
+    """Proves a crate where it stands, over the libraries below, and builds a library, unless that is kept. Whether it is proved."""
+    flags, crate = ['--jobs', str(jobs)], copy.copy(crate)
+    with tempfile.TemporaryFile('w+', errors='replace') as crate.out:
+        proved = not (crate.check(flags) if crate.is_program else crate.build_rlib(flags, anew=False))
+        if not proved:
+            crate.out.seek(0)
+            print(crate.out.read()[-4000:])
+    return proved
+
+
+def tried(rt, crates, edits, alone, verdicts):
+    """Proves what these edits need, and tries them, in the toolchain's own order. The crates that weren't proved."""
+    printing, tasks = threading.Lock(), {}
+    own = {crate: [edit for edit in edits if edit.crate is crate] for crate in crates}
+    needed = {crate.name for crate in crates for above in crates if own[above] and (crate is above or crate in above.below())}
+
+    def proof(crate, given, jobs):
+        proved = all(given[it.name, 'proof'] for it in crate.below()) and prove(crate, jobs)
+        with printing:
+            print(f'{crate.name}: {"proved" if proved else "NOT PROVED"}', flush=True)
+        return proved
+
+    def trial(crate, lots, given):
+        if not given[crate.name, 'proof']:
+            return
+        seconds = Trial(rt, crate, verdicts).run(lots)
+        with printing:
+            for edit in [edit for lot in lots for edit in lot]:
+                print(f'{crate.name}/{edit.name}: {edit.said[:150]}', flush=True)
+            print(f'{crate.name}: {sum(len(lot) for lot in lots)} edits in {seconds:.0f} s', flush=True)
+
+    for crate in [crate for crate in crates if crate.name in needed]:
+        lines, need = crate.count(rb'\n'), rt.need(crate)
+        waits = [(it.name, 'proof') for it in crate.below()]
+        tasks[crate.name, 'proof'] = waits, lines, need, lambda given, jobs, it=crate: proof(it, given, jobs)
+        lots = lots_of(own[crate], alone)
+        # Each lane takes a copy of what is kept, and ends with a check of the crate as it is.
+        lanes = min(len(lots), 1 + len(own[crate]) // 16)
+        for at in range(lanes):
+            call = lambda given, jobs, it=crate, lots=lots[at::lanes]: trial(it, lots, given)
+            tasks[crate.name, 'edits', at] = [(crate.name, 'proof')], lines, rt.OVER * need, call
+    given = rt.in_lanes(tasks)
+    return [name for name in sorted(needed) if not given[name, 'proof']]
+
+
 def is_wanted(edit, names):
     return not names or edit.crate.name in names or f'{edit.crate.name}/{edit.name}' in names
 
@@ -284,6 +328,10 @@ def main():
     if unknown or not crates:
         sys.exit(f'edits: no such crate: {", ".join(sorted(unknown)) or "run this at the top of the repository"}')
     edits, has_strays = edits_of(rt, crates, words.names)
+    named = {f'{edit.crate.name}/{edit.name}' for edit in edits}
+    unknown = [name for name in words.names if '/' in name and name not in named]
+    if unknown:
+        sys.exit(f'edits: no such edit: {", ".join(unknown)}')
     faults = [edit for edit in edits if edit.fault]
     for edit in faults:
         print(f'{edit.folder()}, {edit.crate.name}/{edit.name}: {edit.fault}')
@@ -291,33 +339,12 @@ def main():
         print(f'{len(edits)} edits, {len(faults)} that can\'t be applied')
         return 1 if faults or has_strays else 0
 
-    start, printing = time.time(), threading.Lock()
-    tasks, verdicts = [], Verdicts(words.keep)
+    if words.jobs:
+        os.environ['RT_JOBS'] = str(words.jobs)
+    start, verdicts = time.time(), Verdicts(words.keep)
     verdicts.give(edits)
-    for crate in crates:
-        own = [edit for edit in edits if edit.crate is crate and edit.said == NOT_TRIED]
-        for dep in crate.below() if own else ():
-            if dep.build_rlib(['--jobs', '1'], anew=False):
-                print(f'edits: the library {dep.name} is not proved')
-                return 2
-        lots = lots_of(own, words.alone)
-        # Each lane takes a copy of what is kept, and ends with a check of the crate as it is.
-        lanes = min(len(lots), 1 + len(own) // 16)
-        tasks += [(crate, lots[at::lanes]) for at in range(lanes)]
-    # The dearest first: they are the uppermost.
-    tasks.reverse()
-
-    def work(task):
-        crate, lots = task
-        seconds = Trial(rt, crate, verdicts).run(lots)
-        with printing:
-            for edit in [edit for lot in lots for edit in lot]:
-                print(f'{crate.name}/{edit.name}: {edit.said[:150]}', flush=True)
-            print(f'{crate.name}: {sum(len(lot) for lot in lots)} edits in {seconds:.0f} s', flush=True)
-
-    memory = rt.free() // (GIGABYTES_A_CHECK * 10 ** 9)
-    with ThreadPoolExecutor(words.jobs or max(1, min(rt.processors(), memory))) as pool:
-        list(pool.map(work, tasks))
+    for crate in tried(rt, crates, [edit for edit in edits if edit.said == NOT_TRIED], words.alone, verdicts):
+        print(f'edits: {crate} is not proved')
     show(edits, time.time() - start)
     return 0 if all(edit.refused for edit in edits) and not has_strays else 1
 
