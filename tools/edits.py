@@ -5,13 +5,13 @@ tools/edits/NAME/, which only this script does. Run it at the top of the reposit
     python3 tools/edits.py --look       whether each edit's old text stands where it says, once; proves nothing
     python3 tools/edits.py NAME ..      tries the edits of these crates; CRATE/EDIT names one
     python3 tools/edits.py              tries all
-        --jobs N    so many checks side by side: one a processor, as many as memory holds
+        --jobs N    so many checks side by side, whatever memory they take; else one a processor, as many as memory holds
         --alone     one edit a check
         --keep F    writes each verdict to the file F, and takes it from there while the edit, its crate and those below are
                     as they were: so a run that was stopped goes on
 
 An edit is tried on a copy of its crate, over what earlier checks kept of it in out/, so that little more is proved than the
-function that it changes. What isn't proved there or below is proved first, once, and edits take the processors that proofs leave.
+function that it changes. What isn't proved there or below is proved first, once, and edits take what processors proofs leave.
 
 Edits of different functions are tried together. The prover tells of each goal that it can't prove by a line of the function or
 of the function's proof by hand, so an edit counts as refused there where its own function has such a goal. Every other one is
@@ -195,8 +195,7 @@ class Trial:
 
     def one(self, edit, kept):
         kind, said = self.rt.must_fail(self.crate, edit.path, ['--jobs', '1'], kept)
-        # An earlier toolchain only tells whether the edit was refused.
-        edit.refused = kind if isinstance(kind, bool) else kind in (self.rt.REFUSED, self.rt.AT_LIMIT)
+        edit.refused = kind in (self.rt.REFUSED, self.rt.AT_LIMIT)
         edit.said = said.partition(': ')[2]
 
     def together(self, lot, kept):
@@ -241,7 +240,7 @@ def tried(rt, crates, edits, alone, verdicts):
     """Proves what these edits need, and tries them, in the toolchain's own order. The crates that weren't proved."""
     printing, tasks = threading.Lock(), {}
     own = {crate: [edit for edit in edits if edit.crate is crate] for crate in crates}
-    needed = {crate.name for crate in crates for above in crates if own[above] and (crate is above or crate in above.below())}
+    needed = {it.name for crate in crates if own[crate] for it in [crate, *crate.below()]}
 
     def proof(crate, given, jobs):
         proved = all(given[it.name, 'proof'] for it in crate.below()) and prove(crate, jobs)
