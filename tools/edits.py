@@ -5,6 +5,9 @@ tools/edits/NAME/, which only this script does. Run it at the top of the reposit
     python3 tools/edits.py --look       whether each edit's old text stands where it says, once; proves nothing
     python3 tools/edits.py NAME ..      tries the edits of these crates; CRATE/EDIT names one
     python3 tools/edits.py              tries all
+        --since REV of these only the edits of crates whose src/, specs/ or proofs/ changed since the commit REV, also by what
+                    isn't committed, but for lines of comments, and those that are new since then or have another text. One that was moved to the other
+                    folder of its crate, or has another name, isn't new. What a change does to crates above isn't looked at
         --jobs N    so many checks side by side, whatever memory they take; else one a processor, as many as memory holds
         --alone     one edit a check
         --keep F    writes each verdict to the file F, and takes it from there while the edit, its crate and those below are
@@ -39,6 +42,8 @@ IN_A_CHECK = 10
 NOT_TRIED = 'not tried'
 # What the prover says of a proof file that names what an edit took away, and of what cites that proof, as `rt` has it.
 LOST_NAME = re.compile(r'(note: )?(\./)?proofs/.*(has no field|is not in scope|has no `|was not admitted)')
+PART_OF_CRATE = re.compile(r'crates/([^/]+)/(?:src|specs|proofs)/')
+EDIT_OF_CRATE = re.compile(r'(?:crates/([^/]+)/must-fail|tools/edits/([^/]+))/[^/]+\.edit$')
 FUNCTION = re.compile(r'^( *)(?:pub(?:\([a-z]+\))? )?(?:const |unsafe )*fn ([a-z_0-9]+)')
 
 
@@ -289,6 +294,50 @@ def edits_of(rt, crates, names):
     return [edit for edit in found if is_wanted(edit, names)], bool(strays)
 
 
+def git(*words, given=None):
+    """What git prints, and nothing where it fails."""
+    ran = subprocess.run(['git', *words], input=given, capture_output=True, text=True, check=False)
+    return '' if ran.returncode else ran.stdout
+
+
+def code_of(text):
+    """The lines of a source that aren't comments as a whole, nor empty."""
+    return [line for line in text.split('\n') if line.strip() and not line.lstrip().startswith(('//', '--'))]
+
+
+def is_changed(path, rev):
+    """Whether a source has another code than at a commit."""
+    before = git('show', f'{rev}:./{path}')
+    if not os.path.isfile(path):
+        return bool(code_of(before))
+    with open(path, encoding='utf-8') as file:
+        return code_of(file.read()) != code_of(before)
+
+
+def since(rev, edits):
+    """Those of the edits that are tried for what changed since a commit, and the names of the crates that changed."""
+    at = git('rev-parse', '--verify', '--quiet', '--end-of-options', f'{rev}^{{commit}}').split()
+    if not at:
+        sys.exit(f'edits: no such commit: {rev}')
+    paths = git('diff', '--relative', '--no-renames', '--name-only', '-z', at[-1], '--', 'crates')
+    paths += git('ls-files', '--others', '--exclude-standard', '-z', '--', 'crates')
+    changed = []
+    for path in paths.split('\0'):
+        found = PART_OF_CRATE.match(path)
+        if found and found[1] not in changed and is_changed(path, at[-1]):
+            changed.append(found[1])
+    known = set()
+    for line in git('ls-tree', '-r', '-z', at[-1], '--', 'crates', 'tools/edits').split('\0'):
+        kind, _, path = line.partition('\t')
+        found = EDIT_OF_CRATE.match(path)
+        if found:
+            known.add((found[1] or found[2], kind.split()[2]))
+    sums = git('hash-object', '--stdin-paths', given=''.join(f'{edit.path}\n' for edit in edits)).split()
+    wanted = [edit for edit, of_text in zip(edits, sums, strict=True)
+              if edit.crate.name in changed or (edit.crate.name, of_text) not in known]
+    return wanted, changed
+
+
 def commit():
     ran = subprocess.run(['git', 'describe', '--always', '--dirty', '--abbrev=7'], capture_output=True, text=True, check=False)
     return ran.stdout.strip() or 'no commit'
@@ -316,6 +365,7 @@ def main():
     parser = argparse.ArgumentParser(description=__doc__, formatter_class=argparse.RawDescriptionHelpFormatter)
     parser.add_argument('names', nargs='*')
     parser.add_argument('--look', action='store_true')
+    parser.add_argument('--since', metavar='REV')
     parser.add_argument('--jobs', type=int)
     parser.add_argument('--alone', action='store_true')
     parser.add_argument('--keep', metavar='F')
@@ -331,6 +381,12 @@ def main():
     unknown = [name for name in words.names if '/' in name and name not in named]
     if unknown:
         sys.exit(f'edits: no such edit: {", ".join(unknown)}')
+    if words.since is not None:
+        edits, changed = since(words.since, edits)
+        changed = [crate.name for crate in crates if crate.name in changed]
+        print(f'Changed since {words.since}: {", ".join(changed) or "no crate"}. Edits to try: {len(edits) or "none"}', flush=True)
+        if not edits:
+            return 1 if has_strays else 0
     faults = [edit for edit in edits if edit.fault]
     for edit in faults:
         print(f'{edit.folder()}, {edit.crate.name}/{edit.name}: {edit.fault}')
