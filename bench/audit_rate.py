@@ -1,7 +1,7 @@
 #!/usr/bin/env python3
 """Times the audit of a journal of a million entries, with few blocks in memory and with 1,000.
 
-Run it at the top of the repository, after `rt run` in crates/audit_rate has built the program. The journals are made by
+Run it at the top of the repository, after `rt run` in crates/rates has built the program. The journals are made by
 tools/audit_model.py: a task that asks and gives back, and with blocks a pin and its unpin between two asks; blocks of which
 each admission evicts one; blocks of which each ask evicts one; blocks whose dataset is refused more of them; blocks whose
 dataset stays, where each further one of it evicts a block of another; blocks that are too few for a further one since a pin
@@ -18,7 +18,7 @@ import time
 sys.path.insert(0, "tools")
 from audit_model import asking, copying, emptying, keeping, many, pinned, refusing, removing, turning
 
-PROGRAM = os.path.abspath("crates/audit_rate/out/audit_rate")
+PROGRAM = [os.path.abspath("crates/rates/out/rates"), "audit"]
 ENTRIES = int(sys.argv[1]) if len(sys.argv) > 1 else 1_000_000
 ROUNDS = 3
 JOURNALS = [
@@ -48,7 +48,7 @@ def audited(path):
     """The seconds of an audit of a file, and its answer."""
     with open(path, encoding="utf-8") as given:
         start = time.perf_counter()
-        done = subprocess.run([PROGRAM], stdin=given, stdout=subprocess.PIPE, check=False)
+        done = subprocess.run(PROGRAM, stdin=given, stdout=subprocess.PIPE, check=False)
         return time.perf_counter() - start, done.stdout.decode().strip()
 
 

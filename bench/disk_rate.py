@@ -1,7 +1,7 @@
 #!/usr/bin/env python3
 """Times 10^6 rows of 40 bytes through a folder disk, beside `cat` of the same file.
 
-Run it at the top of the repository, after `rt run` in crates/disk_rate has built the program. System calls
+Run it at the top of the repository, after `rt run` in crates/rates has built the program. System calls
 are counted with strace where it is at hand.
 """
 import os
@@ -14,7 +14,7 @@ import time
 
 ROWS = int(sys.argv[1]) if len(sys.argv) > 1 else 1_000_000
 ROW_BYTES = 40
-PROGRAM = os.path.abspath("crates/disk_rate/out/disk_rate")
+PROGRAM = [os.path.abspath("crates/rates/out/rates"), "disk"]
 
 
 def timed(words, folder, **more):
@@ -34,18 +34,18 @@ def system_calls(words, folder):
 def main():
     megabytes = ROWS * ROW_BYTES / 1e6
     with tempfile.TemporaryDirectory() as folder:
-        write, told = timed([PROGRAM, "write", str(ROWS)], folder)
+        write, told = timed([*PROGRAM, "write", str(ROWS)], folder)
         print(f"write  {write:6.3f} s  {megabytes / write:8.1f} MB/s  {told.decode().strip()}")
-        read, told = timed([PROGRAM, "read", str(ROWS)], folder)
+        read, told = timed([*PROGRAM, "read", str(ROWS)], folder)
         print(f"read   {read:6.3f} s  {megabytes / read:8.1f} MB/s  {told.decode().strip()}")
         cat, _ = timed(["cat", "rate/0"], folder)
         print(f"cat    {cat:6.3f} s  {megabytes / cat:8.1f} MB/s")
         if shutil.which("strace"):
-            calls = system_calls([PROGRAM, "read", str(ROWS)], folder)
+            calls = system_calls([*PROGRAM, "read", str(ROWS)], folder)
             if calls is not None:
                 print(f"system calls per row read     {calls / ROWS:.5f}")
             shutil.rmtree(os.path.join(folder, "rate"))
-            calls = system_calls([PROGRAM, "write", str(ROWS)], folder)
+            calls = system_calls([*PROGRAM, "write", str(ROWS)], folder)
             if calls is not None:
                 print(f"system calls per row written  {calls / ROWS:.5f}")
 

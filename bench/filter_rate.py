@@ -1,7 +1,7 @@
 #!/usr/bin/env python3
 """Times filters over rows of a text and a number, beside plain Rust.
 
-Run it at the top of the repository, after `rt run` in crates/filter_rate has built the program. It goes over one page of
+Run it at the top of the repository, after `rt run` in crates/rates has built the program. It goes over one page of
 10,000 drawn rows again and again. Where rustc is at hand, a Rust program asks closures of the same fields, which parse and
 compare them, in the same run.
 """
@@ -11,7 +11,7 @@ import tempfile
 
 from rates import best, plain_program
 
-PROGRAM = os.path.abspath("crates/filter_rate/out/filter_rate")
+PROGRAM = [os.path.abspath("crates/rates/out/rates"), "filter"]
 ROWS = int(sys.argv[1]) if len(sys.argv) > 1 else 10_000_000
 PAGE_ROWS = 10_000
 REPS = 3
@@ -58,8 +58,8 @@ def main():
     with tempfile.TemporaryDirectory() as folder:
         plain = plain_program(folder, PLAIN)
         for way in ("all", "number", "text", "both"):
-            took = best([PROGRAM, way, passes], REPS)
-            start = best([PROGRAM, way, 0], REPS)
+            took = best([*PROGRAM, way, passes], REPS)
+            start = best([*PROGRAM, way, 0], REPS)
             seconds = took[0] - start[0]
             line = f"{way:8} {ROWS / seconds / 1e6:8.2f} million rows/s  {took[1]}"
             # The empty filter tells what the way to a row costs. A loop over nothing is no measure.

@@ -2,7 +2,7 @@
 """Times entries through a map of groups and a sorter, in memory and with spills, and through a merge of eight runs,
 beside plain Rust.
 
-Run it at the top of the repository, after `rt run` in crates/spill_rate has built the program. Each entry has a key of
+Run it at the top of the repository, after `rt run` in crates/rates has built the program. Each entry has a key of
 8 bytes, or of 12 of which the first four are the same in all, and a value of 32, two numbers of 128 bits. Where cargo is
 at hand, a Rust program puts as many entries through a map of the crate `indexmap`, with the hash of ours, that is sorted
 at the end and written to pages; through a stable sort; and through a heap over eight sorted lists, in the same run. Its
@@ -20,7 +20,7 @@ import tempfile
 
 from rates import plain_program
 
-PROGRAM = os.path.abspath("crates/spill_rate/out/spill_rate")
+PROGRAM = [os.path.abspath("crates/rates/out/rates"), "spill"]
 ENTRIES = int(sys.argv[1]) if len(sys.argv) > 1 else 1_000_000
 REPS = 7
 SOURCES = "/usr/share/cargo/registry"
@@ -250,7 +250,7 @@ def main():
         note = ""
         if not plain:
             plain, note = plain_program(folder, plain_text(HASHED)), " (std's map, which counts alone)"
-        programs = [[PROGRAM], [plain]] if plain else [[PROGRAM]]
+        programs = [PROGRAM, [plain]] if plain else [PROGRAM]
         starts, _ = least([program + ["map", 1, 0, 1 << 20] for program in programs])
         for name, kind, keys, most, key_bytes in (
             ("map, 1,000 keys", "map", 1000, 1 << 30, 8),

@@ -2,7 +2,7 @@
 docs/FORMATS.md, and prints the line that `audit` answers. Histories come from tools/pool_model.py. Run it at the top of the
 repository.
 
-    python3 tools/audit_model.py check      do the tables of crates/audit_tests have the answers that the model gives?
+    python3 tools/audit_model.py check      do the journals of crates/words_tests have the answers that the model gives?
     python3 tools/audit_model.py drawn      the table of drawn journals, each with one number changed at each kind of entry
     python3 tools/audit_model.py answer     the answer to the text on standard input
     python3 tools/audit_model.py many N B   a legal journal of N entries beside B blocks in memory, for bench/audit_rate.py
@@ -11,7 +11,7 @@ import random
 import re
 import sys
 
-TABLES = ['crates/audit_tests/src/worked.rt', 'crates/audit_tests/src/drawn.rt']
+TABLES = ['crates/words_tests/src/tests/worked_journals.rt', 'crates/words_tests/src/tests/drawn_journals.rt']
 NUMBER = re.compile(r'0|[1-9][0-9]*')
 FORMS = {
     'begin': 'ss', 'attempt': 'sslllg', 'release': 'ssl', 'end': 'ssl', 'evict': 'ssslf', 'admit': 'sssloll', 'refused': 'ssslll',

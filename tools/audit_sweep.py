@@ -1,7 +1,7 @@
 """Long journals, audited by the built program and by tools/audit_model.py, which share nothing. Run it at the top of the
-repository, after `rt run` in crates/audit_rate has built the program.
+repository, after `rt run` in crates/rates has built the program.
 
-    python3 tools/audit_sweep.py                 that program, crates/audit_rate/out/audit_rate
+    python3 tools/audit_sweep.py                 that program, crates/rates/out/rates audit
     python3 tools/audit_sweep.py PROGRAM WORD..  another one, as ./luvenashil audit
         --entries N  how long a drawn journal is at least: 100000
         --tries N    how many entries of each kind are changed in each journal, one number of one entry at a time: 4
@@ -86,7 +86,7 @@ def cuts(audits, count):
 
 def main():
     words = argparse.ArgumentParser(description=__doc__, formatter_class=argparse.RawDescriptionHelpFormatter)
-    words.add_argument("program", nargs="*", default=[os.path.abspath("crates/audit_rate/out/audit_rate")])
+    words.add_argument("program", nargs="*", default=[os.path.abspath("crates/rates/out/rates"), "audit"])
     words.add_argument("--entries", type=int, default=100_000)
     words.add_argument("--tries", type=int, default=4)
     words.add_argument("--cuts", type=int, default=240)

@@ -1,8 +1,8 @@
 #!/usr/bin/env python3
 """A plain reader of the programs' words, which shares nothing with the Rattle code. Run it at the top of the repository.
 
-    python3 tools/words_model.py check                does crates/words_tests/src/tests/drawn.rt stand there as this prints it?
-    python3 tools/words_model.py table                drawn.rt: 300 lists of words, with what they say
+    python3 tools/words_model.py check                does crates/words_tests/src/tests/drawn_words.rt stand there as this prints it?
+    python3 tools/words_model.py table                drawn_words.rt: 300 lists of words, with what they say
     python3 tools/words_model.py lists SEED COUNT TO  draws so many lists, and writes TO.in, a list a line with tabs between the
                                                       words, and TO.out, what each says; a program that answers TO.in with
                                                       TO.out reads words as this does
@@ -13,7 +13,7 @@ is one beyond its range. Of many such lists the table has those that differ in w
 import random
 import sys
 
-TABLE = 'crates/words_tests/src/tests/drawn.rt'
+TABLE = 'crates/words_tests/src/tests/drawn_words.rt'
 WORK = {'workers': (1, 16, 4), 'heap': (1, 2**40, 2**30), 'reserved': (0, 2**40, 300 * 2**20),
         'fraction': (1, 1000, 600), 'storage': (0, 1000, 500), 'part-rows': (1, 10**6, 10**4)}
 RUN = dict(WORK, **{'max-rows': (1, 10**7, 10**7)})

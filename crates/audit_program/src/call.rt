@@ -30,6 +30,9 @@ pub fn audit_call<S: Source, W: Sink>(
     ensures refused { is_audit (texts words.now) ≡ false
         → (result ≡ AuditStatus.BadWords) ⊎ (result ≡ AuditStatus.NoMemory) }
 
+    // Words that are no call of `audit` touch nothing.
+    ensures unread { is_audit (texts words.now) ≡ false → (input.new ≡ input.old) × (output.new ≡ output.old) }
+
     // The verdict is that of all that the input had left, and its line is written whole.
     ensures verdict { IfVerdict result (IsVerdictOf (S.left input.old)) }
     ensures end { IfVerdict result (λ _. IsAtEnd (S.left input.new)) }

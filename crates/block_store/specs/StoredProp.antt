@@ -9,15 +9,17 @@ use Rattle.spill_disk.specs.Files.{Files}
 use Rattle.block_store.specs.declared.block_copy.BlockCopy.{BlockCopy}
 use Rattle.block_store.specs.Copies.{HasPage, IsStored, AreStored}
 
+-- there is at most one proof that a file has a page with this number of bytes
 HasPage-prop : (file : Option (List ℕ)) (count : ℕ) → IsProp (HasPage file count)
 HasPage-prop None count = ⊥_prop
 HasPage-prop (Some bytes) count = ×_prop (Coded-set coded_ℕ (length bytes) count) ∥∥₁_prop
 
+-- there is at most one proof that a copy is stored
 IsStored-prop : (files : Option Files) (copy : BlockCopy) → IsProp (IsStored files copy)
 IsStored-prop None copy = Unit-prop
 IsStored-prop (Some files) copy = HasPage-prop (map.get files copy.file) copy.bytes
 
--- there is at most one proof of it
+-- there is at most one proof that all copies are stored, with numbers below the next file's
 pub AreStored-prop : (files : Option Files) (next : ℕ) (copies : List BlockCopy) → IsProp (AreStored files next copies)
 AreStored-prop files next [] = Unit-prop
 AreStored-prop files next (copy ∷ others) =

@@ -1,5 +1,4 @@
--- What contracts see of a source and a sink over a file: their counts, and whether the file is open. They don't see
--- its bytes.
+-- What contracts see of a source and a sink over a file: their counts and whether it is open, but not its bytes.
 -- This project's own.
 use Rattle.std.specs.Prelude.{ℕ, Bool, is_some}
 use Rattle.byte_io.specs.declared.file.FileSource.{FileSource}

@@ -1,5 +1,5 @@
 -- The records of a text, as csv reads them with its defaults, with no header row of its own.
--- The csv crate's reading; a byte order mark at the start is no part of the text.
+-- After the toolchain's crate csv, by whose reading it is said. A byte order mark at the start is no part of the text.
 use Rattle.std.specs.Prelude.{ℕ, ◌+◌, List, length}
 use Rattle.csv.specs.Reading.{default_config, records, records_from, strip_bom}
 use Rattle.csv.specs.declared.parser.State.{State}

@@ -96,8 +96,8 @@ pub record Ends (old new : State) : Type 0 where
   pub empty : old.entries ≡ [] → old.used ≡ 0
   pub gained : old.entries ≢ [] → (current old).mark ≤ room old
 
--- a consumer that may only be reset
-pub record IsSpent (old new : State) : Type 0 where
+-- what no spill changes of a consumer, not even a turn that gives up, after which it may only be reset
+pub record SameConsumer (old new : State) : Type 0 where
   pub kind : new.kind ≡ old.kind
   pub fed : new.fed ≡ old.fed
   pub least : new.least ≡ old.least
@@ -109,4 +109,4 @@ Turns old new before after (Ok (Ask bytes)) = Asks old new bytes × (after ≡ b
 Turns old new before after (Ok Write) = Writes old new after.rows (current new).left × (after.room ≡ before.room)
 Turns old new before after (Ok (Freed bytes)) = Frees old new bytes × (after ≡ before)
 Turns old new before after (Ok Done) = Ends old new × (after ≡ before)
-Turns old new before after (Err _) = IsSpent old new × (after.room ≡ before.room)
+Turns old new before after (Err _) = SameConsumer old new × (after.room ≡ before.room)

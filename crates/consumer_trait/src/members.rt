@@ -2,15 +2,13 @@
 
 ghost use Rattle.std.specs.Prelude.{◌≡◌, ◌+◌, ◌≤◌, ◌<◌, ◌^◌, ◌↔◌, [], length, map, true, slice_set, IsTrue, IsSome, Some, OnOk, OnErr};
 ghost use Rattle.aggregate.specs.Totals.{costs};
-ghost use Rattle.row_page.specs.Pages.{empty_page};
 ghost use Rattle.consumer_trait.specs.States.{Rest, IsEntryBy, as_reset};
-ghost use Rattle.consumer_trait.specs.Calls.{Feeds, Turns};
+ghost use Rattle.consumer_trait.specs.Calls.{Feeds};
 ghost use Rattle.consumer_trait.specs.Members.{state_at, OnlyAt};
 
-use crate::answers::{Fed, Turn};
+use crate::answers::Fed;
 use crate::consumer::Consumer;
 use aggregate::Kind;
-use row_page::Page;
 use std::alloc::AllocError;
 
 /// What the consumer at a place uses, as `Consumer::used`.
@@ -87,16 +85,4 @@ pub fn grant_at<C: Consumer>(members: &mut [C], i: usize, bytes: u64)
         map C.state members.new ≡ slice_set (map C.state members.old) i (record old { used = old.used + bytes }) }
 {
     members[i].granted(bytes);
-}
-
-/// One turn of a spill of the consumer at a place, as `Consumer::spill_turn`.
-pub fn turn_at<C: Consumer>(members: &mut [C], i: usize, out: &mut Page) -> Result<Turn, AllocError>
-    requires within { i < length members.old }
-    requires kind { IsSome (state_at (map C.state members.old) i).kind }
-    requires page { out.old ≡ empty_page }
-    ensures turns { Turns (state_at (map C.state members.old) i) (state_at (map C.state members.new) i)
-        out.old out.new result }
-    ensures others { OnlyAt (map C.state members.old) (map C.state members.new) i }
-{
-    members[i].spill_turn(out)
 }

@@ -16,7 +16,7 @@ use Rattle.memory_lock.proofs.Staying.{all_imply}
 use Rattle.task_runner.specs.Workers.{AreTasks, IsCount, part_at}
 use Rattle.task_runner.specs.Works.{IsTaskOf}
 use Rattle.csv_program.specs.Doing.{BeginsOwn, DoesOwn, IsRemovalOf}
-use Rattle.job_ending.specs.Tasks.{begun_by, begun_in}
+use Rattle.job_ending.specs.Tasks.{begun_in}
 use Rattle.csv_program.proofs.Journals.{total_append, total_reverse}
 use Rattle.csv_program.proofs.TaskEntries.{Amid, all_raise, amid_begun, at_place, begun_append, every_append, mark, marked, none_begun, none_ended, removal_amid, task_begins, task_begun, task_ends, task_owned}
 
@@ -171,7 +171,7 @@ begins_other owner first partitions w entries final other began task within mine
 
 -- ---- what it didn't begin
 
-first_below : (event : Event) (later : List ℕ) (limit task : ℕ) → limit ≤ task → AllByRecursion (λ t. t < limit) (begun_by event later) → (begin_of task event ≡ 0) × AllByRecursion (λ t. t < limit) later
+first_below : (event : Event) (later : List ℕ) (limit task : ℕ) → limit ≤ task → AllByRecursion (λ t. t < limit) (begun_after event later) → (begin_of task event ≡ 0) × AllByRecursion (λ t. t < limit) later
 first_below (Begin t) later limit task most all = (ap (λ (b : Bool). cond {A = ℕ} b 1 0) (ne_eqb t task (λ same. absurd (omega (arith, same, most, all.0)))), all.1)
 first_below _ later limit task most all = (refl, all)
 

@@ -11,7 +11,7 @@ use Rattle.row_page.specs.Grammar.{IsPage}
 use Rattle.spill_disk.specs.Files.{Files, bytes_of}
 use Rattle.run_file.specs.declared.run.Run.{Run}
 use Rattle.run_file.specs.Runs.{Stands}
-use Rattle.run_file.specs.Several.{HasEntries, KeepsFile, concatenated, run_at}
+use Rattle.run_file.specs.Several.{HasEntries, KeepsFile, concatenated, run_at, KeepsAll}
 use Rattle.row_filter.specs.Derived.{derived}
 use Rattle.job_plan.specs.Columns.{Fields}
 use Rattle.job_plan.specs.Entries.{entry_of}
@@ -21,7 +21,6 @@ use Rattle.result_table.specs.Results.{HasResult}
 use Rattle.memory_core.specs.Caches.{RowsByName}
 use Rattle.lineage.specs.Standing.{IsSaid}
 use Rattle.task_runner.specs.PartAnswers.{HoldsAll, HoldsOwn, HoldsPart}
-use Rattle.task_runner.specs.Pass.{KeepsAll}
 use Rattle.task_runner.specs.PassViews.{PassView, pass_with}
 use Rattle.task_runner.specs.Workers.{answer_at, part_at}
 use Rattle.csv_program.specs.Passing.{ArePut, HavePass, IsPutAt}

@@ -14,12 +14,14 @@ use Rattle.row_filter.specs.Chains.{base_of, links_of}
 use Rattle.row_filter.specs.Rows.{HasTestedColumns}
 use Rattle.row_filter.specs.declared.chain.Link.{Link}
 use Rattle.job_plan.specs.Columns.{Fields}
-use Rattle.job_plan.specs.Planning.{FitsChain, FitsQueries, columns_of, is_landed as is_planned}
-use Rattle.lineage.specs.LineageViews.{IsLineage, columns_of as lineage_columns, is_landed}
+use Rattle.job_plan.specs.Planning.{FitsChain, FitsQueries}
+use Rattle.row_form.specs.Forms.{columns_of}
+use Rattle.lineage.specs.LineageViews.{IsLineage}
 use Rattle.job_plan.specs.Plans.{chain_in, first_task_of, form_in, kept_in, passes_in, queries_in, task_of}
 use Rattle.job_plan.specs.declared.query_plan.Plan.{Plan}
 use Rattle.memory_core.specs.Caches.{RowsByName}
-use Rattle.task_runner.specs.Pass.{FeedsParts, KeepsAll}
+use Rattle.task_runner.specs.Pass.{FeedsParts}
+use Rattle.run_file.specs.Several.{KeepsAll}
 use Rattle.task_runner.specs.PassViews.{PassView, pass_with}
 use Rattle.task_runner.specs.Queries.{IsPass}
 use Rattle.task_runner.specs.Workers.{IfSound}
@@ -55,20 +57,12 @@ few_queries plan =
     let size = length-map plan.queries.items (λ planned. planned.kept) in
     omega (arith, few, size)
 
-same_columns : (form : Form) → columns_of form ≡ lineage_columns form
-same_columns (Landed columns numbers) = refl
-same_columns (Entries kind) = refl
-
-same_landed : (form : Form) → is_planned form ≡ is_landed form
-same_landed (Landed columns numbers) = refl
-same_landed (Entries kind) = refl
-
 -- a plan's datasets over landed partitions
 pub lineage_is : (plan : Plan) (parts : List Run) (part_rows : ℕ) → FitsChain (form_in plan) (links_of (chain_in plan)) → base_of (chain_in plan) ≡ 0 → IsLineage (lineage_in plan parts part_rows)
 lineage_is plan parts part_rows chain based = record {
-  landed = sym (same_landed (form_in plan)) ∙ chain.landed;
+  landed = chain.landed;
   ordered = chain.ordered;
-  covered = subst (λ (m : ℕ). All (λ (link : Link). IfSome link.filter (HasTestedColumns (m + 1))) (links_of (chain_in plan))) (same_columns (form_in plan)) chain.covered;
+  covered = chain.covered;
   named = let least = chain.few in omega (arith, least, based);
 }
 

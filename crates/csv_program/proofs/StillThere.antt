@@ -4,11 +4,11 @@ use Rattle.std.specs.Prelude.{All, IsSome, is_some}
 use Rattle.std.specs.FinMap as map
 use Rattle.spill_disk.specs.Files.{Files}
 use Rattle.run_file.specs.declared.run.Run.{Run}
-use Rattle.run_file.specs.Several.{IsFileAmong, KeepsFile, no_run, run_at}
+use Rattle.run_file.specs.Several.{IsFileAmong, KeepsFile, no_run, run_at, KeepsAll}
 use Rattle.task_memory.specs.RunLists.{runs_at}
-use Rattle.task_memory.specs.Writing.{WasNotThere}
+use Rattle.run_file.specs.Shelved.{IsNotThere}
 use Rattle.task_runner.specs.Finals.{KeepsOtherFiles}
-use Rattle.task_runner.specs.Pass.{AreInNewFiles, KeepsAll}
+use Rattle.task_runner.specs.Pass.{AreInNewFiles}
 
 keeps_itself : (files : Option Files) (file : ℕ) → KeepsFile files files file
 keeps_itself None file = tt
@@ -53,11 +53,11 @@ tells_around before taken given after first last same place =
 missing : (files : Files) (file : ℕ) → IsSome (map.get files file) → map.get files file ≡ None → ⊥
 missing files file there none = cc (there, none)
 
-not_among : (before : ℕ → Option Files) (files : Files) (runs : List Run) (disk file : ℕ) → before disk ≡ Some files → All (λ run. WasNotThere (before run.disk) run.file) runs → IsSome (map.get files file) → IsFileAmong (λ disk. disk) runs disk file → ⊥
+not_among : (before : ℕ → Option Files) (files : Files) (runs : List Run) (disk file : ℕ) → before disk ≡ Some files → All (λ run. IsNotThere (before run.disk) run.file) runs → IsSome (map.get files file) → IsFileAmong (λ disk. disk) runs disk file → ⊥
 not_among before files runs disk file is new there among =
     let one = new among.0 no_run among.1 in
-    let there_not : WasNotThere (before disk) file = subst (λ (n : ℕ). WasNotThere (before disk) n) among.3 (subst (λ (d : ℕ). WasNotThere (before d) (run_at runs among.0).file) among.2 one) in
-    missing files file there (subst (λ (f : Option Files). WasNotThere f file) is there_not)
+    let there_not : IsNotThere (before disk) file = subst (λ (n : ℕ). IsNotThere (before disk) n) among.3 (subst (λ (d : ℕ). IsNotThere (before d) (run_at runs among.0).file) among.2 one) in
+    missing files file there (subst (λ (f : Option Files). IsNotThere f file) is there_not)
 
 still : (before mid after : Option Files) (file : ℕ) → KeepsFile before mid file → is_some after ≡ is_some mid → ((files : Files) → before ≡ Some files → IsSome (map.get files file) → KeepsFile mid after file) → KeepsFile before after file
 still None None None file first tells then = tt

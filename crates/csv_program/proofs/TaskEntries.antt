@@ -3,7 +3,7 @@ use Rattle.std.proofs.Common.{◌≡◌, ◌∙◌, ℕ, zero, suc, ◌+◌, ◌
 use Rattle.std.specs.Prelude.{◌==◌, slice_index_or, if◌then◌else◌}
 use Rattle.std.specs.List.{AllByRecursion}
 use Rattle.std.proofs.lemmas.Bool.{eq-eqb}
-use Rattle.pool_ledger.specs.History.{begin_of, end_of, total}
+use Rattle.pool_ledger.specs.History.{begin_of, end_of, total, begun_after}
 use Rattle.pool_ledger.specs.declared.entry.Entry.{Entry}
 use Rattle.pool_ledger.specs.declared.entry.Event.{Event}
 use Rattle.pool_ledger.specs.declared.entry.Event.TheVariants.{Begin, End}
@@ -15,7 +15,7 @@ use Rattle.task_pool.specs.Asks.{IsOfTask}
 use Rattle.lineage.specs.Entries.{IsRowsWork}
 use Rattle.task_runner.specs.Works.{IsInTask, IsTaskOf}
 use Rattle.csv_program.specs.Doing.{IsRemovalOf}
-use Rattle.job_ending.specs.Tasks.{begun_by, begun_in}
+use Rattle.job_ending.specs.Tasks.{begun_in}
 use Rattle.csv_program.proofs.Journals.{total_append}
 
 -- ---- the entries of one task
@@ -24,7 +24,7 @@ use Rattle.csv_program.proofs.Journals.{total_append}
 pub record Amid (entry : Entry) : Type 0 where
   pub begins_none : (task : ℕ) → begin_of task entry.event ≡ 0
   pub ends_none : (task : ℕ) → end_of task entry.event ≡ 0
-  pub leaves : (later : List ℕ) → begun_by entry.event later ≡ later
+  pub leaves : (later : List ℕ) → begun_after entry.event later ≡ later
   pub owned : (owner : ℕ → Option ℕ) (worker : ℕ) → IsByOwner owner worker entry.event
 
 pub asks_amid : (worker task : ℕ) (entry : Entry) → IsOfTask worker task entry → Amid entry
@@ -97,14 +97,14 @@ task_owned owner worker task entries is owns =
           (all_imply Amid (λ entry. IsByOwner owner worker entry.event) (λ entry amid. amid.owned owner worker) is.amid (are_amid worker task is.amid is.all)) (tt, tt),
     )
 
-pub by_append : (event : Event) (xs ys : List ℕ) → begun_by event (xs ++ ys) ≡ begun_by event xs ++ ys
+pub by_append : (event : Event) (xs ys : List ℕ) → begun_after event (xs ++ ys) ≡ begun_after event xs ++ ys
 by_append (Begin task) xs ys = refl
 by_append _ xs ys = refl
 
 pub begun_append : (xs ys : List Entry) → begun_in (xs ++ ys) ≡ begun_in xs ++ begun_in ys
 unfolding begun_in
 begun_append [] ys = refl
-begun_append (x ∷ xs) ys = ap (begun_by x.event) (begun_append xs ys) ∙ by_append x.event (begun_in xs) (begun_in ys)
+begun_append (x ∷ xs) ys = ap (begun_after x.event) (begun_append xs ys) ∙ by_append x.event (begun_in xs) (begun_in ys)
 
 pub amid_begun : (xs ys : List Entry) → AllByRecursion Amid xs → begun_in (xs ++ ys) ≡ begun_in ys
 unfolding begun_in

@@ -11,7 +11,7 @@ use Rattle.aggregate.specs.declared.kind.Kind.{Kind}
 use Rattle.spill_disk.specs.Files.{Files}
 use Rattle.run_file.specs.Runs.{Stands}
 use Rattle.run_file.specs.declared.run.Run.{Run}
-use Rattle.run_file.specs.Several.{HasEntries, HaveEntries, KeepsFile, concatenated, run_at}
+use Rattle.run_file.specs.Several.{HasEntries, HaveEntries, KeepsFile, concatenated, run_at, KeepsAll}
 use Rattle.consumer_trait.specs.States.{State}
 use Rattle.job_answer.specs.Parts.{PartsTellAll}
 use Rattle.result_table.specs.Results.{HasResult}
@@ -21,7 +21,7 @@ use Rattle.task_memory.proofs.Places.{less_or_not}
 use Rattle.task_runner.specs.Consumers.{KeepsConsumers}
 use Rattle.task_runner.specs.Finals.{AreMergedTo, HasMerged, HaveLists, KeepsOtherFiles, MergeTotals}
 use Rattle.task_runner.specs.PartAnswers.{HoldsAll}
-use Rattle.task_runner.specs.Pass.{AnswerAllParts, AreInNewFiles, KeepsAll, states_at}
+use Rattle.task_runner.specs.Pass.{AnswerAllParts, AreInNewFiles, states_at}
 use Rattle.task_runner.specs.PassViews.{PassView, parts_of, queries_of, rows_over}
 use Rattle.task_runner.specs.Queries.{kind_in, made_in}
 use Rattle.task_runner.specs.RunsApart.{AllOfLists, AreAllApart}

@@ -1,4 +1,3 @@
-pub mod Words
 pub mod Basis
 pub mod PlanCalls
 pub mod Telling
@@ -13,5 +12,4 @@ pub mod Made
 pub mod QueryConsumers
 pub mod Passing
 pub mod Trials
-pub mod SpillFaults
 pub mod Shortage

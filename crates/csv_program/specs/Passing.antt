@@ -6,12 +6,12 @@ use Rattle.std.specs.List.{range_with_len}
 use Rattle.aggregate.specs.Totals.{total}
 use Rattle.spill_disk.specs.Files.{Files}
 use Rattle.run_file.specs.declared.run.Run.{Run}
-use Rattle.run_file.specs.Several.{concatenated}
+use Rattle.run_file.specs.Several.{concatenated, KeepsAll}
 use Rattle.consumer_trait.specs.States.{State}
 use Rattle.job_plan.specs.Columns.{Fields}
 use Rattle.result_table.specs.Results.{HasResult}
 use Rattle.task_runner.specs.Consumers.{KeepsConsumers}
-use Rattle.task_runner.specs.Pass.{KeepsAll, states_at}
+use Rattle.task_runner.specs.Pass.{states_at}
 use Rattle.task_runner.specs.PassViews.{PassView, parts_of, queries_of, rows_over}
 use Rattle.task_runner.specs.Queries.{kind_in, made_in}
 use Rattle.task_runner.specs.Workers.{answer_at}

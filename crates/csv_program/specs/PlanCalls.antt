@@ -46,6 +46,12 @@ ForPlan NoPlan P = ⊤
 ForPlan (NoText place) P = ⊤
 ForPlan (Plans job) P = P job
 
+-- where it is of no job, P
+abbrev pub ForNoPlan : PlanCall → Type 0 → Type 0
+ForNoPlan NoPlan P = P
+ForNoPlan (NoText place) P = P
+ForNoPlan (Plans job) P = ⊤
+
 -- how the call of a job may end: with its plan, with what may be told of a header, which is row 0, or with a failed write
 abbrev pub IsOfPlan : Status → Type 0
 IsOfPlan status.Done = ⊤
@@ -85,7 +91,7 @@ IsOfPrint status.WriteFault = ⊤
 IsOfPrint status.NoMemory = ⊤
 IsOfPrint _ = ⊥
 
--- after these nothing was printed of a plan
+-- nothing was printed of a plan or of a trial's lines: a part may be after a fault of the output and want of memory, and all is after `Done`
 abbrev pub PrintsNothing : Status → Type 0
 PrintsNothing status.Done = ⊥
 PrintsNothing status.WriteFault = ⊥

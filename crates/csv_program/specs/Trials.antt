@@ -68,10 +68,3 @@ abbrev pub IsSoundEnd : Status → Type 0
 IsSoundEnd (status.SumTooWide query key) = ⊥
 IsSoundEnd (status.Damaged post file kept found) = ⊥
 IsSoundEnd _ = ⊤
-
--- a part of the lines may have been written after a fault of the output and want of memory; after `Done` all of them were
-abbrev pub WritesNoLine : Status → Type 0
-WritesNoLine status.Done = ⊥
-WritesNoLine status.WriteFault = ⊥
-WritesNoLine status.NoMemory = ⊥
-WritesNoLine _ = ⊤

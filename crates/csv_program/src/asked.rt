@@ -1,13 +1,13 @@
 //! The run that the words of a call ask for.
 
-ghost use Rattle.std.specs.Prelude.{◌≡◌, ◌≤◌, ◌<◌, ◌-◌, ◌^◌, IfErr, IfOk};
+ghost use Rattle.std.specs.Prelude.{◌≡◌, ◌≤◌, ◌<◌, ◌-◌, ◌^◌, IfErr, IfOk, OnOk};
 ghost use Rattle.job_text.specs.Jobs.{IsJob};
 ghost use Rattle.job_text.specs.Text.{read_of};
 ghost use Rattle.pool_ledger.specs.Sizes.{smallest_heap};
 ghost use Rattle.words.specs.Options.{AreInRange};
 ghost use Rattle.words.specs.Texts.{texts};
 ghost use Rattle.words.specs.Views.{run_reading, work_reading};
-ghost use Rattle.job_ending.specs.Calls.{IsRun, IsWhyNot, Runs, call_of, call_with, pool_of};
+ghost use Rattle.job_ending.specs.Calls.{ForNoRun, IsRun, IsWhyNot, Runs, call_of, call_with, pool_of};
 
 use job_ending::{RunCall, Status};
 use job_text::{JobFault, read};
@@ -36,6 +36,17 @@ pub fn read_call(alloc: Global, posts: usize, words: &[&str]) -> Result<RunCall,
         return Err(Status::NoMemory);
     }
     call_for(alloc, said)
+}
+
+/// Refuses words that call for no run with so many posts, by the status that tells why. It touches nothing.
+pub fn judge_run(alloc: Global, posts: usize, words: &[&str]) -> Result<(), Status>
+    ensures ok { OnOk result (ForNoRun (call_of posts (texts words.now)) ⊥) }
+    ensures why { IfErr result (IsWhyNot (call_of posts (texts words.now))) }
+{
+    match read_call(alloc, posts, words) {
+        Ok(_asked) => Ok(()),
+        Err(status) => Err(status),
+    }
 }
 
 // The run of these words, by their job and their heap.

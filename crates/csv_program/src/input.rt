@@ -7,7 +7,7 @@ ghost use Rattle.fault_count.specs.Faults.{Rose};
 ghost use Rattle.landing.specs.Checks.{Refused, checked};
 ghost use Rattle.landing.specs.Landed.{HasCauseAmong, IsOfInput, Lands};
 ghost use Rattle.landing.specs.declared.fault.LandFault.{LandFault};
-ghost use Rattle.task_runner.specs.Pass.{KeepsAll};
+ghost use Rattle.run_file.specs.Several.{KeepsAll};
 ghost use Rattle.job_ending.specs.Calls.{IsRun};
 ghost use Rattle.csv_program.specs.Posts.{post_faults, post_files};
 

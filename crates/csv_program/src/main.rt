@@ -2,6 +2,7 @@
 #![tactic(auto)]
 
 mod asked;
+mod audited;
 mod clearing;
 mod consumers;
 mod finishing;
@@ -18,11 +19,12 @@ mod tests;
 mod top;
 mod trial;
 
+use asked::judge_run;
 use audit_program::{AuditStatus, audit_call};
-use byte_io::{FileSink, StdSink, StdSource};
+use byte_io::{FileSink, Sink, Source, StdSink, StdSource};
 use job_ending::Status;
 use plan::plan_call;
-use spill::prepare;
+use spill::{POSTS, prepare};
 use std::alloc::{AllocError, Global};
 use std::fmt::Display;
 use std::process::ExitCode;
@@ -30,7 +32,7 @@ use std::rt::{Env, Files};
 use std::{env, io};
 use task_runner::NoGate;
 use top::run;
-use trial::trial;
+use trial::{judge_trial, trial};
 use words::begins_with;
 
 // The words behind the program's name. One that is no text makes the words faulty.
@@ -88,6 +90,29 @@ fn end(rt: &impl Eprint, status: &Status) -> ExitCode {
     end_with(rt, status.number(), status)
 }
 
+// The process' end after words that call for no folder: those of a plan or an audit, and those that call for nothing, which touch
+// nothing.
+fn end_without_folder(
+    rt: &(impl Eprint + AllocGlobal),
+    words: &[&str],
+    input: &mut impl Source,
+    output: &mut impl Sink,
+) -> Option<ExitCode> {
+    let alloc = rt.alloc();
+    if begins_with(words, "plan") {
+        return Some(end(rt, &plan_call(alloc, words, input, output)));
+    }
+    if begins_with(words, "audit") {
+        return Some(end_audit(rt, audit_call(alloc, words, input, output)));
+    }
+    let judged = if begins_with(words, "trial") {
+        judge_trial(alloc, POSTS, words)
+    } else {
+        judge_run(alloc, POSTS, words)
+    };
+    Some(end(rt, &judged.err()?))
+}
+
 fn main(rt: HostRuntime) -> ExitCode {
     let words = match words_of_call(&rt) {
         Ok(words) => words,
@@ -98,18 +123,15 @@ fn main(rt: HostRuntime) -> ExitCode {
     };
     let mut input = StdSource::new(rt.reader());
     let mut output = StdSink::new(io::writer(&rt));
-    if begins_with(&texts, "plan") {
-        return end(&rt, &plan_call(rt.alloc(), &texts, &mut input, &mut output));
+    if let Some(ended) = end_without_folder(&rt, &texts, &mut input, &mut output) {
+        return ended;
     }
-    if begins_with(&texts, "audit") {
-        return end_audit(&rt, audit_call(rt.alloc(), &texts, &mut input, &mut output));
-    }
+    let alloc = rt.alloc();
     // The folder is this process' own until its end.
-    let (mut posts, store, _lock) = match prepare(&rt, &texts) {
+    let (mut posts, store, _folder) = match prepare(&rt) {
         Ok(made) => made,
         Err(fault) => return end_with(&rt, fault.number(), &fault),
     };
-    let alloc = rt.alloc();
     if begins_with(&texts, "trial") {
         let left = trial(&rt, alloc, &texts, &mut output, &mut posts, store, &NoGate);
         return end(&rt, &left.status);

@@ -13,7 +13,7 @@ ghost use Rattle.landing.specs.Landed.{IsOfInput};
 ghost use Rattle.landing.specs.declared.fault.LandFault.{LandFault};
 ghost use Rattle.words.specs.Texts.{texts};
 ghost use Rattle.job_ending.specs.Endings.{status_of};
-ghost use Rattle.csv_program.specs.PlanCalls.{ForPlan, IsOfPrint, IsWhyNoPlan, MayPrint, Plans, PrintsNothing, PrintsPlan, TellsPlan, TellsRefusal, plan_asked};
+ghost use Rattle.csv_program.specs.PlanCalls.{ForNoPlan, ForPlan, IsOfPrint, IsWhyNoPlan, MayPrint, Plans, PrintsNothing, PrintsPlan, TellsPlan, TellsRefusal, plan_asked};
 
 use crate::top::land_status;
 use byte_io::{Sink, SinkError, Source, write_all_counted};
@@ -41,6 +41,9 @@ pub fn plan_call<S: Source, W: Sink>(
         TellsRefusal why result)) }
     ensures called { ForPlan (plan_asked (texts words.now)) (λ job. IfSome (S.left input.old) (λ bytes.
         (why : LandFault) → IsOfInput why → result ≡ status_of why → checked_header job (rows_of bytes) ≡ Refused why)) }
+
+    // A call that is of no job touches nothing.
+    ensures unread { ForNoPlan (plan_asked (texts words.now)) ((input.new ≡ input.old) × (output.new ≡ output.old)) }
 
     // What is written.
     ensures done { result ≡ Status.Done → ForPlan (plan_asked (texts words.now)) (λ job.

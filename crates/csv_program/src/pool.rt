@@ -2,7 +2,7 @@
 
 ghost use Rattle.std.specs.Prelude.{◌≡◌, ◌≤◌, ◌<◌, ◌+◌, ◌*◌, ◌-◌, ◌%◌, ◌^◌, false, All, List, ℕ, Err, IfNone, IfOk, IfSome, None, OnOk, Some, is_some, length, map, slice_index, slice_index_or};
 ghost use Rattle.job_answer.specs.Parts.{PartsTellAll};
-ghost use Rattle.job_plan.specs.Planning.{columns_of};
+ghost use Rattle.row_form.specs.Forms.{columns_of};
 ghost use Rattle.job_plan.specs.Plans.{first_task_of, form_in, kept_in, passes_in};
 ghost use Rattle.memory_lock.specs.Workers.{own_of};
 ghost use Rattle.pool_ledger.specs.Journal.{history_of};
@@ -12,7 +12,8 @@ ghost use Rattle.task_runner.specs.Blocks.{TellsTask};
 ghost use Rattle.task_runner.specs.Charging.{IsPartCharged};
 ghost use Rattle.task_runner.specs.Consumers.{HasConsumers, KeepsConsumers};
 ghost use Rattle.task_runner.specs.PartAnswers.{HoldsAll, SaysAll};
-ghost use Rattle.task_runner.specs.Pass.{FeedsParts, KeepsAll, states_at};
+ghost use Rattle.task_runner.specs.Pass.{FeedsParts, states_at};
+ghost use Rattle.run_file.specs.Several.{KeepsAll};
 ghost use Rattle.task_runner.specs.PassViews.{parts_of, queries_of};
 ghost use Rattle.task_runner.specs.Queries.{IsPass};
 ghost use Rattle.task_runner.specs.Workers.{IfSound};

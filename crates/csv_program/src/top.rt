@@ -5,13 +5,16 @@ ghost use Rattle.std.specs.Io.KnownBytes.{Appends, IsAtEnd, Keeps};
 ghost use Rattle.byte_io.specs.Sinks.{AppendsPrefix};
 ghost use Rattle.fault_count.specs.Faults.{Rose};
 ghost use Rattle.journal_audit.specs.Text.{text_of};
+ghost use Rattle.journal_replay.specs.Verdicts.{IsVerdict};
+ghost use Rattle.journal_replay.specs.declared.verdict.Verdict.TheVariants.{Yes};
 ghost use Rattle.landing.specs.Landed.{IsOfInput};
 ghost use Rattle.landing.specs.declared.fault.LandFault.{LandFault};
 ghost use Rattle.pool_ledger.specs.Journal.{history_of};
 ghost use Rattle.pool_ledger.specs.Legal.{IsLegal};
 ghost use Rattle.pool_laws.specs.SafeJournal.{IsSafeJournal};
 ghost use Rattle.task_runner.specs.Consumers.{HasConsumers, KeepsConsumers};
-ghost use Rattle.task_runner.specs.Pass.{KeepsAll, states_at};
+ghost use Rattle.task_runner.specs.Pass.{states_at};
+ghost use Rattle.run_file.specs.Several.{KeepsAll};
 ghost use Rattle.words.specs.Texts.{texts};
 ghost use Rattle.csv_program.specs.Charges.{ChargesRun};
 ghost use Rattle.job_ending.specs.Calls.{ForNoRun, ForRun, IsRun, TellsCall, call_of};
@@ -27,6 +30,7 @@ ghost use Rattle.csv_program.specs.Shortage.{ShowsShort};
 ghost use Rattle.job_ending.specs.Written.{GainsIfAsked};
 
 use crate::asked::read_call;
+use crate::audited::journal_is_audited;
 use crate::input::land_on;
 use crate::queries::run_queries;
 use byte_io::{Sink, Source};
@@ -263,6 +267,8 @@ pub fn run<
     ensures none { IfNone result.setup (result.journal ≡ []) }
     ensures legal { IfSome result.setup (λ pool. IsLegal pool (history_of result.journal)) }
     ensures safe { IfSome result.setup (λ pool. IsSafeJournal pool result.journal) }
+    // The text of its journal is one that an audit answers Yes to.
+    ensures audited { IfSome result.setup (λ pool. IsVerdict (text_of pool result.journal) (Yes (length result.journal))) }
     ensures tasks { ForRun (call_of (length posts.old.items) (texts words.now)) (λ asked.
         IfSome result.setup (λ setup. (partitions : ℕ)
         × HasTasks asked.pool.workers partitions asked.job result.status result.journal
@@ -287,9 +293,13 @@ pub fn run<
 {
     legal_journals_are_safe();
     match read_call(alloc, posts.len(), words) {
-        Ok(asked) => run_job(
-            rt, alloc, &asked, input, output, journal, posts, store_disk, gate,
-        ),
+        Ok(asked) => {
+            let left = run_job(
+                rt, alloc, &asked, input, output, journal, posts, store_disk, gate,
+            );
+            journal_is_audited(&left);
+            left
+        }
         Err(status) => unpooled(alloc, status),
     }
 }

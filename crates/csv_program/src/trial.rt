@@ -4,12 +4,16 @@ ghost use Rattle.std.specs.Prelude.{◌≡◌, ◌⊎◌, ◌≤◌, ◌<◌, �
 ghost use Rattle.std.specs.Io.KnownBytes.{Appends, Keeps};
 ghost use Rattle.byte_io.specs.Sinks.{AppendsPrefix};
 ghost use Rattle.fault_count.specs.Faults.{HasCauseAt, Rose};
+ghost use Rattle.journal_audit.specs.Text.{text_of};
+ghost use Rattle.journal_replay.specs.Verdicts.{IsVerdict};
+ghost use Rattle.journal_replay.specs.declared.verdict.Verdict.TheVariants.{Yes};
 ghost use Rattle.landing.specs.Checks.{Rows};
 ghost use Rattle.pool_ledger.specs.Journal.{history_of};
 ghost use Rattle.pool_ledger.specs.Legal.{IsLegal};
 ghost use Rattle.pool_laws.specs.SafeJournal.{IsSafeJournal};
 ghost use Rattle.task_runner.specs.Consumers.{HasConsumers, KeepsConsumers};
-ghost use Rattle.task_runner.specs.Pass.{KeepsAll, states_at};
+ghost use Rattle.task_runner.specs.Pass.{states_at};
+ghost use Rattle.run_file.specs.Several.{KeepsAll};
 ghost use Rattle.trial_input.specs.Generator.{heading, trial_rows, trial_text};
 ghost use Rattle.trial_input.specs.Lines.{trial_lines, trial_output};
 ghost use Rattle.trial_input.specs.Sinks.{text_taken};
@@ -25,10 +29,12 @@ ghost use Rattle.csv_program.specs.Feeds.{FeedsRun};
 ghost use Rattle.job_ending.specs.Posts.{AllTell};
 ghost use Rattle.csv_program.specs.Posts.{post_faults, post_files};
 ghost use Rattle.job_ending.specs.Statuses.{IsDamaged, IsDamagedOn, IsDiskFault, IsJudged, IsNoRoom, MakesPool};
+ghost use Rattle.csv_program.specs.PlanCalls.{PrintsNothing};
 ghost use Rattle.csv_program.specs.Shortage.{ShowsShort};
-ghost use Rattle.csv_program.specs.Trials.{IsOfTrial, IsOfTrialRun, IsSoundEnd, IsTrial, WritesNoLine, trial_in, trial_of};
+ghost use Rattle.csv_program.specs.Trials.{IsOfTrial, IsOfTrialRun, IsSoundEnd, IsTrial, trial_in, trial_of};
 
 use crate::asked::pool_for;
+use crate::audited::journal_is_audited;
 use crate::top::run_job;
 use byte_io::{Sink, SinkError, write_all_counted};
 use consumer_trait::Consumer;
@@ -71,6 +77,17 @@ fn read_trial(alloc: Global, posts: usize, words: &[&str]) -> Result<RunCall, St
         return Err(Status::NoMemory);
     }
     trial_for(alloc, said)
+}
+
+/// Refuses words that call for no trial with so many posts, by the status that tells why. It touches nothing.
+pub fn judge_trial(alloc: Global, posts: usize, words: &[&str]) -> Result<(), Status>
+    ensures ok { OnOk result (ForNoRun (trial_of posts (texts words.now)) ⊥) }
+    ensures why { IfErr result (IsWhyNot (trial_of posts (texts words.now))) }
+{
+    match read_trial(alloc, posts, words) {
+        Ok(_asked) => Ok(()),
+        Err(status) => Err(status),
+    }
 }
 
 // The trial of these words, by their heap.
@@ -229,7 +246,7 @@ fn run_trial<X: Threads + Wait + Sync, W: Sink, D: Disk + Send, C: Consumer + Se
         Appends (W.written output.old) (W.written output.new) (trial_lines asked.now.max_rows) }
     ensures prefix { AllTell asked.now (post_files D.files posts.old) (D.files store) →
         AppendsPrefix (W.written output.old) (W.written output.new) (trial_lines asked.now.max_rows) }
-    ensures nothing { WritesNoLine result.status → Keeps (W.written output.old) (W.written output.new) }
+    ensures nothing { PrintsNothing result.status → Keeps (W.written output.old) (W.written output.new) }
 
     // The causes of statuses.
     ensures write { result.status ≡ Status.WriteFault → Rose (W.faults output.old) (W.faults output.new) }
@@ -303,7 +320,7 @@ pub fn trial<X: Threads + Wait + Sync, W: Sink, D: Disk + Send, C: Consumer + Se
     ensures prefix { ForRun (trial_of (length posts.old.items) (texts words.now)) (λ asked.
         AllTell asked (post_files D.files posts.old) (D.files store_disk) →
         AppendsPrefix (W.written output.old) (W.written output.new) (trial_lines asked.max_rows)) }
-    ensures nothing { WritesNoLine result.status → Keeps (W.written output.old) (W.written output.new) }
+    ensures nothing { PrintsNothing result.status → Keeps (W.written output.old) (W.written output.new) }
     ensures unread { ForNoRun (trial_of (length posts.old.items) (texts words.now))
         ((output.new ≡ output.old) × (posts.new ≡ posts.old)) }
 
@@ -334,6 +351,8 @@ pub fn trial<X: Threads + Wait + Sync, W: Sink, D: Disk + Send, C: Consumer + Se
     ensures none { IfNone result.setup (result.journal ≡ []) }
     ensures legal { IfSome result.setup (λ pool. IsLegal pool (history_of result.journal)) }
     ensures safe { IfSome result.setup (λ pool. IsSafeJournal pool result.journal) }
+    // The text of its journal is one that an audit answers Yes to.
+    ensures audited { IfSome result.setup (λ pool. IsVerdict (text_of pool result.journal) (Yes (length result.journal))) }
     ensures tasks { ForRun (trial_of (length posts.old.items) (texts words.now)) (λ asked.
         IfSome result.setup (λ setup. (partitions : ℕ)
         × HasTasks asked.pool.workers partitions asked.job result.status result.journal
@@ -354,7 +373,11 @@ pub fn trial<X: Threads + Wait + Sync, W: Sink, D: Disk + Send, C: Consumer + Se
 {
     legal_journals_are_safe();
     match read_trial(alloc, posts.len(), words) {
-        Ok(asked) => run_trial(rt, alloc, &asked, output, posts, store_disk, gate),
+        Ok(asked) => {
+            let left = run_trial(rt, alloc, &asked, output, posts, store_disk, gate);
+            journal_is_audited(&left);
+            left
+        }
         Err(status) => unpooled(alloc, status),
     }
 }

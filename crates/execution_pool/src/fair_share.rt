@@ -25,7 +25,8 @@ pub fn share(at: ShareAt) -> Share
     ensures greatest { IfSome (granted_in result) (λ granted. 0 < granted
         → at.held + granted ≤ greatest_share (moment_of at)) }
 
-    // A grant that falls short leaves the task with half a fair share; where it can't, the task waits.
+    // A grant that falls short leaves the task with at least half an equal part of the execution pool;
+    // where it can't, the task waits.
     ensures least { IfSome (granted_in result) (λ granted. granted < at.asked
         → least_share (moment_of at) ≤ at.held + granted) }
     ensures wait { let grant = grant_of (moment_of at) in (result ≡ Share.Wait)

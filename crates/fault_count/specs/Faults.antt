@@ -1,5 +1,4 @@
--- When an object of the outside may answer that it failed: only where its count of faults rose. And the count of one
--- that is exact.
+-- When an object of the outside may answer that it failed: where its count of faults rose. And an exact count.
 -- This project's own.
 use Rattle.std.specs.Prelude.{◌≡◌, ◌≤◌, ◌+◌, ◌-◌, ◌^◌, ℕ, min, Result, IsErrOf, OnErr, OnOk}
 

@@ -1,12 +1,10 @@
 -- The tasks of a job in a journal.
 -- This project's own.
 use Rattle.std.specs.Prelude.{◌≡◌, ℕ, zero, suc, ◌+◌, ◌*◌, ◌%◌, ◌<◌, List, [], ◌∷◌, AllPairs, Option, Some, None, length, nat_lt, if◌then◌else◌}
-use Rattle.pool_ledger.specs.History.{begins, ends}
+use Rattle.pool_ledger.specs.History.{begins, begun_after, ends}
 use Rattle.pool_ledger.specs.Journal.{history_of}
 use Rattle.pool_ledger.specs.Workers.{entries_of}
 use Rattle.pool_ledger.specs.declared.entry.Entry.{Entry}
-use Rattle.pool_ledger.specs.declared.entry.Event.{Event}
-use Rattle.pool_ledger.specs.declared.entry.Event.TheVariants.{Begin}
 use Rattle.pool_laws.specs.Owners.{AreOwned}
 use Rattle.job_plan.specs.Passes.{pass_datasets}
 use Rattle.job_plan.specs.Plans.{datasets_of}
@@ -38,15 +36,10 @@ owner_of worker first workers partitions passes task = owner_among worker worker
 abbrev pub passes_of : Job → ℕ
 passes_of job = length (pass_datasets (datasets_of job))
 
--- a task that an event begins, before those of later entries
-abbrev pub begun_by : Event → List ℕ → List ℕ
-begun_by (Begin task) later = task ∷ later
-begun_by _ later = later
-
 -- the tasks that entries begin, in their order
 unfoldable pub begun_in : List Entry → List ℕ
 begun_in [] = []
-begun_in (entry ∷ entries) = begun_by entry.event (begun_in entries)
+begun_in (entry ∷ entries) = begun_after entry.event (begun_in entries)
 
 -- each begin is of a task that has an owner, by that worker; a worker's tasks ascend; and each task that was begun was ended
 pub record FollowsPlan (owner : ℕ → Option ℕ) (journal : List Entry) : Type 0 where

@@ -17,7 +17,8 @@ use Rattle.job_plan.specs.Columns.{Fields, kept_place, linked, missing}
 use Rattle.job_plan.specs.Making.{AreFound, ArePasses, ArePlannedOf, IsChainOf, ascending, name_for, numbers_told, place_in}
 use Rattle.job_plan.specs.Moved.{link_over}
 use Rattle.job_plan.specs.Passes.{pass_datasets, queries_over, removed_after}
-use Rattle.job_plan.specs.Planning.{ArePlanned, FitsChain, IsPass, IsPlanned, columns_of, is_landed}
+use Rattle.job_plan.specs.Planning.{ArePlanned, FitsChain, IsPass, IsPlanned}
+use Rattle.row_form.specs.Forms.{columns_of, is_landed}
 use Rattle.job_plan.specs.Plans.{IsPlanOf}
 use Rattle.job_plan.specs.declared.passing.Pass.{Pass}
 use Rattle.job_plan.specs.declared.planned.Planned.{Planned}

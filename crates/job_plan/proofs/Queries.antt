@@ -9,13 +9,13 @@ use Rattle.row_filter.specs.Rows.{HasTestedColumns}
 use Rattle.row_filter.specs.declared.chain.Chain.{Chain}
 use Rattle.row_filter.specs.declared.chain.Link.{Link}
 use Rattle.row_filter.specs.declared.filter.Filter.{Filter}
-use Rattle.row_form.specs.Forms.{HasForm}
+use Rattle.row_form.specs.Forms.{HasForm, columns_of}
 use Rattle.row_form.specs.declared.form.Form.{Form}
 use Rattle.job_text.specs.Jobs.{IsShape}
 use Rattle.job_plan.specs.declared.passing.Pass.{Pass}
 use Rattle.job_plan.specs.declared.planned.Planned.{Planned}
 use Rattle.job_plan.specs.Entries.{kind_of}
-use Rattle.job_plan.specs.Planning.{ArePlanned, FitsChain, FitsQueries, IsPass, IsPlanned, columns_of}
+use Rattle.job_plan.specs.Planning.{ArePlanned, FitsChain, FitsQueries, IsPass, IsPlanned}
 use Rattle.job_plan.specs.Plans.{no_shape}
 use Rattle.job_plan.proofs.Sizes.{landed-has}
 

@@ -14,7 +14,7 @@ use Rattle.aggregate.specs.Partial.{partial_of}
 use Rattle.aggregate.specs.Spelling.{number_spelling, spelled, spelled_byte, turned_if}
 use Rattle.row_page.specs.Grammar.{ArePieces, IsPieceThen, IsRow}
 use Rattle.row_page.specs.Spelling.{length_bytes, row_bytes, row_length, with_length}
-use Rattle.row_form.specs.Forms.{HasForm, IsValueOf}
+use Rattle.row_form.specs.Forms.{HasForm, IsValueOf, columns_of}
 use Rattle.row_form.specs.declared.form.Form.{Form}
 use Rattle.row_form.specs.declared.form.Form.TheVariants.{Entries, Landed}
 use Rattle.job_text.specs.Jobs.{IsColumns, IsShape}
@@ -23,7 +23,6 @@ use Rattle.job_text.specs.declared.job.Part.{Part}
 use Rattle.job_text.specs.declared.job.Shape.{Shape}
 use Rattle.job_text.specs.declared.job.Shape.TheVariants.{Group, Order}
 use Rattle.job_plan.specs.Entries.{field, field_bytes, item_bytes, number_in, key_of, kind_of, told_by, value_of}
-use Rattle.job_plan.specs.Planning.{columns_of}
 use Rattle.job_plan.specs.Within.{HasColumnsOf, HasColumn}
 use Rattle.job_plan.proofs.Picked.{fields_within, sum_doubled, sum_equal, sum_raised}
 

@@ -1,25 +1,15 @@
 -- What holds of each plan, whichever job it is of.
 -- This project's own.
-use Rattle.std.specs.Prelude.{◌≡◌, ℕ, ◌+◌, ◌<◌, ◌≤◌, All, AllPairs, Bool, true, false, IfSome, List, length}
+use Rattle.std.specs.Prelude.{◌≡◌, ℕ, ◌+◌, ◌<◌, ◌≤◌, All, AllPairs, true, IfSome, List, length}
 use Rattle.row_filter.specs.Lines.{AreOrdered}
 use Rattle.row_filter.specs.Rows.{HasTestedColumns}
 use Rattle.row_filter.specs.declared.chain.Link.{Link}
 use Rattle.row_form.specs.declared.form.Form.{Form}
-use Rattle.row_form.specs.declared.form.Form.TheVariants.{Entries, Landed}
+use Rattle.row_form.specs.Forms.{columns_of, is_landed}
 use Rattle.job_text.specs.Jobs.{IsShape}
 use Rattle.job_plan.specs.declared.passing.Pass.{Pass}
 use Rattle.job_plan.specs.declared.planned.Planned.{Planned}
 use Rattle.job_plan.specs.Entries.{kind_of}
-
--- how many columns landed rows have beside their number
-abbrev pub columns_of : Form → ℕ
-columns_of (Landed columns numbers) = columns
-columns_of (Entries kind) = 0
-
--- whether a form is one of landed rows
-abbrev pub is_landed : Form → Bool
-is_landed (Landed columns numbers) = true
-is_landed (Entries kind) = false
 
 -- landed rows, at most eight datasets beside the input, each made from an earlier one by a filter over their columns
 pub record FitsChain (form : Form) (links : List Link) : Type 0 where

@@ -1,4 +1,5 @@
-//! Tests of `job_text` and `job_plan`, apart from them so that neither is proved a second time.
+//! Tests of `byte_io`, `job_text`, `job_plan`, `landing`, `lineage` and `trial_input`, apart from them so that none is
+//! proved a second time.
 #![tactic(auto)]
 
 #[cfg(test)]

@@ -1,5 +1,4 @@
--- The grammar of filters: how a filter may be written, by its tokens, and which filter that is. A column is its
--- place among all the names of the job.
+-- How a filter may be written, by its tokens, and which filter that is. A column is its place among the job's names.
 -- This project's own.
 use Rattle.std.specs.Prelude.{◌≡◌, ℕ, suc, ℤ, ◌<◌, ◌≤◌, List, [], ◌∷◌, ◌++◌, length, Some}
 use Rattle.row_filter.specs.declared.filter.Comparison.{Comparison}

@@ -29,7 +29,10 @@ pub use filter_laws::{
     filters_are_fine, filters_are_read, filters_are_written, filters_go_on,
     printed_filters_are_written,
 };
-pub use grammar::{printed_tokens_are_read, tokens_are_read_by_grammar, tokens_have_one_meaning};
+pub use grammar::{
+    printed_tokens_are_read, the_longest_token_is_taken, tokens_are_read_by_grammar,
+    tokens_have_one_meaning,
+};
 pub use job::{
     Dataset, DatasetList, Job, KeyItem, KeyList, NameList, Part, PartList, PlaceList, Query,
     QueryList, Shape,

@@ -9,6 +9,7 @@ use Rattle.pool_ledger.specs.declared.entry.Fate.TheVariants.{Disk, Gone, NoMemo
 use Rattle.pool_ledger.specs.declared.entry.Level.{Level}
 use Rattle.pool_ledger.specs.declared.entry.Level.TheVariants.{Memory, Disk as OnDisk}
 
+-- steps are read from the left
 infixl 10 ◌>>=◌
 -- what a step gives after one that may give nothing
 abbrev pub ◌>>=◌ : {A B : Type 0} → Option A → (A → Option B) → Option B

@@ -15,3 +15,4 @@ pub use laws::{one_journal_for_a_text, rules_are_those_of_legal_journals};
 pub use lines::{take_entry, take_setup};
 pub use rules::Rule;
 pub use text::journal_text;
+pub use widths::journal_fits;

@@ -19,8 +19,9 @@ fn entries_fit(entries: &[Entry])
     }
 }
 
-// The same of a journal.
-pub(crate) fn journal_fits(journal: &Journal)
+/// The numbers of each entry of a journal fit their fields: each is below the end of its integer type. It goes over the entries
+/// once, and changes nothing.
+pub fn journal_fits(journal: &Journal)
     ensures { All Fits journal.now }
 {
     entries_fit(journal.entries());

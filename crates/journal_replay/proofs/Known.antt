@@ -22,7 +22,8 @@ use Rattle.pool_ledger.specs.Blocks.{Resident, is_block, only, without}
 use Rattle.journal_replay.specs.declared.placed.Placed.{Placed}
 use Rattle.journal_replay.specs.Tables.{named, same_name}
 use Rattle.journal_replay.specs.declared.use_order.UseOrder.{UseOrder}
-use Rattle.journal_replay.specs.UseOrder.{block_by, is_place, place_of, resident_in, residents_in, IsInOrder}
+use Rattle.journal_audit.specs.Rules.{is_the}
+use Rattle.journal_replay.specs.UseOrder.{block_by, place_of, resident_in, residents_in, IsInOrder}
 use Rattle.journal_replay.proofs.InUse.{none_kept, none_taken}
 
 -- Entries by their places
@@ -65,7 +66,7 @@ none_listed d p (e ∷ es) none =
 
 -- the place of the block is this one
 abbrev pub StandsAt : ℕ → ℕ → ℕ → ℕ × Placed → Type 0
-StandsAt d p place e = is_place (Some place) e.0 ≡ is_block d p (resident_in e.1)
+StandsAt d p place e = is_the (Some place) e.0 ≡ is_block d p (resident_in e.1)
 
 none_behind : (d p place low : ℕ) → place ≤ low → (es : List (ℕ × Placed)) → AllByRecursion (λ y. nat_cmp low y ≡ Less) (keys_of es) → All (StandsAt d p place) es
     → list_any (is_block d p) (residents_in es) ≡ false
@@ -145,7 +146,7 @@ own_name x d p holds =
 same_names : (a b c d : ℕ) → same_name (named a b) (named c d) ≡ true → (a ≡ c) × (b ≡ d)
 same_names a b c d holds = let parts = and_parts (nat_eq a c) (nat_eq b d) holds in (eqb-true a c parts.0, eqb-true b d parts.1)
 
-elsewhere : (o : Option ℕ) (q place : ℕ) → ((k : ℕ) → o ≡ Some k → k < place) → place ≤ q → is_place o q ≡ false
+elsewhere : (o : Option ℕ) (q place : ℕ) → ((k : ℕ) → o ≡ Some k → k < place) → place ≤ q → is_the o q ≡ false
 elsewhere None q place before order = refl
 elsewhere (Some k) q place before order = ne_eqb k q (λ same. omega (arith, same, before k refl, order))
 
@@ -153,7 +154,7 @@ elsewhere (Some k) q place before order = ne_eqb k q (λ same. omega (arith, sam
 module _ (at new_at : ℕ → Option Placed) (place_of new_place_of : ℕ → ℕ → Option ℕ) where
   -- the block at a place is the one of which this place is kept
   abbrev pub Known : (ℕ → Option Placed) → (ℕ → ℕ → Option ℕ) → Type 0
-  Known here kept = (place : ℕ) (x : Placed) → here place ≡ Some x → (d p : ℕ) → is_place (kept d p) place ≡ is_block d p (resident_in x)
+  Known here kept = (place : ℕ) (x : Placed) → here place ≡ Some x → (d p : ℕ) → is_the (kept d p) place ≡ is_block d p (resident_in x)
 
   pub known_put : (place : ℕ) (put : Placed) → Known at place_of → ((d p k : ℕ) → place_of d p ≡ Some k → k < place)
       → ((q : ℕ) (x : Placed) → at q ≡ Some x → is_block put.name.dataset put.name.part (resident_in x) ≡ false)
@@ -164,17 +165,17 @@ module _ (at new_at : ℕ → Option Placed) (place_of new_place_of : ℕ → �
     | inl same ↦
         let one : Some x ≡ Some put = sym at_q ∙ ap new_at same ∙ here in
         let alike : x ≡ put = cc one in
-        ap (λ (o : Option ℕ). is_place o q) (kept d p) ∙ here_too (same_name put.name (named d p)) same ∙ ap (λ (y : Placed). is_block d p (resident_in y)) (sym alike)
+        ap (λ (o : Option ℕ). is_the o q) (kept d p) ∙ here_too (same_name put.name (named d p)) same ∙ ap (λ (y : Placed). is_block d p (resident_in y)) (sym alike)
     | inr other ↦
         let old : at q ≡ Some x = sym (others q other) ∙ at_q in
-        ap (λ (o : Option ℕ). is_place o q) (kept d p) ∙ another (same_name put.name (named d p)) refl other old
+        ap (λ (o : Option ℕ). is_the o q) (kept d p) ∙ another (same_name put.name (named d p)) refl other old
   ]
     where
-      here_too : (t : Bool) → q ≡ place → is_place (cond t (Some place) (place_of d p)) q ≡ t
+      here_too : (t : Bool) → q ≡ place → is_the (cond t (Some place) (place_of d p)) q ≡ t
       here_too true same = eq-eqb place q (sym same)
       here_too false same = elsewhere (place_of d p) q place (before d p) (omega (arith, same))
 
-      another : (t : Bool) → same_name put.name (named d p) ≡ t → q ≢ place → at q ≡ Some x → is_place (cond t (Some place) (place_of d p)) q ≡ is_block d p (resident_in x)
+      another : (t : Bool) → same_name put.name (named d p) ≡ t → q ≢ place → at q ≡ Some x → is_the (cond t (Some place) (place_of d p)) q ≡ is_block d p (resident_in x)
       another true holds other old =
           let own = own_name put d p holds in
           ne_eqb place q (λ same. other (sym same)) ∙ sym (absent q x old)
@@ -195,9 +196,9 @@ module _ (at new_at : ℕ → Option Placed) (place_of new_place_of : ℕ → �
       → ((d p : ℕ) → new_place_of d p ≡ cond (same_name (named d0 p0) (named d p)) None (place_of d p))
       → Known new_at new_place_of
   known_taken d0 p0 known still gone kept q x at_q d p =
-      ap (λ (o : Option ℕ). is_place o q) (kept d p) ∙ by (same_name (named d0 p0) (named d p)) refl
+      ap (λ (o : Option ℕ). is_the o q) (kept d p) ∙ by (same_name (named d0 p0) (named d p)) refl
     where
-      by : (t : Bool) → same_name (named d0 p0) (named d p) ≡ t → is_place (cond t None (place_of d p)) q ≡ is_block d p (resident_in x)
+      by : (t : Bool) → same_name (named d0 p0) (named d p) ≡ t → is_the (cond t None (place_of d p)) q ≡ is_block d p (resident_in x)
       by true holds =
           let same = same_names d0 p0 d p holds in
           sym (gone q x at_q) ∙ ap (λ (n : ℕ). is_block n p0 (resident_in x)) same.0 ∙ ap (λ (n : ℕ). is_block d n (resident_in x)) same.1
@@ -213,7 +214,7 @@ module _ (at new_at : ℕ → Option Placed) (place_of new_place_of : ℕ → �
       by false is = before d p k is
 
 -- the place that is kept of a block is its own
-own_place : (place : ℕ) (x : Placed) (kept : Option ℕ) → is_place kept place ≡ is_block x.name.dataset x.name.part (resident_in x) → kept ≡ Some place
+own_place : (place : ℕ) (x : Placed) (kept : Option ℕ) → is_the kept place ≡ is_block x.name.dataset x.name.part (resident_in x) → kept ≡ Some place
 own_place place x None same = absurd (both_ways (is_block x.name.dataset x.name.part (resident_in x)) (sym same) (itself x))
 own_place place x (Some k) same = ap Some (eqb-true k place (same ∙ itself x))
 

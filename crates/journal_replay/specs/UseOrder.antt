@@ -12,6 +12,7 @@ use Rattle.std.specs.declared.ops.Bound.TheVariants.{Included, Unbounded}
 use Rattle.pool_ledger.specs.Blocks.{Resident, is_block}
 use Rattle.eviction.specs.declared.candidate.Candidate.{Candidate}
 use Rattle.eviction.specs.Victims.{evictable, sizes}
+use Rattle.journal_audit.specs.Rules.{is_the}
 use Rattle.journal_replay.specs.declared.block_name.BlockName.{BlockName}
 use Rattle.journal_replay.specs.declared.placed.Placed.{Placed}
 use Rattle.journal_replay.specs.declared.use_order.UseOrder.{UseOrder}
@@ -53,15 +54,10 @@ is_start starts place = tree_set.contains nat_cmp starts place
 abbrev pub place_of : {S : Type 0} → HashMap BlockName ℕ S → ℕ → ℕ → Option ℕ
 place_of places dataset part = map_get same_name places (named dataset part)
 
--- whether the kept place is this one
-abbrev pub is_place : Option ℕ → ℕ → Bool
-is_place None place = false
-is_place (Some kept) place = kept == place
-
 -- the block at a place is the one of which this place is kept
 abbrev pub AreKnown : {S : Type 0} → BTreeMap ℕ Placed → HashMap BlockName ℕ S → Type 0
 AreKnown blocks places = (place : ℕ) (placed : Placed) → block_by blocks place ≡ Some placed
-    → (dataset part : ℕ) → is_place (place_of places dataset part) place ≡ is_block dataset part (resident_in placed)
+    → (dataset part : ℕ) → is_the (place_of places dataset part) place ≡ is_block dataset part (resident_in placed)
 
 -- the places that are kept come before this one
 abbrev pub AreBefore : {S : Type 0} → HashMap BlockName ℕ S → ℕ → Type 0

@@ -6,8 +6,10 @@ ghost use Rattle.journal_audit.specs.Lines.{IsBadLine};
 ghost use Rattle.journal_audit.specs.Rules.{first_broken};
 ghost use Rattle.journal_replay.specs.Replays.{history_of, setup_of, IsReplay, TellsHistory};
 ghost use Rattle.journal_replay.specs.Verdicts.{IsAnswer, IsVerdict};
+ghost use Rattle.journal_replay.specs.declared.verdict.Verdict.{Verdict};
 
 use crate::check::check;
+use crate::laws::one_verdict_for_a_text;
 use crate::replay::{Replay, add, start};
 use crate::verdict::Verdict;
 use journal_audit::{Rule, rules_are_those_of_legal_journals, take_entry, take_setup};
@@ -18,6 +20,16 @@ use std::alloc::{AllocError, Global};
 /// `Err` is want of memory.
 pub fn audit(alloc: Global, text: &[u8]) -> Result<Verdict, AllocError>
     ensures verdict { IfOk result (IsVerdict text.now) }
+    ensures only { IfOk result (λ told. (verdict : Verdict) → IsVerdict text.now verdict → told ≡ verdict) }
+{
+    // For the proof: a text has one verdict.
+    one_verdict_for_a_text();
+    read_and_replay(alloc, text)
+}
+
+// A verdict of the text.
+fn read_and_replay(alloc: Global, text: &[u8]) -> Result<Verdict, AllocError>
+    ensures { IfOk result (IsVerdict text.now) }
 {
     let Some((setup, lines)) = take_setup(text) else {
         return Ok(Verdict::BadLine { line: 1 });

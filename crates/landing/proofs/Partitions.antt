@@ -15,15 +15,14 @@ use Rattle.spill_disk.specs.Files.{Files}
 use Rattle.row_form.specs.declared.form.Form.{Form}
 use Rattle.row_form.specs.declared.form.Form.TheVariants.{Landed}
 use Rattle.run_file.specs.declared.run.Run.{Run}
-use Rattle.row_form.specs.Forms.{HasForm}
+use Rattle.row_form.specs.Forms.{HasForm, columns_of}
 use Rattle.run_file.specs.Runs.{CountsRows, Stands, greatest_cost}
-use Rattle.run_file.specs.Several.{KeepsFile, no_run, run_at}
+use Rattle.run_file.specs.Several.{KeepsFile, no_run, run_at, KeepsAll}
 use Rattle.job_plan.specs.Columns.{Fields, kept, number_places}
 use Rattle.job_plan.specs.Entries.{field_bytes}
-use Rattle.job_plan.specs.Planning.{columns_of}
 use Rattle.job_plan.specs.Plans.{form_in}
 use Rattle.landing.specs.Filling.{AreLandedSoFar, LandsPart, LandsRows}
-use Rattle.landing.specs.Landed.{AreChecked, AreLanded, KeepsFiles, partition_of}
+use Rattle.landing.specs.Landed.{AreChecked, AreLanded, partition_of}
 use Rattle.landing.specs.Ruling.{Follows, IsRuled, ahead, first_refusal_in}
 use Rattle.landing.specs.declared.fault.LandFault.{LandFault}
 use Rattle.landing.specs.declared.rules.Rules.{Rules}
@@ -63,7 +62,7 @@ one_more part_rows parts run =
 landed_push : (files files' : ℕ → Option Files) (part_rows workers : ℕ) (parts : List Run) (rows next : List Fields) (run : Run) (to : ℕ)
     → AreLanded files part_rows workers parts rows → length rows ≡ length parts * part_rows → 1 ≤ length next → length next ≤ part_rows
     → run.disk ≡ to → to ≡ length parts % workers → (IsSome (files' to) → Stands (files' to) run next)
-    → KeepsFiles files files' → ((j : ℕ) → is_some (files' j) ≡ is_some (files j)) → AreLanded files' part_rows workers (parts ++ run ∷ []) (rows ++ next)
+    → KeepsAll files files' → ((j : ℕ) → is_some (files' j) ≡ is_some (files j)) → AreLanded files' part_rows workers (parts ++ run ∷ []) (rows ++ next)
 landed_push files files' part_rows workers parts rows next run to before full some most disk to_is stands kept tells = record {
   count = sym (count_is (length (rows ++ next) + (part_rows - 1)) (length (parts ++ run ∷ [])) part_rows (length next - 1) (omega (arith, length-append rows next, one_more part_rows parts run, full)) (omega arith));
   disks = λ part lt. elim (cases_lt part (length parts)) [
@@ -125,7 +124,7 @@ so_far_none files rules part_rows workers more before after some follows = recor
 pub so_far_more : (files files' : ℕ → Option Files) (rules : Rules) (part_rows workers : ℕ) (parts : List Run) (count : ℕ) (run : Run) (to : ℕ) (more more' : Bool) (row : Row) (left before after : Option (List Fields))
     → more ≡ true → IsRuled rules → AreLandedSoFar files rules part_rows workers parts count more before (ahead more row left)
     → LandsPart (files' to) rules count part_rows run more' (ahead true row left) after → run.disk ≡ to → to ≡ length parts % workers
-    → KeepsFiles files files' → ((j : ℕ) → is_some (files' j) ≡ is_some (files j)) → AreLandedSoFar files' rules part_rows workers (parts ++ run ∷ []) (count + run.count) more' before after
+    → KeepsAll files files' → ((j : ℕ) → is_some (files' j) ≡ is_some (files j)) → AreLandedSoFar files' rules part_rows workers (parts ++ run ∷ []) (count + run.count) more' before after
 so_far_more files files' rules part_rows workers parts count run to more more' row left before after goes ruled s l disk to_is keeps tells =
     let hand = subst (λ (b : Bool). Follows rules 1 s.rows before (ahead b row left)) goes s.follows in
     let full = s.full goes in

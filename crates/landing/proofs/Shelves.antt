@@ -6,11 +6,10 @@ use Rattle.std.proofs.lemmas.Bool.Decides.{eqb_tells}
 use Rattle.fault_count.specs.Faults.{Rose}
 use Rattle.spill_disk.specs.Files.{Files}
 use Rattle.run_file.specs.declared.run.Run.{Run}
-use Rattle.run_file.specs.Several.{KeepsFile, SameOthers}
-use Rattle.run_file.specs.Shelved.{file_in, IsGone, IsGoneOn, SameBut}
+use Rattle.run_file.specs.Several.{KeepsFile, SameOthers, KeepsAll}
+use Rattle.run_file.specs.Shelved.{file_in, IsNotThere, IsNotThereOn, SameBut}
 use Rattle.run_file.proofs.Among.{among_left, among_right, is_among_one}
 use Rattle.landing.specs.Explaining.{Explains, FailsAmong, FailsOn}
-use Rattle.landing.specs.Landed.{KeepsFiles}
 use Rattle.landing.specs.declared.fault.LandFault.{LandFault}
 use Rattle.landing.specs.declared.fault.LandFault.TheVariants.{NoHeader, NoColumn, Ragged, RowTooLong, BadNumber, TooManyRows, ReadFault, DiskFault, NoMemory}
 
@@ -29,14 +28,14 @@ told_same None (Some a) file tells same = cc tells
 told_same (Some b) None file tells same = cc tells
 told_same (Some b) (Some a) file tells same = λ there. cc same
 
-not_there : (before after : Option Files) (file : ℕ) → is_some after ≡ is_some before → IsGone before file → KeepsFile before after file
+not_there : (before after : Option Files) (file : ℕ) → is_some after ≡ is_some before → IsNotThere before file → KeepsFile before after file
 not_there None None file tells gone = tt
 not_there None (Some a) file tells gone = cc tells
 not_there (Some b) None file tells gone = cc tells
 not_there (Some b) (Some a) file tells gone = λ there. absurd (let no = rw gone at there in cc no)
 
 -- a call that changes a new file alone keeps all that were there
-pub files_kept : (named : ℕ → ℕ) (before after : ℕ → Option Files) (disk file : ℕ) → ((j : ℕ) → is_some (after j) ≡ is_some (before j)) → IsGoneOn named before disk file → SameBut named before after disk file → KeepsFiles before after
+pub files_kept : (named : ℕ → ℕ) (before after : ℕ → Option Files) (disk file : ℕ) → ((j : ℕ) → is_some (after j) ≡ is_some (before j)) → IsNotThereOn named before disk file → SameBut named before after disk file → KeepsAll before after
 files_kept named before after disk file tells gone same j g = elim (eqb_tells (named j) (named disk)) [
   | inl on ↦ elim (eqb_tells g file) [
     | inl is ↦ subst (λ (f : ℕ). KeepsFile (before j) (after j) f) (sym is.1) (not_there (before j) (after j) file (tells j) (gone j on.1))
@@ -45,7 +44,7 @@ files_kept named before after disk file tells gone same j g = elim (eqb_tells (n
   | inr apart ↦ told_same (before j) (after j) g (tells j) (same j g (λ both. apart.1 both.0))
 ]
 
-pub files_same : (before after : ℕ → Option Files) → ((j : ℕ) → after j ≡ before j) → KeepsFiles before after
+pub files_same : (before after : ℕ → Option Files) → ((j : ℕ) → after j ≡ before j) → KeepsAll before after
 files_same before after each j g = told_same (before j) (after j) g (ap is_some (each j)) (ap (λ (files : Option Files). file_in files g) (each j))
 
 kept_trans : (a b c : Option Files) (file : ℕ) → KeepsFile a b file → KeepsFile b c file → KeepsFile a c file
@@ -56,7 +55,7 @@ kept_trans (Some a) None c file f g = absurd f
 kept_trans (Some a) (Some b) None file f g = absurd g
 kept_trans (Some a) (Some b) (Some c) file f g = λ there. g (ap is_some (f there) ∙ there) ∙ f there
 
-pub files_trans : (a b c : ℕ → Option Files) → KeepsFiles a b → KeepsFiles b c → KeepsFiles a c
+pub files_trans : (a b c : ℕ → Option Files) → KeepsAll a b → KeepsAll b c → KeepsAll a c
 files_trans a b c f g j file = kept_trans (a j) (b j) (c j) file (f j file) (g j file)
 
 -- ---- why they gave up

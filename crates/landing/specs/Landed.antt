@@ -4,16 +4,15 @@ use Rattle.std.specs.Prelude.{◌≡◌, ℕ, ◌+◌, ◌-◌, ◌*◌, ◌/◌
 use Rattle.std.specs.List.{AllByRecursion}
 use Rattle.fault_count.specs.Faults.{Rose}
 use Rattle.spill_disk.specs.Files.{Files}
-use Rattle.row_form.specs.Forms.{HasForm}
+use Rattle.row_form.specs.Forms.{HasForm, columns_of}
 use Rattle.run_file.specs.Runs.{Stands}
 use Rattle.row_form.specs.declared.form.Form.{Form}
 use Rattle.run_file.specs.declared.run.Run.{Run}
-use Rattle.run_file.specs.Several.{AreApart, KeepsFile, run_at}
-use Rattle.run_file.specs.Shelved.{IsGoneOn}
+use Rattle.run_file.specs.Several.{AreApart, run_at}
+use Rattle.run_file.specs.Shelved.{IsNotThereOn}
 use Rattle.job_text.specs.declared.job.Job.{Job}
 use Rattle.job_plan.specs.Columns.{Fields}
 use Rattle.job_plan.specs.Entries.{field_bytes}
-use Rattle.job_plan.specs.Planning.{columns_of}
 use Rattle.job_plan.specs.Plans.{IsPlanOf, form_in, places_in}
 use Rattle.job_plan.specs.Rows.{AreBytes, landed_rows}
 use Rattle.job_plan.specs.declared.query_plan.Plan.{Plan}
@@ -69,12 +68,8 @@ pub record Lands (files : ℕ → Option Files) (job : Job) (max_rows part_rows 
 
 -- the runs' files are new: none was on its disk before, and no two are one where their disks tell
 pub record AreMade (named : ℕ → ℕ) (before : ℕ → Option Files) (parts : List Run) : Type 0 where
-  pub fresh : (part : ℕ) → part < length parts → IsGoneOn named before (run_at parts part).disk (run_at parts part).file
+  pub fresh : (part : ℕ) → part < length parts → IsNotThereOn named before (run_at parts part).disk (run_at parts part).file
   pub apart : ((part : ℕ) → part < length parts → IsSome (before (run_at parts part).disk)) → AreApart named parts
-
--- all files that were there are as they were
-abbrev pub KeepsFiles : (ℕ → Option Files) → (ℕ → Option Files) → Type 0
-KeepsFiles before after = (disk file : ℕ) → KeepsFile (before disk) (after disk) file
 
 -- ---- refusals
 

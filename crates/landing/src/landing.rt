@@ -5,13 +5,13 @@ ghost use Rattle.std.specs.Io.KnownBytes.{IsAtEnd};
 ghost use Rattle.fault_count.specs.Faults.{Rose};
 ghost use Rattle.byte_io.specs.Records.{IsReading, rows_left, source_under};
 ghost use Rattle.byte_io.specs.Rows.{rows_of};
-ghost use Rattle.run_file.specs.Several.{SameOthers};
+ghost use Rattle.run_file.specs.Several.{SameOthers, KeepsAll};
 ghost use Rattle.run_file.specs.Shelved.{files_on, faults_on, KeepsShelf};
 ghost use Rattle.job_text.specs.Jobs.{IsJob};
 ghost use Rattle.landing.specs.Checks.{Refused, checked};
 ghost use Rattle.landing.specs.Explaining.{Explains, FailsAmong};
 ghost use Rattle.landing.specs.Filling.{LandsRows};
-ghost use Rattle.landing.specs.Landed.{AreMade, HasCauseAmong, IsOfInput, KeepsFiles, Lands};
+ghost use Rattle.landing.specs.Landed.{AreMade, HasCauseAmong, IsOfInput, Lands};
 ghost use Rattle.landing.specs.Ruling.{IsRuled, first_refusal_in};
 ghost use Rattle.landing.specs.declared.fault.LandFault.{LandFault};
 
@@ -62,7 +62,7 @@ fn land_rows<T: Tap, O: Origin, D: Disk, H: Shelf<D>>(
     ensures made { IfOk result (λ landed.
         AreMade (H.named shelf.old) (files_on H.disk_of D.files shelf.old) landed.0.items) }
     ensures end { OnOk result (IsAtEnd (T.left (source_under records.new))) }
-    ensures files { KeepsFiles
+    ensures files { KeepsAll
         (files_on H.disk_of D.files shelf.old) (files_on H.disk_of D.files shelf.new) }
     ensures shelf { KeepsShelf H.count_of H.named H.disk_of D.files D.faults shelf.old shelf.new }
     ensures err { IfErr result (Explains
@@ -112,7 +112,7 @@ fn land_all<T: Tap, O: Origin, D: Disk, H: Shelf<D>>(
     ensures made { IfOk result (λ landed.
         AreMade (H.named shelf.old) (files_on H.disk_of D.files shelf.old) landed.parts.items) }
     ensures end { OnOk result (IsAtEnd (T.left (source_under records.new))) }
-    ensures files { KeepsFiles
+    ensures files { KeepsAll
         (files_on H.disk_of D.files shelf.old) (files_on H.disk_of D.files shelf.new) }
     ensures shelf { KeepsShelf H.count_of H.named H.disk_of D.files D.faults shelf.old shelf.new }
     ensures err { IfErr result (Explains
@@ -163,7 +163,7 @@ fn land_from<T: Tap, O: Origin, D: Disk, H: Shelf<D>>(
     ensures end { OnOk result.0 (IsAtEnd (T.left result.1)) }
     ensures same { T.name result.1 ≡ O.name }
     ensures later { O.faults ≤ T.faults result.1 }
-    ensures files { KeepsFiles
+    ensures files { KeepsAll
         (files_on H.disk_of D.files shelf.old) (files_on H.disk_of D.files shelf.new) }
     ensures shelf { KeepsShelf H.count_of H.named H.disk_of D.files D.faults shelf.old shelf.new }
     ensures err { IfErr result.0 (Explains
@@ -213,7 +213,7 @@ pub fn land<S: Source, D: Disk, H: Shelf<D>>(
     ensures cause { IfErr result (HasCauseAmong workers
         (faults_on H.disk_of D.faults shelf.old) (faults_on H.disk_of D.faults shelf.new)) }
     ensures later { S.faults source.old ≤ S.faults source.new }
-    ensures files { KeepsFiles (files_on H.disk_of D.files shelf.old) (files_on H.disk_of D.files shelf.new) }
+    ensures files { KeepsAll (files_on H.disk_of D.files shelf.old) (files_on H.disk_of D.files shelf.new) }
     ensures shelf { KeepsShelf H.count_of H.named H.disk_of D.files D.faults shelf.old shelf.new }
 {
     let (landed, _last) = land_from::<&mut S, Brand, D, H>(

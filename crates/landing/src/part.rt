@@ -6,12 +6,12 @@ ghost use Rattle.csv.specs.Records.{fields_of};
 ghost use Rattle.fault_count.specs.Faults.{Rose};
 ghost use Rattle.byte_io.specs.Records.{IsReading, rows_left, source_under};
 ghost use Rattle.spill_disk.specs.Files.{IsThere};
-ghost use Rattle.run_file.specs.Shelved.{files_on, faults_on, IsGoneOn, KeepsShelf, SameBut};
+ghost use Rattle.run_file.specs.Shelved.{files_on, faults_on, IsNotThereOn, KeepsShelf, SameBut};
 ghost use Rattle.run_file.specs.Writing.{IsSoFar};
 ghost use Rattle.job_plan.specs.Rows.{AreBytes};
 ghost use Rattle.landing.specs.Explaining.{Explains, FailsOn};
 ghost use Rattle.landing.specs.Filling.{Fills, LandsPart};
-ghost use Rattle.landing.specs.Landed.{KeepsFiles};
+ghost use Rattle.run_file.specs.Several.{KeepsAll};
 ghost use Rattle.landing.specs.Ruling.{IsRuled, ahead, first_refusal_in, refusal_in, row_in};
 
 use crate::desk::Desk;
@@ -135,12 +135,12 @@ pub(crate) fn land_part<T: Tap, O: Origin, D: Disk, H: Shelf<D>>(
     ensures disk { IfOk result (λ part. part.0.disk ≡ to) }
     ensures page { IfOk result (λ part. part.1.rows ≡ []) }
     ensures fresh { IfOk result (λ part.
-        IsGoneOn (H.named shelf.old) (files_on H.disk_of D.files shelf.old) to part.0.file) }
+        IsNotThereOn (H.named shelf.old) (files_on H.disk_of D.files shelf.old) to part.0.file) }
     ensures only { IfOk result (λ part. SameBut (H.named shelf.old)
         (files_on H.disk_of D.files shelf.old) (files_on H.disk_of D.files shelf.new) to part.0.file) }
     ensures reading { OnOk result (IsReading records.new) }
     ensures end { OnOk result (desk.new.more ≡ false → IsAtEnd (T.left (source_under records.new))) }
-    ensures files { KeepsFiles
+    ensures files { KeepsAll
         (files_on H.disk_of D.files shelf.old) (files_on H.disk_of D.files shelf.new) }
     ensures shelf { KeepsShelf H.count_of H.named H.disk_of D.files D.faults shelf.old shelf.new }
     ensures err { IfErr result (Explains

@@ -36,7 +36,7 @@ evictions worker (entry ∷ more) all = (inr (inr all.0), evictions worker more 
 pub pin_adds : (pinned : Found) (dataset part : ℕ) (before after : PassState) → AddsPin pinned dataset part before after → AddsRowsWork before.number (own_entries before) (own_entries after)
 pin_adds (Hit block) dataset part before after adds = (entry_by before.number (Pin dataset part false) ∷ [], adds.0, (inl (inl (dataset, part, false, refl)), tt))
 pin_adds (ReadBack block) dataset part before after adds = (entry_by before.number (Pin dataset part true) ∷ [], adds.0, (inl (inl (dataset, part, true, refl)), tt))
-pin_adds Miss dataset part before after adds = adds_none before.number (own_entries before) (own_entries after) adds.0
+pin_adds Miss dataset part before after adds = adds_none before.number (own_entries before) (own_entries after) adds.0.0
 
 pub unpin_adds : (dataset part : ℕ) (before after : PassState) → Adds before after (entry_by before.number (Unpin dataset part) ∷ []) → AddsRowsWork before.number (own_entries before) (own_entries after)
 unpin_adds dataset part before after adds = (entry_by before.number (Unpin dataset part) ∷ [], adds, (inl (inr (dataset, part, refl)), tt))

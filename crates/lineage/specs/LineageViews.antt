@@ -1,9 +1,9 @@
 -- The datasets of a plan over the landed partitions of its input.
 -- This project's own; after the lineage of Spark's resilient distributed datasets.
-use Rattle.std.specs.Prelude.{◌≡◌, ℕ, ◌+◌, ◌<◌, ◌^◌, All, Bool, true, false, IfSome, List, length}
+use Rattle.std.specs.Prelude.{◌≡◌, ℕ, ◌+◌, ◌<◌, ◌^◌, All, true, IfSome, List, length}
 use Rattle.std.specs.List.{filter}
 use Rattle.row_form.specs.declared.form.Form.{Form}
-use Rattle.row_form.specs.declared.form.Form.TheVariants.{Entries, Landed}
+use Rattle.row_form.specs.Forms.{columns_of, is_landed}
 use Rattle.run_file.specs.declared.run.Run.{Run}
 use Rattle.run_file.specs.Several.{run_at}
 use Rattle.row_filter.specs.declared.chain.Chain.{Chain}
@@ -29,16 +29,6 @@ form_for lineage = form_of lineage.chain
 -- the number by which a dataset's blocks name it
 abbrev pub name_for : Chain → ℕ → ℕ
 name_for chain dataset = base_of chain + dataset
-
--- whether a form is one of landed rows
-abbrev pub is_landed : Form → Bool
-is_landed (Landed columns numbers) = true
-is_landed (Entries kind) = false
-
--- how many columns landed rows have beside their number
-abbrev pub columns_of : Form → ℕ
-columns_of (Landed columns numbers) = columns
-columns_of (Entries kind) = 0
 
 -- landed rows; each dataset is made from an earlier one by a filter over their columns, and its blocks have a name
 pub record IsLineage (lineage : LineageView) : Type 0 where

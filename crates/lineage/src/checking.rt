@@ -2,9 +2,9 @@
 
 ghost use Rattle.std.specs.Prelude.{◌≡◌, ◌<◌, ◌+◌, ◌↔◌, true, length, IfNone, IfSome, IsTrue};
 ghost use Rattle.row_page.specs.Views.{fields_in};
-ghost use Rattle.row_form.specs.Forms.{IsWellFormed};
+ghost use Rattle.row_form.specs.Forms.{IsWellFormed, is_landed};
 ghost use Rattle.lineage.specs.Checking.{AreRight, AreRightFor, number_of};
-ghost use Rattle.lineage.specs.LineageViews.{form_for, is_landed};
+ghost use Rattle.lineage.specs.LineageViews.{form_for};
 
 use crate::lineage::Lineage;
 use row_form::Form;

@@ -9,7 +9,8 @@ ghost use Rattle.memory_core.specs.Attempts.{granted_in};
 pub enum Attempted {
     /// So many bytes, which may be fewer than were asked, and 0.
     Granted(u64),
-    /// A short grant would leave the task below half a fair share: it asks again once others gave back.
+    /// A short grant would leave the task below half an equal part of the execution pool: it asks
+    /// again once others gave back.
     Wait,
 }
 

@@ -66,12 +66,6 @@ said P now given number before history turn is =
     (subst (λ (es : List Entry). P now.number es (entries_of number (journal_of history)) history) turn.had
     (subst (λ (n : ℕ). P n (entries_of number before) (entries_of number (journal_of history)) history) turn.number_is is)))
 
-as_admission : (answer : Answer) (block : Block) (size : ℕ) (now given : PassState) → AdmissionGrows answer block size now.number (own_entries now) (own_entries given) (history_of given.seen)
-    → AddsAdmission answer block size now given
-as_admission Admitted block size now given is = is
-as_admission Refused block size now given is = is
-as_admission AlreadyResident block size now given is = is
-
 as_pin : (pinned : Pinned) (dataset part : ℕ) (now given : PassState) → given.number ≡ now.number → HasNoPin now
     → PinGrows pinned now.number dataset part (own_entries now) (own_entries given) (history_of given.seen) → AddsPin pinned dataset part now given
 as_pin (Hit block) dataset part now given same free is =
@@ -79,14 +73,14 @@ as_pin (Hit block) dataset part now given same free is =
 as_pin (ReadBack block) dataset part now given same free is =
     (is, ap (worker_pin (history_of (own_entries given))) same ∙ ap (λ (es : List Entry). worker_pin (history_of es) now.number) is ∙ pin_now now.number (Pin dataset part true) (own_entries now) ∙ free)
 as_pin Miss dataset part now given same free is =
-    (is.0, ap (worker_pin (history_of (own_entries given))) same ∙ ap (λ (es : List Entry). worker_pin (history_of es) now.number) is.0 ∙ free, is.1)
+    (is, ap (worker_pin (history_of (own_entries given))) same ∙ ap (λ (es : List Entry). worker_pin (history_of es) now.number) is.0 ∙ free)
 
 module _ {E : Type 0} where
   pub admission_adds : (result : Result Answer E) (block : Block) (size : ℕ) (now given : PassState) (number : ℕ) (before : List Entry) (history : History) → IsTurn now given number before (journal_of history)
       → IfOk result (λ answer. AdmissionGrows answer block size number (entries_of number before) (entries_of number (journal_of history)) history)
       → IfOk result (λ answer. AddsAdmission answer block size now given)
   admission_adds (Ok answer) block size now given number before history turn is =
-      as_admission answer block size now given (said (AdmissionGrows answer block size) now given number before history turn is)
+      said (AdmissionGrows answer block size) now given number before history turn is
   admission_adds (Err e) block size now given number before history turn is = tt
 
   pub pin_adds : (result : Result Pinned E) (dataset part : ℕ) (now given : PassState) (number : ℕ) (before : List Entry) (history : History) → IsTurn now given number before (journal_of history) → HasNoPin now

@@ -101,25 +101,22 @@ HasNoPin worker = worker_pin (own_of worker) worker.number ≡ None
 abbrev pub Adds : PassState → PassState → List Entry → Type 0
 Adds before after added = own_entries after ≡ own_entries before ++ added
 
--- what a pin adds, and whether the worker then has it: it has the pin of a block in memory alone
+-- whether the worker has the block pinned after a pin: a block in memory alone
+abbrev pub PinsFound : Pinned → ℕ → ℕ → PassState → Type 0
+PinsFound (Hit block) dataset part after = HasPin after dataset part
+PinsFound (ReadBack block) dataset part after = HasNoPin after
+PinsFound Miss dataset part after = HasNoPin after
+
+-- what a pin adds, and whether the worker then has it
 abbrev pub AddsPin : Pinned → ℕ → ℕ → PassState → PassState → Type 0
-AddsPin (Hit block) dataset part before after = Adds before after (entry_by before.number (Pin dataset part false) ∷ []) × HasPin after dataset part
-AddsPin (ReadBack block) dataset part before after = Adds before after (entry_by before.number (Pin dataset part true) ∷ []) × HasNoPin after
-AddsPin Miss dataset part before after =
-    (own_entries after ≡ own_entries before) × HasNoPin after × (is_resident (history_of after.seen) dataset part ≡ false)
+AddsPin pinned dataset part before after =
+    PinGrows pinned before.number dataset part (own_entries before) (own_entries after) (history_of after.seen) × PinsFound pinned dataset part after
 
 -- what the admission of a block of this size adds: the evictions that it took, and itself or its refusal
 abbrev pub AddsAdmission : Answer → Block → ℕ → PassState → PassState → Type 0
-AddsAdmission Admitted block size before after =
-    (evicted : List Entry) × (borrowed : ℕ) × AreEvictions before.number evicted
-    × Adds before after (evicted ++ entry_by before.number (Admit block.dataset block.part size block.level borrowed (length evicted)) ∷ [])
-AddsAdmission Refused block size before after =
-    (evicted : List Entry) × (borrowed : ℕ) × AreEvictions before.number evicted
-    × Adds before after (evicted ++ entry_by before.number (RefusedEvent block.dataset block.part size borrowed (length evicted)) ∷ [])
-AddsAdmission AlreadyResident block size before after =
-    (own_entries after ≡ own_entries before) × (is_resident (history_of after.seen) block.dataset block.part ≡ true)
+AddsAdmission answer block size before after =
+    AdmissionGrows answer block size before.number (own_entries before) (own_entries after) (history_of after.seen)
 
 -- what the removal of a dataset adds: its blocks went but for pinned ones
 abbrev pub AddsRemovals : ℕ → PassState → PassState → Type 0
-AddsRemovals dataset before after =
-    (gone : List Entry) × AreRemovals before.number dataset 0 gone × Adds before after gone × HasPinnedAlone dataset (history_of after.seen)
+AddsRemovals dataset before after = RemovalGrows dataset before.number (own_entries before) (own_entries after) (history_of after.seen)

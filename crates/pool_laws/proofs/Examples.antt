@@ -28,7 +28,7 @@ whole_grant = record { place = 4; task = 0; asked = 300; granted = 300 }
 grant_is_there : IsGrantOf evicting_journal whole_grant
 grant_is_there = record { worker = 0; moved = 250; evictions = 1; there = refl }
 
--- the limit of 400 is all the task's, half a fair share is half of the pool of 400, and the task then holds 300
+-- the limit of 400 is all the task's, the least share is half of the pool of 400, and the task then holds 300
 grant_numbers : (greatest_share (moment_of one_worker evicting_journal whole_grant) ≡ 400) × (least_share (moment_of one_worker evicting_journal whole_grant) ≡ 200) × (held_after evicting_journal whole_grant ≡ 300)
 grant_numbers = (refl, refl, refl)
 

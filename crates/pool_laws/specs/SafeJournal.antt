@@ -40,7 +40,7 @@ pub record IsSafeJournal (setup : Sizes) (journal : List Entry) : Type 0 where
   -- a grant above 0 leaves the task with at most the limit divided by the active tasks
   pub no_grant_passes : (grant : Grant) → IsGrantOf journal grant → 0 < grant.granted
       → held_after journal grant ≤ greatest_share (moment_of setup journal grant)
-  -- a grant below what was asked leaves the task with at least half a fair share
+  -- a grant below what was asked leaves the task with at least half an equal part of the execution pool
   pub short_grants : (grant : Grant) → IsGrantOf journal grant → grant.granted < grant.asked
       → least_share (moment_of setup journal grant) ≤ held_after journal grant
   -- once a task is ended it holds nothing, from then on

@@ -18,7 +18,7 @@ large_first = attempt 0 0 500 200 0 (Some 500) ∷ both_begun
 pools_after_large_first : (execution_pool two_workers large_first ≡ 500) × (storage_pool two_workers large_first ≡ 100)
 pools_after_large_first = (refl, refl)
 
--- the other task would be left with less than half a fair share, and waits
+-- the other task would be left with less than half an equal part of the execution pool, and waits
 short_of_half_waits : ((growth two_workers large_first 200).moved ≡ 100) × (least_share (moment two_workers large_first 1 200) ≡ 150) × (answer two_workers large_first 1 200 ≡ None)
 short_of_half_waits = (refl, refl, refl)
 

@@ -45,11 +45,11 @@ pub record Moment : Type 0 where
   pub active : ℕ
   pub asked : ℕ
 
--- the fair share, the most that a task may come to hold: what storage can't keep, divided by the active tasks
+-- the fair share, the most bytes that a task may come to hold: what storage can't keep, divided by the active tasks
 abbrev pub greatest_share : Moment → ℕ
 greatest_share at = (at.maximum - min at.stored at.region) / at.active
 
--- half a fair share of the execution pool, which a short grant has to reach (Spark: minMemoryPerTask)
+-- half an equal part of the execution pool, in bytes, which a short grant has to reach (Spark: minMemoryPerTask)
 abbrev pub least_share : Moment → ℕ
 least_share at = at.pool / (2 * at.active)
 
@@ -57,7 +57,7 @@ least_share at = at.pool / (2 * at.active)
 abbrev pub grant_of : Moment → ℕ
 grant_of at = min (min at.asked (greatest_share at - at.held)) (at.pool - at.exec)
 
--- what is granted; none where the task has to wait, since a short grant wouldn't reach half a fair share
+-- what is granted; none where the task has to wait, since a short grant wouldn't reach the least share
 abbrev pub share_of : Moment → Option ℕ
 share_of at =
     if nat_lt (grant_of at) at.asked && nat_lt (at.held + grant_of at) (least_share at) then None else Some (grant_of at)

@@ -1,13 +1,21 @@
+// Ledgers, stores, memory states, and threads that share one.
 mod asks;
+mod book;
 mod copies;
+mod crews;
 mod entries;
 mod faults;
 mod game;
+mod kept_blocks;
 mod ledgers;
+mod manager;
 mod memory;
 mod pages;
+mod playing;
 mod replay;
 mod scripts;
+mod seats;
+mod signs;
 mod steps;
 mod store;
 mod words;

@@ -1,12 +1,22 @@
 -- Which rows a reader takes: entries of a query, or landed rows.
 -- This project's own.
-use Rattle.std.specs.Prelude.{◌≡◌, ℕ, ◌+◌, ◌≤◌, IsTrue, List, [], length, slice_index, slice_index_or, EachIndex}
+use Rattle.std.specs.Prelude.{◌≡◌, ℕ, ◌+◌, ◌≤◌, Bool, true, false, IsTrue, List, [], length, slice_index, slice_index_or, EachIndex}
 use Rattle.row_page.specs.Grammar.{ArePieces, IsRow}
 use Rattle.row_page.specs.Spelling.{row_length}
 pub use Rattle.aggregate.specs.Values.{IsValueOf}
 use Rattle.row_form.specs.Numbers.{is_number}
 use Rattle.row_form.specs.declared.form.Form.{Form}
 use Rattle.row_form.specs.declared.form.Form.TheVariants.{Entries, Landed}
+
+-- whether a form is one of landed rows
+abbrev pub is_landed : Form → Bool
+is_landed (Landed columns numbers) = true
+is_landed (Entries kind) = false
+
+-- how many columns landed rows have beside their number
+abbrev pub columns_of : Form → ℕ
+columns_of (Landed columns numbers) = columns
+columns_of (Entries kind) = 0
 
 -- the field of a kept column, behind the row's number, is a number
 abbrev pub IsNumberAt : List (List ℕ) → ℕ → Type 0

@@ -1,6 +1,5 @@
--- What bytes show as: the fields of a row, the rows of a page. No contract rests on these alone, since
--- a row's and a page's bytes are in the grammar.
--- This project's own.
+-- What bytes show as: the fields of a row, the rows of a page.
+-- This project's own. No contract rests on these alone: a row's and a page's bytes are in the grammar.
 use Rattle.std.specs.Prelude.{ℕ, zero, suc, List, [], ◌∷◌, length, take, drop, map, Option, Some, None, nat_lt, if◌then◌else◌}
 use Rattle.std.specs.Option.{option_map_or}
 use Rattle.std.specs.Int.{w32, from_be_bytes}

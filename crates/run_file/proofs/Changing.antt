@@ -9,7 +9,7 @@ use Rattle.std.proofs.lemmas.Cmp.{nat_cmp_total}
 use Rattle.std.proofs.lemmas.Bool.{eq-eqb, true≢false}
 use Rattle.std.proofs.lemmas.Bool.Decides.{eqb_tells}
 use Rattle.spill_disk.specs.Files.{Files, bytes_of, Creates, Appends, AppendsPart, Removes}
-use Rattle.run_file.specs.Shelved.{file_in, IsGone, IsGoneOn, SameBut}
+use Rattle.run_file.specs.Shelved.{file_in, IsNotThere, IsNotThereOn, SameBut}
 
 get_put : (m : Files) (k : ℕ) (v : List ℕ) (q : ℕ) → map.get (map.insert m k v) q ≡ cond (eqb q k) (Some v) (map.get m q)
 get_put m k v q = get-insert nat_cmp_total m k v q ∙ ap (λ b. cond b (Some v) (map.get m q)) (unsigned_tied q k)
@@ -36,7 +36,7 @@ made_other None (Some a) file q made tells apart = absurd (true≢false tells)
 made_other (Some b) None file q made tells apart = absurd made
 made_other (Some b) (Some a) file q made tells apart = ap Some (ap (λ (m : Files). map.get m q) made.1 ∙ put_other b file [] q apart)
 
-pub made_fresh : (before after : Option Files) (file : ℕ) → Creates before after file → IsGone before file
+pub made_fresh : (before after : Option Files) (file : ℕ) → Creates before after file → IsNotThere before file
 made_fresh None after file made = tt
 made_fresh (Some b) None file made = absurd made
 made_fresh (Some b) (Some a) file made = made.0
@@ -59,7 +59,7 @@ removed_other None (Some a) file q removed tells apart = absurd (true≢false te
 removed_other (Some b) None file q removed tells apart = absurd removed
 removed_other (Some b) (Some a) file q removed tells apart = ap Some (ap (λ (m : Files). map.get m q) removed ∙ cut_other b file q apart)
 
-pub removed_gone : (before after : Option Files) (file : ℕ) → Removes before after file → is_some after ≡ is_some before → IsGone after file
+pub removed_gone : (before after : Option Files) (file : ℕ) → Removes before after file → is_some after ≡ is_some before → IsNotThere after file
 removed_gone before None file removed tells = tt
 removed_gone None (Some a) file removed tells = absurd (true≢false tells)
 removed_gone (Some b) (Some a) file removed tells =
@@ -83,6 +83,6 @@ same_but named before after files i file old new changed other j q apart = elim 
 ]
 
 -- a file that the changed disk doesn't have is there under none of its numbers
-pub gone_on : {D : Type 0} (named : ℕ → ℕ) (before after : ℕ → Option D) (files : D → Option Files) (i file : ℕ) (old new : D) → IsChanged named before after i old new → IsGone (files new) file → IsGoneOn named (λ j. option_and_then files (after j)) i file
+pub gone_on : {D : Type 0} (named : ℕ → ℕ) (before after : ℕ → Option D) (files : D → Option Files) (i file : ℕ) (old new : D) → IsChanged named before after i old new → IsNotThere (files new) file → IsNotThereOn named (λ j. option_and_then files (after j)) i file
 gone_on named before after files i file old new changed gone j same =
-    subst (λ o. IsGone (option_and_then files o) file) (sym (changed.is j same)) gone
+    subst (λ o. IsNotThere (option_and_then files o) file) (sym (changed.is j same)) gone

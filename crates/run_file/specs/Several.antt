@@ -66,6 +66,10 @@ KeepsFile None None file = ⊤
 KeepsFile (Some before) (Some after) file = IsSome (map.get before file) → map.get after file ≡ map.get before file
 KeepsFile before after file = ⊥
 
+-- all files that were there are as they were
+abbrev pub KeepsAll : (ℕ → Option Files) → (ℕ → Option Files) → Type 0
+KeepsAll before after = (disk file : ℕ) → KeepsFile (before disk) (after disk) file
+
 -- a file is as it was, there or not, where the disk tells
 abbrev pub SameFile : Option Files → Option Files → ℕ → Type 0
 SameFile (Some before) (Some after) file = map.get after file ≡ map.get before file

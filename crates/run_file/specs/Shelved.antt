@@ -37,10 +37,10 @@ SameBut named before after disk file =
     (j g : ℕ) → ((named j ≡ named disk) × (g ≡ file) → ⊥) → file_in (after j) g ≡ file_in (before j) g
 
 -- a file isn't there, where the disk tells
-abbrev pub IsGone : Option Files → ℕ → Type 0
-IsGone None file = ⊤
-IsGone (Some files) file = map.get files file ≡ None
+abbrev pub IsNotThere : Option Files → ℕ → Type 0
+IsNotThere None file = ⊤
+IsNotThere (Some files) file = map.get files file ≡ None
 
 -- a file of a disk isn't there, under whichever number the disk has
-abbrev pub IsGoneOn : (ℕ → ℕ) → (ℕ → Option Files) → ℕ → ℕ → Type 0
-IsGoneOn named files disk file = (j : ℕ) → named j ≡ named disk → IsGone (files j) file
+abbrev pub IsNotThereOn : (ℕ → ℕ) → (ℕ → Option Files) → ℕ → ℕ → Type 0
+IsNotThereOn named files disk file = (j : ℕ) → named j ≡ named disk → IsNotThere (files j) file

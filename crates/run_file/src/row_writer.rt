@@ -5,7 +5,7 @@ ghost use Rattle.row_page.specs.Views.{fields_in};
 ghost use Rattle.spill_disk.specs.Files.{IsThere};
 ghost use Rattle.run_file.specs.Causes.{HasCauseOn, NotDamaged};
 ghost use Rattle.run_file.specs.Runs.{CountsRows, IsFileOf};
-ghost use Rattle.run_file.specs.Shelved.{files_on, faults_on, IsGoneOn, KeepsShelf, LeavesFiles, SameBut};
+ghost use Rattle.run_file.specs.Shelved.{files_on, faults_on, IsNotThereOn, KeepsShelf, LeavesFiles, SameBut};
 ghost use Rattle.run_file.specs.Writing.{IsSoFar, IsWritten};
 
 use crate::run::fault_of;
@@ -48,7 +48,7 @@ impl RowWriter {
         ensures there { IfOk result (λ rows.
             IsThere (files_on H.disk_of D.files shelf.new to) rows.run.file) }
         ensures fresh { IfOk result (λ rows.
-            IsGoneOn (H.named shelf.old) (files_on H.disk_of D.files shelf.old) to rows.run.file) }
+            IsNotThereOn (H.named shelf.old) (files_on H.disk_of D.files shelf.old) to rows.run.file) }
         ensures same { IfOk result (λ rows. SameBut (H.named shelf.old)
             (files_on H.disk_of D.files shelf.old) (files_on H.disk_of D.files shelf.new) to rows.run.file) }
         ensures err { OnErr result
@@ -138,7 +138,7 @@ impl RowWriter {
 /// Takes a run's file away.
 pub fn remove_run<D: Disk, H: Shelf<D>>(shelf: &mut H, run: &Run) -> Result<(), RunFault>
     requires there { run.now.disk < H.count_of shelf.old }
-    ensures gone { OnOk result (IsGoneOn (H.named shelf.old)
+    ensures gone { OnOk result (IsNotThereOn (H.named shelf.old)
         (files_on H.disk_of D.files shelf.new) run.now.disk run.now.file) }
     ensures same { SameBut (H.named shelf.old)
         (files_on H.disk_of D.files shelf.old) (files_on H.disk_of D.files shelf.new)
@@ -240,7 +240,7 @@ fn start_on<D: Disk, H: Shelf<D>>(shelf: &mut H, to: u32) -> Result<RunWriter, R
     ensures there { IfOk result (λ writer.
         IsThere (files_on H.disk_of D.files shelf.new to) writer.file) }
     ensures fresh { IfOk result (λ writer.
-        IsGoneOn (H.named shelf.old) (files_on H.disk_of D.files shelf.old) to writer.file) }
+        IsNotThereOn (H.named shelf.old) (files_on H.disk_of D.files shelf.old) to writer.file) }
     ensures same { IfOk result (λ writer. SameBut (H.named shelf.old)
         (files_on H.disk_of D.files shelf.old) (files_on H.disk_of D.files shelf.new) to writer.file) }
     ensures err { OnErr result

@@ -9,7 +9,7 @@ use Rattle.run_file.specs.declared.run.RunFault.{RunFault}
 use Rattle.run_file.specs.declared.run.RunFault.TheVariants.{DiskFault, Damaged, NoMemory}
 use Rattle.run_file.specs.Readers.{ReaderView, run_of}
 use Rattle.run_file.specs.Several.{IsFileAmong}
-use Rattle.run_file.specs.Shelved.{IsGone}
+use Rattle.run_file.specs.Shelved.{IsNotThere}
 use Rattle.run_file.proofs.Among.{among_left, among_right, is_among_one}
 use Rattle.run_merge.specs.Causes.{IsDamageAmong, IsDamageIn, is_run, is_run_in}
 use Rattle.run_merge.specs.Merging.{TellsDamageIn}
@@ -116,7 +116,7 @@ damage_first T U named before runs to NoMemory told = tt
 
 -- damage of runs that were made of them
 pub damage_made : (T U : Type 0) (named : ℕ → ℕ) (before : ℕ → Option Files) (runs made : List Run) (to : ℕ) (fault : RunFault) → ((disk file rows : ℕ) → is_run_in made disk file rows ≡ true → is_run_in runs disk file rows ≡ false → disk ≡ to)
-    → ((disk file : ℕ) → IsFileAmong named made disk file → (IsFileAmong named runs disk file → ⊥) → IsGone (before disk) file) → IsDamageIn {T = T} made (Err fault) → IsDamageAmong {T = U} named before runs to (Err fault)
+    → ((disk file : ℕ) → IsFileAmong named made disk file → (IsFileAmong named runs disk file → ⊥) → IsNotThere (before disk) file) → IsDamageIn {T = T} made (Err fault) → IsDamageAmong {T = U} named before runs to (Err fault)
 damage_made T U named before runs made to (DiskFault disk) placed fresh told = tt
 damage_made T U named before runs made to (Damaged damage) placed fresh told = (
   λ none. placed damage.disk damage.file damage.kept told.0 none,

@@ -15,7 +15,7 @@ use Rattle.run_file.specs.declared.run.Run.{Run}
 use Rattle.row_form.specs.Forms.{HasForm, IsWellFormed}
 use Rattle.run_file.specs.Runs.{CountsRows, IsFileOf, Stands, greatest_cost}
 use Rattle.run_file.specs.Several.{SameOthers, IsFileAmong, HasEntries, HaveEntries, concatenated, greatest_of, run_at}
-use Rattle.run_file.specs.Shelved.{IsGone, IsGoneOn, SameBut}
+use Rattle.run_file.specs.Shelved.{IsNotThere, IsNotThereOn, SameBut}
 use Rattle.run_file.proofs.Among.{among_one, apart_one, is_among_one}
 use Rattle.run_merge.specs.declared.merge.Merge.{Merge}
 use Rattle.run_merge.specs.Becoming.{AreGone, Becomes, WritesAll}
@@ -34,7 +34,7 @@ pub record IsMerged (named : ℕ → ℕ) (before begun written after : ℕ → 
   pub tells : (j : ℕ) → is_some (after j) ≡ is_some (before j)
   pub told : is_some (written to) ≡ is_some (before to)
   pub disk : run.disk ≡ to
-  pub fresh : IsGoneOn named before to run.file
+  pub fresh : IsNotThereOn named before to run.file
   pub first : SameBut named before begun to run.file
   pub next : SameBut named begun written to run.file
   pub gone : AreGone named after runs
@@ -60,12 +60,12 @@ stands_there law None run rows told there file counts = absurd (false≢true tol
 stands_there law (Some files) run rows told there file counts = law files run rows there file counts
 
 -- the new run is none of the others, where those stand
-pub new_beside : (named : ℕ → ℕ) (before : ℕ → Option Files) (kind : Kind) (to file : ℕ) (runs : List Run) (lists : List (List Entry)) → IsGoneOn named before to file → HaveEntries before kind runs lists → IsFileAmong named runs to file → ⊥
+pub new_beside : (named : ℕ → ℕ) (before : ℕ → Option Files) (kind : Kind) (to file : ℕ) (runs : List Run) (lists : List (List Entry)) → IsNotThereOn named before to file → HaveEntries before kind runs lists → IsFileAmong named runs to file → ⊥
 new_beside named before kind to file runs lists fresh have (i, within, on, is) =
-    have_there before kind runs lists have i within (subst (λ (f : ℕ). IsGone (before (run_at runs i).disk) f) (sym is) (fresh (run_at runs i).disk on))
+    have_there before kind runs lists have i within (subst (λ (f : ℕ). IsNotThere (before (run_at runs i).disk) f) (sym is) (fresh (run_at runs i).disk on))
 
 -- what the merge is to give then: the total of the runs
-pub to_come : (named : ℕ → ℕ) (before begun : ℕ → Option Files) (to file : ℕ) (kind : Kind) (merge : Merge) (runs : List Run) (lists : List (List Entry)) → IsGoneOn named before to file → SameBut named before begun to file → runs_of merge ≡ runs → kind_of merge ≡ kind → Begins merge → HaveEntries before kind runs lists
+pub to_come : (named : ℕ → ℕ) (before begun : ℕ → Option Files) (to file : ℕ) (kind : Kind) (merge : Merge) (runs : List Run) (lists : List (List Entry)) → IsNotThereOn named before to file → SameBut named before begun to file → runs_of merge ≡ runs → kind_of merge ≡ kind → Begins merge → HaveEntries before kind runs lists
     → IsToCome begun merge (total kind (concatenated lists))
 to_come named before begun to file kind merge runs lists fresh first runs_are kind_is begins have =
     let beside = new_beside named before kind to file runs lists fresh have in
@@ -101,7 +101,7 @@ merged_becomes law count named before begun written after to kind merge runs run
       made.others disk file other ∙ made.next disk file new ∙ made.first disk file new;
   fresh = λ disk file one other.
       let is = among_one named run disk file one in
-      subst (λ (f : ℕ). IsGone (before disk) f) is.1 (made.fresh disk (sym is.0 ∙ ap named made.disk));
+      subst (λ (f : ℕ). IsNotThere (before disk) f) is.1 (made.fresh disk (sym is.0 ∙ ap named made.disk));
   same = λ told lists have apart'. record {
     own = total kind (concatenated lists) ∷ [];
     stand = (total_has law named before begun written after to kind merge runs run apart made told lists have, tt);

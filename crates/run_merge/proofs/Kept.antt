@@ -13,7 +13,7 @@ use Rattle.run_file.specs.Readers.{ReaderView, known_ahead, run_of}
 use Rattle.run_file.specs.Reading.{ArePage, IsAhead}
 use Rattle.run_file.specs.Runs.{CountsRows, Stands}
 use Rattle.run_file.specs.Several.{IsFileAmong, HasEntries, HaveEntries, run_at}
-use Rattle.run_file.specs.Shelved.{IsGone, file_in, SameBut}
+use Rattle.run_file.specs.Shelved.{IsNotThere, file_in, SameBut}
 use Rattle.run_file.proofs.Among.{among_left, among_right, is_among_one}
 use Rattle.run_merge.specs.declared.merge.Merge.{Merge}
 use Rattle.run_merge.specs.Merging.{AreLeft, IsLeft, IsToCome, runs_of}
@@ -54,11 +54,11 @@ kept_beside named before after disk file (run ∷ runs) same apart = (
 )
 
 -- a run that stands is there
-there_not_gone : (files : Option Files) (run : Run) (rows : List (List (List ℕ))) → Stands files run rows → IsGone files run.file → ⊥
+there_not_gone : (files : Option Files) (run : Run) (rows : List (List (List ℕ))) → Stands files run rows → IsNotThere files run.file → ⊥
 there_not_gone None run rows stands gone = stands
 there_not_gone (Some files) run rows stands gone = false≢true (sym (ap is_some gone) ∙ stands.0)
 
-pub have_there : (files : ℕ → Option Files) (kind : Kind) (runs : List Run) (lists : List (List Entry)) → HaveEntries files kind runs lists → (i : ℕ) → i < length runs → IsGone (files (run_at runs i).disk) (run_at runs i).file → ⊥
+pub have_there : (files : ℕ → Option Files) (kind : Kind) (runs : List Run) (lists : List (List Entry)) → HaveEntries files kind runs lists → (i : ℕ) → i < length runs → IsNotThere (files (run_at runs i).disk) (run_at runs i).file → ⊥
 have_there files kind [] lists have i within gone = omega arith
 have_there files kind (run ∷ runs) [] have i within gone = have
 have_there files kind (run ∷ runs) (entries ∷ lists) have zero within gone = there_not_gone (files run.disk) run have.0.rows have.0.stands gone

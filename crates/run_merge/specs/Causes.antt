@@ -7,7 +7,7 @@ use Rattle.run_file.specs.declared.run.Run.{Run}
 use Rattle.run_file.specs.declared.run.RunFault.{RunFault}
 use Rattle.run_file.specs.declared.run.RunFault.TheVariants.{DiskFault, Damaged, NoMemory}
 use Rattle.run_file.specs.Several.{IsFileAmong}
-use Rattle.run_file.specs.Shelved.{IsGone}
+use Rattle.run_file.specs.Shelved.{IsNotThere}
 
 -- a fault of a disk is told only where its count rose
 abbrev pub HasCauseAmong : {T : Type 0} → (ℕ → ℕ) → (ℕ → ℕ) → Result T RunFault → Type 0
@@ -39,5 +39,5 @@ IsDamageAmong named before runs to (Ok x) = ⊤
 IsDamageAmong named before runs to (Err (DiskFault disk)) = ⊤
 IsDamageAmong named before runs to (Err (Damaged damage)) =
     (is_run_in runs damage.disk damage.file damage.kept ≡ false → damage.disk ≡ to)
-    × ((IsFileAmong named runs damage.disk damage.file → ⊥) → IsGone (before damage.disk) damage.file) × (damage.found < damage.kept)
+    × ((IsFileAmong named runs damage.disk damage.file → ⊥) → IsNotThere (before damage.disk) damage.file) × (damage.found < damage.kept)
 IsDamageAmong named before runs to (Err NoMemory) = ⊤

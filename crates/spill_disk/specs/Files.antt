@@ -1,6 +1,5 @@
--- The files of a disk as a finite map from number to bytes, and what each call does to it. A disk that
--- tells nothing has no such map, and then nothing is said.
--- This project's own.
+-- The files of a disk as a finite map from number to bytes, and what each call does to it.
+-- This project's own. A disk whose bytes nobody knows has no such map, and then nothing is said.
 use Rattle.std.specs.Prelude.{◌≡◌, ℕ, List, [], ◌++◌, length, take, drop, Option, Some, None, IsSome, unwrap_or, ⊤}
 use Rattle.std.specs.Ordering.{nat_cmp}
 use Rattle.std.specs.FinMap as map

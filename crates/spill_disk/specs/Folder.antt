@@ -1,5 +1,4 @@
--- What contracts see of a disk in a folder: its counts, and the files that it has open. They don't see the bytes
--- of a file.
+-- What contracts see of a disk in a folder: its counts and the files that it has open, but not a file's bytes.
 -- This project's own.
 use Rattle.std.specs.Prelude.{◌≡◌, ◌≢◌, ℕ, ◌-◌, List, [], ◌++◌, length, nat_le, nat_eq, slice_get, if◌then◌else◌, Option, Some, None, ⊤, ◌⊎◌}
 use Rattle.std.specs.Option.{option_map_or}

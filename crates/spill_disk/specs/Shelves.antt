@@ -16,11 +16,13 @@ abbrev pub with_disk_at : {P D : Type 0} → (P → D → P) → Vec P → ℕ �
 with_disk_at with_own owners i disk =
     option_map_or (λ owner. with_item owners i (with_own owner disk)) (slice_get owners.items i) owners
 
+-- the item at a place is the one that was set there
 get_set_same : {X : Type 0} (xs : List X) (i : ℕ) (x y : X) → slice_get xs i ≡ Some x → slice_get (slice_set xs i y) i ≡ Some y
 get_set_same [] i x y e = absurd (none-some x e)
 get_set_same (z ∷ xs) zero x y e = refl
 get_set_same (z ∷ xs) (suc i) x y e = get_set_same xs i x y e
 
+-- the item at each other place is as before
 get_set_other : {X : Type 0} (xs : List X) (i j : ℕ) (y : X) → (j ≡ i → ⊥) → slice_get (slice_set xs i y) j ≡ slice_get xs j
 get_set_other [] i j y apart = refl
 get_set_other (z ∷ xs) zero zero y apart = absurd (apart refl)
@@ -28,12 +30,13 @@ get_set_other (z ∷ xs) zero (suc j) y apart = refl
 get_set_other (z ∷ xs) (suc i) zero y apart = refl
 get_set_other (z ∷ xs) (suc i) (suc j) y apart = get_set_other xs i j y (λ e. apart (ap suc e))
 
+-- below the length there is an item
 get_within : {X : Type 0} (xs : List X) (i : ℕ) → i < length xs → (x : X) × (slice_get xs i ≡ Some x)
 get_within [] i lt = absurd (omega arith)
 get_within (x ∷ xs) zero lt = (x, refl)
 get_within (x ∷ xs) (suc i) lt = get_within xs i (omega arith)
 
--- the owners after the owner at a place has another disk, by whether there is one
+-- there are as many owners once one has another disk, by whether that one is there
 len_by : {P D : Type 0} (with_own : P → D → P) (owners : Vec P) (i : ℕ) (disk : D) (o : Option P) → vec_len (option_map_or (λ owner. with_item owners i (with_own owner disk)) o owners) ≡ vec_len owners
 len_by with_own owners i disk None = refl
 len_by with_own owners i disk (Some owner) = refl
@@ -51,6 +54,7 @@ disk_changed own with_own put owners i j disk within same =
     ∙ ap (option_map own) (get_set_same owners.items i found.0 (with_own found.0 disk) found.1)
     ∙ ap Some (put found.0 disk)
 
+-- each other disk is as before, by whether the owner that changes is there
 others_by : {P D : Type 0} (own : P → D) (with_own : P → D → P) (owners : Vec P) (i j : ℕ) (disk : D) (o : Option P) → (j ≡ i → ⊥) → disk_at own (option_map_or (λ owner. with_item owners i (with_own owner disk)) o owners) j ≡ disk_at own owners j
 others_by own with_own owners i j disk None apart = refl
 others_by own with_own owners i j disk (Some owner) apart = ap (option_map own) (get_set_other owners.items i j (with_own owner disk) apart)

@@ -5,11 +5,10 @@ use Rattle.aggregate.specs.declared.kind.Kind.{Kind}
 use Rattle.aggregate.specs.Totals.{Entry, TotalsStayEqual, cost}
 use Rattle.consumer_trait.specs.States.{State, room}
 use Rattle.consumer_trait.specs.Members.{OnlyAt, blank, state_at}
-use Rattle.consumer_trait.specs.Calls.{Needs, Takes, charge}
+use Rattle.consumer_trait.specs.Calls.{Needs, Takes, charge, SameConsumer}
 use Rattle.task_pool.proofs.GoingOn.{goes_none}
 use Rattle.task_pool.specs.Workers.{own_entries}
 use Rattle.task_memory.specs.Feeding.{HasNoRoom, LacksRoom, OthersEmptyUseNothing, OthersSame}
-use Rattle.task_memory.specs.Pauses.{SameConsumer}
 use Rattle.task_memory.specs.Scenes.{Acquires, AsksNothing, CanFeed, Feeds, GoesOn, GoesOnBut, Scene}
 use Rattle.task_memory.specs.Stacks.{Stack, used_by}
 use Rattle.task_memory.proofs.Acquired.{acquired_none}

@@ -12,7 +12,7 @@ use Rattle.task_pool.specs.Pools.{PoolState}
 use Rattle.task_memory.specs.Disks.{KeepsFiles}
 use Rattle.task_memory.specs.RunLists.{HoldRuns, gathered, gathered_total, runs_at}
 use Rattle.task_memory.specs.Writing.{AddedAreNew, OnlyAdds}
-use Rattle.task_memory.specs.Pauses.{SameConsumer}
+use Rattle.consumer_trait.specs.Calls.{SameConsumer}
 use Rattle.task_memory.specs.Stacks.{Stack, used_by}
 use Rattle.task_memory.specs.Serving.{KeepsOne, KeepsRuns, RunsGrow}
 use Rattle.task_memory.specs.Asking.{IsOutOfRoom, IsReady, Keeps}

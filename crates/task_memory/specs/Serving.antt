@@ -13,7 +13,8 @@ use Rattle.task_memory.specs.Asks.{ask_at, lacking, pending_of, top_of}
 use Rattle.task_memory.specs.Disks.{KeepsFiles}
 use Rattle.task_memory.specs.RunLists.{runs_at, runs_in, AreTaskRuns, KeepTotals}
 use Rattle.task_memory.specs.Writing.{AddedAreNew, OnlyAdds}
-use Rattle.task_memory.specs.Pauses.{SameConsumer, AsksFor, EndsInOneRun}
+use Rattle.task_memory.specs.Pauses.{AsksFor, EndsInOneRun}
+use Rattle.consumer_trait.specs.Calls.{SameConsumer}
 use Rattle.task_memory.specs.Stacks.{Stack, IsStack, IsTried, IsDry, used_by, entries_in}
 
 -- each consumer has the runs that it had, and maybe more

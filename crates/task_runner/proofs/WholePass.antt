@@ -11,7 +11,7 @@ use Rattle.run_file.specs.Several.{IsFileAmong, KeepsFile, run_at as run_in}
 use Rattle.memory_core.specs.Caches.{RowsByName}
 use Rattle.task_memory.specs.Disks.{KeepsFiles, SameAt}
 use Rattle.task_memory.specs.RunLists.{runs_at}
-use Rattle.task_memory.specs.Writing.{WasNotThere}
+use Rattle.run_file.specs.Shelved.{IsNotThere}
 use Rattle.task_memory.proofs.Places.{less_or_not}
 use Rattle.task_memory.proofs.Sameness.{same_at_self}
 use Rattle.turn_lock.specs.Passes.{PassState}
@@ -43,7 +43,7 @@ made_small : (before : Option Files) (answer : Option Run) → IfSome answer (Is
 made_small before None made = tt
 made_small before (Some run) made = made.bounded
 
-made_new : (before : Option Files) (answer : Option Run) → IfSome answer (IsMade before) → IfSome answer (λ run. WasNotThere before run.file)
+made_new : (before : Option Files) (answer : Option Run) → IfSome answer (IsMade before) → IfSome answer (λ run. IsNotThere before run.file)
 made_new before None made = tt
 made_new before (Some run) made = made.fresh
 
@@ -128,13 +128,13 @@ module _ {D C : Type 0} (state : C → State) (files : D → Option Files) (work
         (λ i. none_all (λ run. run.greatest ≤ 196752))
 
     -- the file of each wasn't there before
-    pub all_new : AllOfLists (λ run. WasNotThere (before run.disk) run.file) lists
-    all_new = by_list (λ i runs. All (λ run. WasNotThere (before run.disk) run.file) runs)
-        (λ i query. all_of (λ run. WasNotThere (before run.disk) run.file) (gathered n i all workers (parts_of pass)) (gathered_new before n i all workers (parts_of pass)
+    pub all_new : AllOfLists (λ run. IsNotThere (before run.disk) run.file) lists
+    all_new = by_list (λ i runs. All (λ run. IsNotThere (before run.disk) run.file) runs)
+        (λ i query. all_of (λ run. IsNotThere (before run.disk) run.file) (gathered n i all workers (parts_of pass)) (gathered_new before n i all workers (parts_of pass)
         (λ part below.
         let known : part % workers < workers = mod-lt part (omega (arith, some)) in
         made_new (before (part % workers)) (answer_for n i all workers part) ((done.each (part % workers) any known).made (answer_place n (part / workers) i)))))
-        (λ i. none_all (λ run. WasNotThere (before run.disk) run.file))
+        (λ i. none_all (λ run. IsNotThere (before run.disk) run.file))
 
     -- they tell what each query makes of the rows of all partitions
     pub tell_all : (rows : ℕ → List (List (List ℕ))) → HoldsAll before given pass workers rows → AnswerAllParts after pass rows lists

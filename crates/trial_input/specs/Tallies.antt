@@ -1,6 +1,5 @@
--- What is counted of tables whose records come one by one: a table's records have as many fields as its heading, and
--- those of the next one another number of them.
--- This project's own.
+-- What is counted of tables whose records come one by one.
+-- This project's own. Each record of a table has as many fields as its heading; the next table has another number.
 use Rattle.std.specs.Prelude.{ℕ, ◌+◌, ◌-◌, ◌^◌, ◌==◌, List, [], if◌then◌else◌, length, min, slice_index_or, unwrap_or, pos, unsigned_abs}
 use Rattle.std.specs.List.{fold}
 use Rattle.row_form.specs.Numbers.{number}

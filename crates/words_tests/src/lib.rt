@@ -1,4 +1,5 @@
-//! Tests of what the words of a call say, apart from their crate so that it is proved once.
+//! Tests of `words`, `journal_audit`, `journal_replay` and `audit_program`, apart from them so that none is proved a
+//! second time.
 #![tactic(auto)]
 
 #[cfg(test)]

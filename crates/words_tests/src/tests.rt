@@ -1,6 +1,11 @@
-//! Tests: what lists of words say, beside a table by hand and one that was drawn.
-
-mod cases;
-mod drawn;
+// What lists of words say, and what an audit says of a journal.
+mod audit_calls;
+mod cut_journals;
+mod drawn_journals;
+mod drawn_words;
 mod fields;
-mod telling;
+mod journal_lines;
+mod listed_words;
+mod told_journals;
+mod told_words;
+mod worked_journals;

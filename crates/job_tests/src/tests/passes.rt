@@ -5,7 +5,8 @@ use row_form::Form;
 use std::alloc::{AllocError, Global};
 use std::test::Fail;
 
-const TRIAL: &str = "\
+/// The job of a trial.
+pub const TRIAL: &str = "\
     let pos = input where price >= 0 keep disk; let high = pos where price >= 500; \
     group key: count, sum price from pos; order number price down: key, price from pos; \
     group key: min price, max price from high; group key: count";

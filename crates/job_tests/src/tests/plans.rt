@@ -36,8 +36,8 @@ fn has_heading(rt: &impl Abort, plan: &Plan, heading: &[u8]) {
     assert_eq!(rt; plan.heading(0).bytes(), heading);
 }
 
-// A landed row of two columns.
-fn row_of(alloc: Global, number: u64, first: &[u8], second: &[u8]) -> Result<RowBuf, Fail> {
+/// A landed row of two columns.
+pub fn row_of(alloc: Global, number: u64, first: &[u8], second: &[u8]) -> Result<RowBuf, Fail> {
     if first.len() > 1024 || second.len() > 1024 {
         return Err("a long field".into());
     }

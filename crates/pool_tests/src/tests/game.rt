@@ -250,7 +250,7 @@ fn left_text(
     let [created, left] = files(disk);
     let storage = storage_pool(region, entries);
     let mut journal = String::new(alloc);
-    put_entries(&mut journal, entries)?;
+    put_entries(&mut journal, entries, true)?;
     Ok(format!(in alloc;
         "journal{journal}\nblocks{blocks}\nfiles {created} {left}\nstorage {storage}"
     )?)

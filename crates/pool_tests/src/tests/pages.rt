@@ -4,7 +4,7 @@ ghost use Rattle.std.specs.Prelude.{◌≤◌, ◌^◌, length};
 use crate::tests::words::put_after;
 use eviction::Candidate;
 use row_page::{Page, RowBuf};
-use std::alloc::Global;
+use std::alloc::{AllocError, Global};
 use std::string::String;
 use std::test::Fail;
 
@@ -13,18 +13,20 @@ pub fn page_of(alloc: Global, field: &[u8]) -> Result<Page, Fail> {
     if field.len() > 1 << 20 {
         return Err("a long field".into());
     }
-    let row = row_of(alloc, field)?;
-    let mut page = Page::new(alloc, 1 << 21);
-    page.push(row.view())?;
-    Ok(page)
+    Ok(page_with(alloc, field)?)
 }
 
-fn row_of(alloc: Global, field: &[u8]) -> Result<RowBuf, Fail>
+// The same of a field that isn't long.
+pub fn page_with(alloc: Global, field: &[u8]) -> Result<Page, AllocError>
     requires { length field.now ≤ 2 ^ 20 }
 {
     let mut row = RowBuf::new(alloc);
     row.add(field)?;
-    Ok(row)
+    let mut page = Page::new(alloc, 1 << 21);
+    match page.push(row.view()) {
+        Ok(()) => Ok(page),
+        Err(_) => Err(AllocError),
+    }
 }
 
 // The blocks with their sizes, and which of them are pinned, each behind this mark.

@@ -1,4 +1,5 @@
 // Steps of a store as words, which store.rt tells.
+use crate::tests::kept_blocks::level_of;
 use crate::tests::pages::{page_of, put_blocks};
 use crate::tests::words::{bytes, cut, number, put_after};
 use block_store::{Block, Store};
@@ -145,13 +146,8 @@ pub fn block_of(
     words: &str,
 ) -> Result<Arc<Block, Global>, Fail> {
     let (level, field) = cut(words, ':');
-    let level = if level == "disk" {
-        Level::Disk
-    } else {
-        Level::Memory
-    };
     let page = page_of(alloc, field.as_bytes())?;
-    block(alloc, dataset, part, level, page)
+    block(alloc, dataset, part, level_of(level), page)
 }
 
 fn block(

@@ -8,12 +8,12 @@ ghost use Rattle.task_memory.specs.Words.{begun_scene};
 ghost use Rattle.task_pool.specs.Pools.{Goes, IsAtWork};
 ghost use Rattle.task_pool.specs.Workers.{SeesMore};
 
+use crate::spiller::PartSpiller;
 use crate::tests::scripts::Parts;
 use crate::tests::steps::{Answers, Step, note_runs, take_all};
 use aggregate::Kind;
 use consumer_trait::Consumer;
 use memory_lock::{Basis, Manager, Worker};
-use part_spiller::PartSpiller;
 use pool_ledger::{Journal, Setup};
 use run_file::Run;
 use spill_disk::{Disk, MemoryDisk};

@@ -10,37 +10,37 @@ use Rattle.csv_program.proofs.trial.trial.Goals as goal
 -- ---- a trial
 
 pub returns-in-Ok-clause-told : goal.returns-in-Ok-clause-told
-returns-in-Ok-clause-told g c = tells_run (trial_of (length c.args.posts.now.items) (texts c.args.words.now)) c.in-Ok.asked c.run_trial.result.status (subst (λ (posts : ℕ). trial_of posts (texts c.args.words.now) ≡ Runs c.in-Ok.asked) (omega (arith, c.len.ensures, c.args.posts.now.ok.0)) c.in-Ok.ensures.ok) c.run_trial.ensures.judged
+returns-in-Ok-clause-told g c = tells_run (trial_of (length c.args.posts.now.items) (texts c.args.words.now)) c.in-Ok.asked c.run_trial-left.result.status (subst (λ (posts : ℕ). trial_of posts (texts c.args.words.now) ≡ Runs c.in-Ok.asked) (omega (arith, c.len.ensures, c.args.posts.now.ok.0)) c.in-Ok.ensures.ok) c.run_trial-left.ensures.judged
 
 pub returns-in-Ok-clause-sound : goal.returns-in-Ok-clause-sound
-returns-in-Ok-clause-sound g c = for_run (trial_of (length c.args.posts.now.items) (texts c.args.words.now)) c.in-Ok.asked _ (subst (λ (posts : ℕ). trial_of posts (texts c.args.words.now) ≡ Runs c.in-Ok.asked) (omega (arith, c.len.ensures, c.args.posts.now.ok.0)) c.in-Ok.ensures.ok) c.run_trial.ensures.sound
+returns-in-Ok-clause-sound g c = for_run (trial_of (length c.args.posts.now.items) (texts c.args.words.now)) c.in-Ok.asked _ (subst (λ (posts : ℕ). trial_of posts (texts c.args.words.now) ≡ Runs c.in-Ok.asked) (omega (arith, c.len.ensures, c.args.posts.now.ok.0)) c.in-Ok.ensures.ok) c.run_trial-left.ensures.sound
 
 pub returns-in-Ok-clause-complete : goal.returns-in-Ok-clause-complete
-returns-in-Ok-clause-complete g c = for_run (trial_of (length c.args.posts.now.items) (texts c.args.words.now)) c.in-Ok.asked _ (subst (λ (posts : ℕ). trial_of posts (texts c.args.words.now) ≡ Runs c.in-Ok.asked) (omega (arith, c.len.ensures, c.args.posts.now.ok.0)) c.in-Ok.ensures.ok) c.run_trial.ensures.complete
+returns-in-Ok-clause-complete g c = for_run (trial_of (length c.args.posts.now.items) (texts c.args.words.now)) c.in-Ok.asked _ (subst (λ (posts : ℕ). trial_of posts (texts c.args.words.now) ≡ Runs c.in-Ok.asked) (omega (arith, c.len.ensures, c.args.posts.now.ok.0)) c.in-Ok.ensures.ok) c.run_trial-left.ensures.complete
 
 pub returns-in-Ok-clause-named : goal.returns-in-Ok-clause-named
-returns-in-Ok-clause-named g c = for_run (trial_of (length c.args.posts.now.items) (texts c.args.words.now)) c.in-Ok.asked _ (subst (λ (posts : ℕ). trial_of posts (texts c.args.words.now) ≡ Runs c.in-Ok.asked) (omega (arith, c.len.ensures, c.args.posts.now.ok.0)) c.in-Ok.ensures.ok) c.run_trial.ensures.named
+returns-in-Ok-clause-named g c = for_run (trial_of (length c.args.posts.now.items) (texts c.args.words.now)) c.in-Ok.asked _ (subst (λ (posts : ℕ). trial_of posts (texts c.args.words.now) ≡ Runs c.in-Ok.asked) (omega (arith, c.len.ensures, c.args.posts.now.ok.0)) c.in-Ok.ensures.ok) c.run_trial-left.ensures.named
 
 pub returns-in-Ok-clause-setup : goal.returns-in-Ok-clause-setup
-returns-in-Ok-clause-setup g c = for_run (trial_of (length c.args.posts.now.items) (texts c.args.words.now)) c.in-Ok.asked _ (subst (λ (posts : ℕ). trial_of posts (texts c.args.words.now) ≡ Runs c.in-Ok.asked) (omega (arith, c.len.ensures, c.args.posts.now.ok.0)) c.in-Ok.ensures.ok) c.run_trial.ensures.setup
+returns-in-Ok-clause-setup g c = for_run (trial_of (length c.args.posts.now.items) (texts c.args.words.now)) c.in-Ok.asked _ (subst (λ (posts : ℕ). trial_of posts (texts c.args.words.now) ≡ Runs c.in-Ok.asked) (omega (arith, c.len.ensures, c.args.posts.now.ok.0)) c.in-Ok.ensures.ok) c.run_trial-left.ensures.setup
 
 pub returns-in-Ok-clause-tasks : goal.returns-in-Ok-clause-tasks
-returns-in-Ok-clause-tasks g c = for_run (trial_of (length c.args.posts.now.items) (texts c.args.words.now)) c.in-Ok.asked _ (subst (λ (posts : ℕ). trial_of posts (texts c.args.words.now) ≡ Runs c.in-Ok.asked) (omega (arith, c.len.ensures, c.args.posts.now.ok.0)) c.in-Ok.ensures.ok) c.run_trial.ensures.tasks
+returns-in-Ok-clause-tasks g c = for_run (trial_of (length c.args.posts.now.items) (texts c.args.words.now)) c.in-Ok.asked _ (subst (λ (posts : ℕ). trial_of posts (texts c.args.words.now) ≡ Runs c.in-Ok.asked) (omega (arith, c.len.ensures, c.args.posts.now.ok.0)) c.in-Ok.ensures.ok) c.run_trial-left.ensures.tasks
 
 pub returns-in-Ok-clause-others : goal.returns-in-Ok-clause-others
-returns-in-Ok-clause-others g c = for_run (trial_of (length c.args.posts.now.items) (texts c.args.words.now)) c.in-Ok.asked _ (subst (λ (posts : ℕ). trial_of posts (texts c.args.words.now) ≡ Runs c.in-Ok.asked) (omega (arith, c.len.ensures, c.args.posts.now.ok.0)) c.in-Ok.ensures.ok) c.run_trial.ensures.others
+returns-in-Ok-clause-others g c = for_run (trial_of (length c.args.posts.now.items) (texts c.args.words.now)) c.in-Ok.asked _ (subst (λ (posts : ℕ). trial_of posts (texts c.args.words.now) ≡ Runs c.in-Ok.asked) (omega (arith, c.len.ensures, c.args.posts.now.ok.0)) c.in-Ok.ensures.ok) c.run_trial-left.ensures.others
 
 pub returns-in-Ok-clause-prefix : goal.returns-in-Ok-clause-prefix
-returns-in-Ok-clause-prefix g c = for_run (trial_of (length c.args.posts.now.items) (texts c.args.words.now)) c.in-Ok.asked _ (subst (λ (posts : ℕ). trial_of posts (texts c.args.words.now) ≡ Runs c.in-Ok.asked) (omega (arith, c.len.ensures, c.args.posts.now.ok.0)) c.in-Ok.ensures.ok) c.run_trial.ensures.prefix
+returns-in-Ok-clause-prefix g c = for_run (trial_of (length c.args.posts.now.items) (texts c.args.words.now)) c.in-Ok.asked _ (subst (λ (posts : ℕ). trial_of posts (texts c.args.words.now) ≡ Runs c.in-Ok.asked) (omega (arith, c.len.ensures, c.args.posts.now.ok.0)) c.in-Ok.ensures.ok) c.run_trial-left.ensures.prefix
 
 pub returns-in-Ok-clause-done : goal.returns-in-Ok-clause-done
-returns-in-Ok-clause-done g c done = for_run (trial_of (length c.args.posts.now.items) (texts c.args.words.now)) c.in-Ok.asked _ (subst (λ (posts : ℕ). trial_of posts (texts c.args.words.now) ≡ Runs c.in-Ok.asked) (omega (arith, c.len.ensures, c.args.posts.now.ok.0)) c.in-Ok.ensures.ok) (c.run_trial.ensures.done done)
+returns-in-Ok-clause-done g c done = for_run (trial_of (length c.args.posts.now.items) (texts c.args.words.now)) c.in-Ok.asked _ (subst (λ (posts : ℕ). trial_of posts (texts c.args.words.now) ≡ Runs c.in-Ok.asked) (omega (arith, c.len.ensures, c.args.posts.now.ok.0)) c.in-Ok.ensures.ok) (c.run_trial-left.ensures.done done)
 
 pub returns-in-Ok-clause-fed : goal.returns-in-Ok-clause-fed
-returns-in-Ok-clause-fed g c done = for_run (trial_of (length c.args.posts.now.items) (texts c.args.words.now)) c.in-Ok.asked _ (subst (λ (posts : ℕ). trial_of posts (texts c.args.words.now) ≡ Runs c.in-Ok.asked) (omega (arith, c.len.ensures, c.args.posts.now.ok.0)) c.in-Ok.ensures.ok) (c.run_trial.ensures.fed done)
+returns-in-Ok-clause-fed g c done = for_run (trial_of (length c.args.posts.now.items) (texts c.args.words.now)) c.in-Ok.asked _ (subst (λ (posts : ℕ). trial_of posts (texts c.args.words.now) ≡ Runs c.in-Ok.asked) (omega (arith, c.len.ensures, c.args.posts.now.ok.0)) c.in-Ok.ensures.ok) (c.run_trial-left.ensures.fed done)
 
 pub returns-in-Ok-clause-charged : goal.returns-in-Ok-clause-charged
-returns-in-Ok-clause-charged g c done = for_run (trial_of (length c.args.posts.now.items) (texts c.args.words.now)) c.in-Ok.asked _ (subst (λ (posts : ℕ). trial_of posts (texts c.args.words.now) ≡ Runs c.in-Ok.asked) (omega (arith, c.len.ensures, c.args.posts.now.ok.0)) c.in-Ok.ensures.ok) (c.run_trial.ensures.charged done)
+returns-in-Ok-clause-charged g c done = for_run (trial_of (length c.args.posts.now.items) (texts c.args.words.now)) c.in-Ok.asked _ (subst (λ (posts : ℕ). trial_of posts (texts c.args.words.now) ≡ Runs c.in-Ok.asked) (omega (arith, c.len.ensures, c.args.posts.now.ok.0)) c.in-Ok.ensures.ok) (c.run_trial-left.ensures.charged done)
 
 pub returns-in-Ok-clause-unread : goal.returns-in-Ok-clause-unread
 returns-in-Ok-clause-unread g c = no_run_not (trial_of (length c.args.posts.now.items) (texts c.args.words.now)) c.in-Ok.asked _ (subst (λ (posts : ℕ). trial_of posts (texts c.args.words.now) ≡ Runs c.in-Ok.asked) (omega (arith, c.len.ensures, c.args.posts.now.ok.0)) c.in-Ok.ensures.ok)

@@ -23,23 +23,30 @@ use Rattle.item_lists.specs.declared.boxed.Boxed.TheView.{view, invariant}
 use Rattle.item_lists.specs.contracts.boxed.Boxed as C
 use Rattle.item_lists.specs.contracts.boxed.Boxed.TheInside as I
 
+-- what a box of a type stores of it: one value
 abbrev pub the_former : Former {0} → Former {0}
 the_former g = g
 
+-- and what that weighs, so that a walk through the values ends
 abbrev pub the_weighed : {g : Former {0}} → Weighed g → Weighed (the_former g)
 the_weighed w = w
 
+-- its fields: a pointer, the heap and the value, as a `Boxed` has them
 abbrev fields : Former {0}
 fields = via (pair (const (Ptr × Global)) this) Inside (λ X a. ((a.boxed.ptr, a.boxed.alloc), a.boxed.value))
     (λ X v. record { boxed = record { ptr = v.0.0; alloc = v.0.1; value = v.1 } }) (λ X a. refl) (λ X v. refl)
 
+-- the box with another value
 abbrev with_value : {X Y : Type 0} → Box X Global → Y → Box Y Global
 with_value b y = record { ptr = b.ptr; alloc = b.alloc; value = y }
 
+-- a box on the heap, as a type of the language
 abbrev box_of : RattleType → RattleType
 box_of R = box.the_row R heap.the_row ghosts
 
+-- for two types and a function between their values, under which they are stored alike
 module _ (R S : RattleType) (h : R.Denot → S.Denot) where
+  -- then boxes of them are stored alike
   box_places : Alike R S h → Alike (box_of R) (box_of S) (λ b. with_value b (h b.value))
   unfolding part_of
   box_places a = record {
@@ -48,11 +55,13 @@ module _ (R S : RattleType) (h : R.Denot → S.Denot) where
     shr_same = λ b i. (box_of (one_value R (a.mir_same i) (a.own_same b.value i) (a.shr_same b.value i) gnil)).shr_at (with_value b tt);
   }
 
+  -- and so is each `Boxed` of them
   pub the_places : Alike R S h → Alike (C.the_row R) (C.the_row S) ((the_former this).map R.Denot S.Denot h)
   the_places a = view_places fields this view (λ X Y k u. refl) (λ X u. refl) R.Denot S.Denot h (C.the_row R).coded (C.the_row S).coded
       (invariant R.Denot) (invariant S.Denot) (λ u p q. refl) (λ u p q. refl) (λ u e. tt) (λ u e. tt)
       (over (I.the_row R)) (over (I.the_row S))
       (struct_places (I.the_type R) (I.the_type S) ((λ b. with_value b (h b.value)), tt) _ (λ d. refl) refl (laid _ _ _ (box_places a), tt))
 
+  -- where the function keeps codes, so does a `Boxed` of it
   pub the_codes_placed : Recodes R S h → Recodes (C.the_row R) (C.the_row S) ((the_former this).map R.Denot S.Denot h)
   the_codes_placed e d = e d

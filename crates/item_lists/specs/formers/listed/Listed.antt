@@ -20,30 +20,39 @@ use Rattle.item_lists.specs.declared.listed.Listed.TheView.{view, invariant}
 use Rattle.item_lists.specs.contracts.listed.Listed as C
 use Rattle.item_lists.specs.contracts.listed.Listed.TheInside as I
 
+-- what a list of a type stores of it: a list of values
 abbrev pub the_former : Former {0} → Former {0}
 the_former g = list g
 
+-- and what that weighs, so that a walk through the values ends
 abbrev pub the_weighed : {g : Former {0}} → Weighed g → Weighed (the_former g)
 the_weighed w = w_list w
 
+-- a list of nothing
 pub the_empty : List ⊥
 the_empty = []
 
+-- the items of a list, in order
 abbrev pub the_items : (X : Type 0) → List X → List X
 the_items X d = d
 
+-- they are the list's own values, in order
 pub the_items_listed : (X : Type 0) (d : List X) → listed _ (children (the_former this) X d) ≡ the_items X d
 the_items_listed X d = list-listed X d
 
+-- its field: a vector on the heap
 abbrev fields : Former {0}
 fields = via (vec.the_former this Global) Inside (λ X a. a.items) (λ X v. record { items = v }) (λ X a. refl) (λ X v. refl)
 
+-- for two types and a function between their values, under which they are stored alike
 module _ (R S : RattleType) (h : R.Denot → S.Denot) where
+  -- then each `Listed` of them is stored alike
   pub the_places : Alike R S h → Alike (C.the_row R) (C.the_row S) ((the_former this).map R.Denot S.Denot h)
   the_places a = view_places fields (list this) view (λ X Y k u. refl) (λ X u. refl) R.Denot S.Denot h (C.the_row R).coded (C.the_row S).coded
       (invariant R.Denot) (invariant S.Denot) (λ u p q. refl) (λ u p q. refl) (λ u e. tt) (λ u e. tt)
       (over (I.the_row R)) (over (I.the_row S))
       (struct_places (I.the_type R) (I.the_type S) (vec.mapped h, tt) _ (λ d. refl) refl (laid _ _ _ (vec.the_places heap.the_row ghosts R S h a), tt))
 
+  -- where the function keeps codes, so does a `Listed` of it
   pub the_codes_placed : Recodes R S h → Recodes (C.the_row R) (C.the_row S) ((the_former this).map R.Denot S.Denot h)
   the_codes_placed e d = sym (code_map R.coded.code S.coded.code h (λ x. sym (e x)) d)

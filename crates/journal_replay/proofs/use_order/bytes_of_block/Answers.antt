@@ -4,7 +4,8 @@ use Rattle.std.specs.Option.{option_map_or}
 use Rattle.std.proofs.lemmas.List.Elements.{All-weaker}
 use Rattle.pool_ledger.specs.Blocks.{is_block, sizes}
 use Rattle.journal_replay.specs.declared.placed.Placed.{Placed}
-use Rattle.journal_replay.specs.UseOrder.{block_by, is_place, place_of, resident_in, residents_in}
+use Rattle.journal_audit.specs.Rules.{is_the}
+use Rattle.journal_replay.specs.UseOrder.{block_by, place_of, resident_in, residents_in}
 use Rattle.journal_replay.proofs.InUse.{none_kept}
 use Rattle.journal_replay.proofs.Known.{each_at, none_listed, only_taken, StandsAt}
 use Rattle.journal_replay.proofs.use_order.bytes_of_block.Goals as goal
@@ -18,7 +19,7 @@ returns-in_default c =
     let unlisted : list_any (is_block d p) (residents_in blocks.entries) ≡ false =
     none_listed d p blocks.entries
     (All-weaker (λ (e : ℕ × Placed). block_by blocks e.0 ≡ Some e.1) (λ (e : ℕ × Placed). is_block d p (resident_in e.1) ≡ false)
-    (λ e there. sym (c.requires.known e.0 e.1 there d p) ∙ ap (λ (o : Option ℕ). is_place o e.0) none) blocks.entries (each_at blocks c.len-count.ensures.ordered)) in
+    (λ e there. sym (c.requires.known e.0 e.1 there d p) ∙ ap (λ (o : Option ℕ). is_the o e.0) none) blocks.entries (each_at blocks c.len-count.ensures.ordered)) in
     sym (ap sizes (none_kept (is_block d p) (residents_in blocks.entries) unlisted))
 
 pub returns-in-Some-get : goal.returns-in-Some-get
@@ -29,7 +30,7 @@ returns-in-Some-get c =
     let blocks = c.args.order.now.placed in
     let there : place_of c.args.order.now.places d p ≡ Some place = sym c.in-Some.ensures.value in
     let stands : All (StandsAt d p place) blocks.entries =
-    All-weaker (λ (e : ℕ × Placed). block_by blocks e.0 ≡ Some e.1) (StandsAt d p place) (λ e here. ap (λ (o : Option ℕ). is_place o e.0) (sym there) ∙ c.requires.known e.0 e.1 here d p) blocks.entries
+    All-weaker (λ (e : ℕ × Placed). block_by blocks e.0 ≡ Some e.1) (StandsAt d p place) (λ e here. ap (λ (o : Option ℕ). is_the o e.0) (sym there) ∙ c.requires.known e.0 e.1 here d p) blocks.entries
     (each_at blocks c.len-count.ensures.ordered) in
     let one =
     only_taken d p place blocks.entries c.len-count.ensures.ordered stands
@@ -44,7 +45,7 @@ returns-in-None c =
     let blocks = c.args.order.now.placed in
     let there : place_of c.args.order.now.places d p ≡ Some place = sym c.in-Some.ensures.value in
     let stands : All (StandsAt d p place) blocks.entries =
-    All-weaker (λ (e : ℕ × Placed). block_by blocks e.0 ≡ Some e.1) (StandsAt d p place) (λ e here. ap (λ (o : Option ℕ). is_place o e.0) (sym there) ∙ c.requires.known e.0 e.1 here d p) blocks.entries
+    All-weaker (λ (e : ℕ × Placed). block_by blocks e.0 ≡ Some e.1) (StandsAt d p place) (λ e here. ap (λ (o : Option ℕ). is_the o e.0) (sym there) ∙ c.requires.known e.0 e.1 here d p) blocks.entries
     (each_at blocks c.len-count.ensures.ordered) in
     sym (ap sizes (only_taken d p place blocks.entries c.len-count.ensures.ordered stands
     ∙ ap (λ (o : Option Placed). option_map_or (λ x. resident_in x ∷ []) o []) (sym c.in-None.ensures.value)))

@@ -1,10 +1,10 @@
 use Rattle.std.proofs.Common.{◌≡◌, ◌≤◌, ◌-◌, [], false}
 use Rattle.std.specs.Io.KnownBytes.{IsAtEnd}
 use Rattle.byte_io.specs.Records.{IsReading, rows_left, source_under}
-use Rattle.run_file.specs.Several.{SameOthers}
+use Rattle.run_file.specs.Several.{SameOthers, KeepsAll}
 use Rattle.run_file.specs.Shelved.{files_on, KeepsShelf}
 use Rattle.landing.specs.Filling.{AreLandedSoFar}
-use Rattle.landing.specs.Landed.{AreMade, KeepsFiles}
+use Rattle.landing.specs.Landed.{AreMade}
 use Rattle.landing.specs.Ruling.{ahead}
 use Rattle.landing.proofs.landing.land_rows.Given as goal
 
@@ -19,7 +19,7 @@ invariant-parts g l =
       empty : l.page.rows ≡ [];
       made : AreMade (g.H.Shelf.named l.fn.shelf) (files l.fn.shelf) l.parts.items;
       only : SameOthers (g.H.Shelf.named l.fn.shelf) (files l.fn.shelf) (files l.shelf) l.parts.items;
-      files : KeepsFiles (files l.fn.shelf) (files l.shelf);
+      files : KeepsAll (files l.fn.shelf) (files l.shelf);
       shelf : KeepsShelf g.H.Shelf.count_of g.H.Shelf.named g.H.Shelf.disk_of g.D.Disk.files g.D.Disk.faults l.fn.shelf l.shelf;
     }
 

@@ -2,7 +2,7 @@ use Rattle.std.proofs.Common.{◌≡◌, ℕ, List, sym, subst, ◌∙◌}
 use Rattle.std.proofs.lemmas.Result.{err_from_is_err_and}
 use Rattle.aggregate.specs.Totals.{total}
 use Rattle.run_file.specs.declared.run.Run.{Run}
-use Rattle.run_file.specs.Shelved.{files_on, IsGoneOn, SameBut}
+use Rattle.run_file.specs.Shelved.{files_on, IsNotThereOn, SameBut}
 use Rattle.run_file.specs.Several.{IsFileAmong, concatenated}
 use Rattle.run_file.proofs.Among.{among_renamed}
 use Rattle.run_merge.specs.Merging.{runs_of}
@@ -80,7 +80,7 @@ returns-clause-becomes g c =
       tells = λ j. c.remove_all.ensures.shelf.tells j ∙ c.write_merged.ensures.shelf.tells j ∙ c.begin.ensures.shelf.tells j;
       told = c.write_merged.ensures.shelf.tells to ∙ c.begin.ensures.shelf.tells to;
       disk = c.in_ok-run.ensures.disk ∙ c.in_ok-writer.ensures.disk;
-      fresh = subst (λ (f : ℕ). IsGoneOn named (files start) to f) file_is c.in_ok-writer.ensures.fresh;
+      fresh = subst (λ (f : ℕ). IsNotThereOn named (files start) to f) file_is c.in_ok-writer.ensures.fresh;
       first = subst (λ (f : ℕ). SameBut named (files start) (files begun) to f) file_is c.in_ok-writer.ensures.same;
       next = subst (λ (f : ℕ). SameBut named (files begun) (files written) to f) file_is next;
       gone = gone;

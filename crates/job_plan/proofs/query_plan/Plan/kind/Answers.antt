@@ -3,7 +3,7 @@ use Rattle.std.proofs.lemmas.List.{length-map}
 use Rattle.std.proofs.Math.Logic.{∥∥₁_elim}
 use Rattle.std.proofs.Props.{props}
 use Rattle.job_plan.specs.declared.planned.Planned.{Planned}
-use Rattle.job_plan.specs.Planning.{columns_of}
+use Rattle.row_form.specs.Forms.{columns_of}
 use Rattle.job_plan.specs.Plans.{form_in}
 use Rattle.job_plan.proofs.Queries.{kind_read}
 use Rattle.job_plan.proofs.query_plan.Plan.kind.Goals as goal

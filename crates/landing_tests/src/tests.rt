@@ -1,5 +1,0 @@
-mod files;
-mod partitions;
-mod records;
-mod sinks;
-mod streams;

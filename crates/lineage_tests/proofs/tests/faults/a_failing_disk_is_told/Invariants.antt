@@ -1,6 +1,0 @@
-use Rattle.std.proofs.Common.{Some, None}
-use Rattle.lineage_tests.proofs.tests.faults.a_failing_disk_is_told.Given as goal
-
--- the sizes are the setup's, the one worker owns each task, and no rows are given
-abbrev pub ghosts-play : goal.ghosts-play
-ghosts-play g a = record { sizes = a.setup; owner = λ _. Some 0; rows = λ _ _. None }

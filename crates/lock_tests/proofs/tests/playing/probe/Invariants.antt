@@ -1,5 +1,0 @@
-use Rattle.lock_tests.specs.Seats.{IsPlaying}
-use Rattle.lock_tests.proofs.tests.playing.probe.Given as goal
-
-abbrev pub invariant-loop : goal.invariant-loop
-invariant-loop g l = IsPlaying l.seat.manager.now l.seat.count l.seat.number l.seat.next l.task l.worker

@@ -1,0 +1,8 @@
+use Rattle.pool_tests.specs.Seats.{IsPlaying}
+use Rattle.pool_tests.proofs.tests.playing.take_steps.Given as goal
+
+abbrev pub invariant-loop-step : goal.invariant-loop-step
+invariant-loop-step g l =
+    (goal.iterator-loop-step g).can_next l.step-iterator ×
+    (goal.iterator-loop-step g).is_finite l.step-iterator ×
+    IsPlaying l.seat.manager.now l.seat.count l.seat.number l.seat.next l.task l.worker

@@ -1,0 +1,102 @@
+// A worker's seat, and the calls that it makes there.
+ghost use Rattle.std.specs.Prelude.{◌≡◌, ◌≤◌, ◌^◌, ℕ, Some, None, IfOk};
+ghost use Rattle.memory_lock.specs.Endings.{IsLastAnswer};
+ghost use Rattle.memory_lock.specs.Workers.{KeepsTask};
+ghost use Rattle.pool_tests.specs.Seats.{IsPlaying, IsSteady};
+
+use crate::tests::signs::Board;
+use block_store::Block;
+use memory_core::{Admission, Pinned};
+use memory_lock::{Basis, Manager, Task, Worker, last_attempts_are_answered};
+use spill_disk::MemoryDisk;
+use std::alloc::{AllocError, Global};
+use std::sync::{Arc, Wait};
+
+/// Where a worker plays, with its number.
+#[derive(Drop)]
+pub struct Seat<'a, B: Basis, R: Wait> {
+    pub rt: &'a R,
+    pub alloc: Global,
+    pub manager: &'a Manager<MemoryDisk, B>,
+    pub board: &'a Board,
+    // How many workers the manager has.
+    pub count: u64,
+    pub number: u32,
+    // From this number on the worker has begun no task.
+    pub next: u32,
+}
+
+/// Bytes for a task. Its worker knows from what it has seen that they are the rules' answer, before the manager is closed.
+pub fn acquire<B: Basis, R: Wait>(
+    seat: &Seat<'_, B, R>,
+    worker: &mut Worker<B>,
+    task: &Task,
+    asked: u64,
+) -> Result<u64, AllocError>
+    requires playing { IsPlaying seat.now.manager.now seat.now.count seat.now.number seat.now.next task.now worker.old }
+    requires some_asked { 1 ≤ asked }
+    requires few_asked { asked ≤ 2 ^ 50 }
+    ensures playing { IsPlaying seat.now.manager.now seat.now.count seat.now.number seat.now.next task.now worker.new }
+    ensures answers { IfOk result (λ got. IsLastAnswer B.sizes worker.old.number task.now asked (Some got) worker.new.seen) }
+{
+    last_attempts_are_answered();
+    seat.manager.acquire(seat.rt, worker, task, asked)
+}
+
+pub fn release<B: Basis, R: Wait>(
+    seat: &Seat<'_, B, R>,
+    worker: &mut Worker<B>,
+    task: &Task,
+    bytes: u64,
+) -> Result<u64, AllocError>
+    requires playing { IsPlaying seat.now.manager.now seat.now.count seat.now.number seat.now.next task.now worker.old }
+    ensures playing { IsPlaying seat.now.manager.now seat.now.count seat.now.number seat.now.next task.now worker.new }
+{
+    seat.manager.release(seat.rt, worker, task, bytes)
+}
+
+pub fn admit<B: Basis, R: Wait>(
+    seat: &Seat<'_, B, R>,
+    worker: &mut Worker<B>,
+    block: Arc<Block, Global>,
+) -> Result<Admission, AllocError>
+    requires steady { IsSteady seat.now.manager.now seat.now.count seat.now.number seat.now.next worker.old }
+    requires rows { (dataset part : ℕ) → B.rows dataset part ≡ None }
+    ensures steady { IsSteady seat.now.manager.now seat.now.count seat.now.number seat.now.next worker.new }
+    ensures task { KeepsTask worker.old worker.new }
+{
+    seat.manager.admit(seat.rt, worker, block)
+}
+
+/// A block with the word for where it was, which is given back.
+pub fn pin<B: Basis, R: Wait>(
+    seat: &Seat<'_, B, R>,
+    worker: &mut Worker<B>,
+    dataset: u32,
+    part: u32,
+) -> Result<Option<(&'static str, Arc<Block, Global>)>, AllocError>
+    requires steady { IsSteady seat.now.manager.now seat.now.count seat.now.number seat.now.next worker.old }
+    ensures steady { IsSteady seat.now.manager.now seat.now.count seat.now.number seat.now.next worker.new }
+    ensures task { KeepsTask worker.old worker.new }
+{
+    match seat.manager.pin(seat.rt, worker, dataset, part)? {
+        Pinned::Hit(block) => {
+            seat.manager.unpin(seat.rt, worker, dataset, part);
+            Ok(Some((" hit", block)))
+        }
+        Pinned::OnDisk(block) => Ok(Some((" copy", block))),
+        Pinned::Miss => Ok(None),
+    }
+}
+
+pub fn remove<B: Basis, R: Wait>(
+    seat: &Seat<'_, B, R>,
+    worker: &mut Worker<B>,
+    dataset: u32,
+) -> Result<(), AllocError>
+    requires steady { IsSteady seat.now.manager.now seat.now.count seat.now.number seat.now.next worker.old }
+    ensures steady { IsSteady seat.now.manager.now seat.now.count seat.now.number seat.now.next worker.new }
+    ensures task { KeepsTask worker.old worker.new }
+{
+    seat.manager.remove(seat.rt, worker, dataset)
+}
