@@ -2,20 +2,24 @@
 docs/FORMATS.md, and prints the line that `audit` answers. Histories come from tools/pool_model.py. Run it at the top of the
 repository.
 
-    python3 tools/audit_model.py check      do the journals of crates/words_tests have the answers that the model gives?
+    python3 tools/audit_model.py check      do the journals of crates/words_tests have the answers that the model gives, and those with
+                                            growths that were worked by hand, below?
     python3 tools/audit_model.py drawn      the table of drawn journals, each with one number changed at each kind of entry
     python3 tools/audit_model.py answer     the answer to the text on standard input
     python3 tools/audit_model.py many N B   a legal journal of N entries beside B blocks in memory, for bench/audit_rate.py
 """
+import glob
 import random
 import re
 import sys
 
-TABLES = ['crates/words_tests/src/tests/worked_journals.rt', 'crates/words_tests/src/tests/drawn_journals.rt']
+TESTS = 'crates/words_tests/src/tests'
+DRAWN = f'{TESTS}/drawn_journals.rt'
+VERSIONS = ('memory journal 1', 'memory journal 2')
 NUMBER = re.compile(r'0|[1-9][0-9]*')
 FORMS = {
     'begin': 'ss', 'attempt': 'sslllg', 'release': 'ssl', 'end': 'ssl', 'evict': 'ssslf', 'admit': 'sssloll', 'refused': 'ssslll',
-    'pin': 'sssp', 'unpin': 'sss', 'remove': 'sssl',
+    'pin': 'sssp', 'unpin': 'sss', 'remove': 'sssl', 'grow': 'sl',
 }
 WORDS = {'f': ('disk', 'gone', 'nomem'), 'o': ('memory', 'disk'), 'p': ('resident', 'copy')}
 
@@ -32,19 +36,25 @@ def field(kind, text):
     return value if value < (2 ** 32 if kind == 's' else 2 ** 64) else None
 
 
-def entry(line):
+def entry(line, version=2):
+    """The entry of a line, or None. A text of the first version has no growth."""
     word, *texts = line.split(',')
     form = FORMS.get(word)
-    if form is None or len(texts) != len(form):
+    if form is None or len(texts) != len(form) or word == 'grow' and version == 1:
         return None
     values = [field(kind, text) for kind, text in zip(form, texts)]
     return None if None in values else (word, *values)
 
 
+def version_of(line):
+    """The version that a first line names."""
+    return VERSIONS.index(line.split(',')[0]) + 1
+
+
 def head(line):
     word, *texts = line.split(',')
     values = [field('l', text) for text in texts]
-    if word != 'memory journal 1' or len(values) != 3 or None in values:
+    if word not in VERSIONS or len(values) != 3 or None in values:
         return None
     maximum, region, workers = values
     return (maximum, region, workers) if region <= maximum <= 2 ** 40 and 1 <= workers <= 16 else None
@@ -117,6 +127,8 @@ class Pool:
             return 'worker'
         if self.gone and (kind not in ('evict', 'attempt', 'admit', 'refused') or w != self.owner):
             return 'pending'
+        if kind == 'grow':
+            return 'grow' if w != 0 or not 1 <= e[2] <= 2 ** 36 or self.maximum + e[2] > 2 ** 41 else None
         if kind == 'begin':
             return 'task' if e[2] in self.begun or w in self.open else None
         if kind in ('attempt', 'release', 'end'):
@@ -192,6 +204,9 @@ class Pool:
             self.pins[w] = name
         elif kind == 'unpin':
             del self.pins[w]
+        elif kind == 'grow':
+            self.maximum += e[2]
+            self.execution += e[2]
 
 
 def verdict(text):
@@ -200,7 +215,8 @@ def verdict(text):
     setup = head(lines[0]) if lines else None
     if setup is None:
         return 'bad line 1'
-    entries = [entry(line) for line in lines[1:]]
+    version = version_of(lines[0])
+    entries = [entry(line, version) for line in lines[1:]]
     if None in entries:
         return f'bad line {entries.index(None) + 2}'
     if last:
@@ -214,9 +230,12 @@ def verdict(text):
     return f'no {len(entries) + 1} pending' if pool.gone else f'yes {len(entries)}'
 
 
-# Tables: a row is a text with a slash for each line feed and without its first word, an arrow, and the answer.
+# Tables: a row is a text with a slash for each line feed, an arrow, and the answer. It may lack the two words ahead of the version, or
+# the version too, which then is the first.
 def text_of(row):
-    return 'memory journal 1,' + row.replace('/', '\n')
+    if not row.startswith('memory journal'):
+        row = f'memory journal {row}' if row.split('/')[0].count(',') == 3 else f'{VERSIONS[0]},{row}'
+    return row.replace('/', '\n')
 
 
 def rows_in(path):
@@ -226,16 +245,47 @@ def rows_in(path):
             yield row.split(': ')[-1], answer
 
 
-def history(seed, workers, calls, datasets=3, parts=3, entries=0):
-    """A drawn journal of so many calls, or so many entries at least, made by the model of the pool."""
+# Journals in which the pool grows, worked by hand.
+WAITING = '600,300,2/begin,0,0/attempt,0,0,500,200,0,500/begin,1,1/attempt,1,1,200,100,0,wait'
+LARGEST = '1099511627776,0,1' + '/grow,0,68719476736' * 16
+GROWTHS = [
+    (f'memory journal 2,{WAITING}/grow,0,400/attempt,1,1,200,0,0,200/', 'yes 6'),
+    (f'memory journal 2,{WAITING}/grow,0,100/attempt,1,1,200,0,0,200/', 'yes 6'),
+    (f'memory journal 2,{WAITING}/grow,0,99/attempt,1,1,200,0,0,200/', 'no 6 share'),
+    (f'memory journal 1,{WAITING}/grow,0,400/attempt,1,1,200,0,0,200/', 'bad line 6'),
+    (f'memory journal 1,{WAITING}/', 'yes 4'),
+    (f'memory journal 3,{WAITING}/', 'bad line 1'),
+    (f'memory journal 2,{WAITING}/grow,1,400/', 'no 5 grow'),
+    (f'memory journal 2,{WAITING}/grow,2,400/', 'no 5 worker'),
+    (f'memory journal 2,{WAITING}/grow,0,0/', 'no 5 grow'),
+    (f'memory journal 2,{WAITING}/grow,0,68719476736/', 'yes 5'),
+    (f'memory journal 2,{WAITING}/grow,0,68719476737/', 'no 5 grow'),
+    (f'memory journal 2,{WAITING}/grow,0,18446744073709551615/', 'no 5 grow'),
+    (f'memory journal 2,{WAITING}/grow,0,18446744073709551616/', 'bad line 6'),
+    (f'memory journal 2,{WAITING}/grow,0/', 'bad line 6'),
+    (f'memory journal 2,{WAITING}/grow,0,1,1/', 'bad line 6'),
+    (f'memory journal 2,{LARGEST}/', 'yes 16'),
+    (f'memory journal 2,{LARGEST}/grow,0,1/', 'no 17 grow'),
+    ('memory journal 2,600,300,2/admit,0,1,0,150,disk,0,0/evict,0,1,0,150,disk/grow,0,1/', 'no 3 pending'),
+    ('memory journal 2,600,300,1/grow,0,300/admit,0,1,0,301,disk,1,0/', 'no 2 store'),
+    ('memory journal 2,600,300,1/grow,0,300/refused,0,1,0,301,0,0/', 'yes 2'),
+]
+
+
+def history(seed, workers, calls, datasets=3, parts=3, entries=0, growths=0):
+    """A drawn journal of so many calls, or so many entries at least, made by the model of the pool. In it the pool grows so many
+    times, each time after as many of those entries."""
     sys.path.insert(0, 'tools')
     from pool_model import Model
     draw = random.Random(seed)
     model = Model(draw.choice([600, 997, 4096]), 500, workers)
     setup = (model.maximum, model.region, workers)
-    task = 0
+    task, grown = 0, 0
     while calls > 0 or len(model.journal) < entries:
         calls -= 1
+        if grown < growths and len(model.journal) * (growths + 1) >= entries * (grown + 1):
+            model.grow(0, draw.choice([1, 40, 150]))
+            grown += 1
         w = draw.randrange(workers)
         name = (draw.randrange(1, datasets + 1), draw.randrange(parts))
         what = draw.choice(['task', 'ask', 'ask', 'ask', 'release', 'end', 'admit', 'admit', 'admit', 'pin', 'pin', 'unpin', 'remove'])
@@ -409,15 +459,16 @@ def main(words):
         sys.stdout.write(many(int(words[1]), int(words[2])))
     else:
         wrong = 0
-        for path in TABLES:
-            for row, answer in rows_in(path):
+        tables = [(path, list(rows_in(path))) for path in sorted(glob.glob(f'{TESTS}/*.rt'))]
+        for path, rows in [*tables, ('growths', GROWTHS)]:
+            for row, answer in rows:
                 given = verdict(text_of(row))
                 if given != answer:
                     wrong += 1
                     print(f'{path}: {row[:90]}..: {given}, and not {answer}')
-        if sorted(f'{r} -> {a}' for r, a in rows_in(TABLES[1])) != sorted(drawn()):
+        if sorted(f'{r} -> {a}' for r, a in rows_in(DRAWN)) != sorted(drawn()):
             wrong += 1
-            print(f'{TABLES[1]}: not as drawn')
+            print(f'{DRAWN}: not as drawn')
         print('audit_model: all as the model answers' if not wrong else f'audit_model: {wrong} wrong')
         return 1 if wrong else 0
     return 0

@@ -7,8 +7,9 @@ repository, after `rt run` in crates/rates has built the program.
         --tries N    how many entries of each kind are changed in each journal, one number of one entry at a time: 4
         --cuts N     how many lines the journal has that is cut, before each line and behind each of its bytes: 240
 
-The journals are drawn over the model of tools/pool_model.py: few blocks and many, and 1 to 16 workers. The status is 0 where
-the program tells of each text what the model tells.
+The journals are drawn over the model of tools/pool_model.py: few blocks and many, 1 to 16 workers, and pools that grow. Each is a
+text of the second version, and once more one of the first, in which a growth is no line. The journal that is cut is of the second
+version and, without growths, of the first. The status is 0 where the program tells of each text what the model tells.
 """
 import argparse
 import collections
@@ -20,10 +21,11 @@ import sys
 import time
 
 sys.path.insert(0, "tools")
-from audit_model import FORMS, Pool, changed, entry, head, history, verdict
+from audit_model import FORMS, Pool, VERSIONS, changed, entry, head, history, verdict
 
 # The seed, the workers, and how many datasets and parts blocks are of.
 JOURNALS = [(11, 1, 3, 3), (12, 2, 3, 3), (13, 4, 4, 10), (14, 16, 6, 20)]
+GROWTHS = 12
 
 
 class Audits:
@@ -52,11 +54,18 @@ def answer(pool, entries, number):
     return f"no {last + 1} pending" if pool.gone else f"yes {last}"
 
 
+def firsts(setup):
+    """The first line of each version."""
+    return [",".join([version, *map(str, setup)]) for version in VERSIONS]
+
+
 def long_journal(audits, seed, workers, datasets, parts, wanted, tries):
-    setup, lines = history(seed, workers, wanted, datasets, parts, wanted)
-    first = "memory journal 1," + ",".join(map(str, setup))
+    setup, lines = history(seed, workers, wanted, datasets, parts, wanted, GROWTHS)
+    older, first = firsts(setup)
     name = f"seed {seed}"
     audits.compare(name, "\n".join([first, *lines, ""]), f"yes {len(lines)}")
+    grown = next(at for at, line in enumerate(lines) if line.startswith("grow,"))
+    audits.compare(f"{name}, first version", "\n".join([older, *lines, ""]), f"bad line {grown + 2}")
     draw = random.Random(seed)
     places = collections.defaultdict(list)
     for at, line in enumerate(lines):
@@ -77,11 +86,13 @@ def long_journal(audits, seed, workers, datasets, parts, wanted, tries):
 
 
 def cuts(audits, count):
-    """Each front of a legal text, which ends behind a byte of one of its lines."""
-    setup, lines = history(21, 2, count, 3, 3, count)
-    text = "\n".join(["memory journal 1," + ",".join(map(str, setup)), *lines[:count], ""])
-    for end in range(len(text) + 1):
-        audits.compare(f"the first {end} bytes", text[:end], verdict(text[:end]))
+    """Each front of a legal text, which ends behind a byte of one of its lines: one of the second version, and the same without
+    its growths as one of the first."""
+    for growths, version in (0, 0), (GROWTHS, 1):
+        setup, lines = history(21, 2, count, 3, 3, count, growths)
+        text = "\n".join([firsts(setup)[version], *lines[:count], ""])
+        for end in range(len(text) + 1):
+            audits.compare(f"{VERSIONS[version]}, the first {end} bytes", text[:end], verdict(text[:end]))
 
 
 def main():
@@ -95,7 +106,7 @@ def main():
     for seed, workers, datasets, parts in JOURNALS:
         start = time.perf_counter()
         count = long_journal(audits, seed, workers, datasets, parts, asked.entries, asked.tries)
-        print(f"seed {seed}, {workers} workers: {count} entries, {1 + asked.tries * len(FORMS)} texts, {time.perf_counter() - start:.0f} s")
+        print(f"seed {seed}, {workers} workers: {count} entries, {2 + asked.tries * len(FORMS)} texts, {time.perf_counter() - start:.0f} s")
     start = time.perf_counter()
     before = sum(audits.alike.values())
     cuts(audits, asked.cuts)

@@ -1,9 +1,9 @@
 """A model of the pool's rules that shares nothing with the Rattle code. It computes what the scripts of
 `crates/pool_tests/src/tests` are answered. Run it at the top of the repository.
 
-    python3 tools/pool_model.py check     do the scripts without blocks, in asks.rt, have the answers that the model gives, and
-                                          do the tables of scripts.rt, copies.rt and faults.rt, and the journal of docs/JOURNAL.md, stand
-                                          there as it prints them?
+    python3 tools/pool_model.py check     do the scripts without blocks, in asks.rt, have the answers that the model gives, and so the
+                                          growths that were worked by hand, below; do the tables of scripts.rt, copies.rt and faults.rt,
+                                          and the journal of docs/JOURNAL.md, stand there as it prints them?
     python3 tools/pool_model.py table     scripts.rt, copies.rt: the scripts with blocks, with answers, journals, blocks and files
     python3 tools/pool_model.py faults    faults.rt: the script with a store disk that fails at one call, and what each call changes
     python3 tools/pool_model.py journal   the journal of docs/JOURNAL.md and examples/journal.csv
@@ -46,7 +46,7 @@ class Disk:
 
 class Model:
     def __init__(self, maximum, storage, workers, fails=()):
-        self.maximum, self.workers = maximum, workers
+        self.opening, self.maximum, self.workers = maximum, maximum, workers
         self.region = maximum * storage // 1000
         self.storage_pool = self.region
         self.execution_pool = maximum - self.region
@@ -211,6 +211,13 @@ class Model:
         for name in [name for name in self.copies if name[0] == dataset]:
             self.disk.remove(self.copies.pop(name)[0], ('forget', name))
 
+    def grow(self, worker, n):
+        """Both pools together get so many bytes more, all of them execution's. Region, block limit and floor stay."""
+        assert worker == 0 and 1 <= n <= 2 ** 36 and self.maximum + n <= 2 ** 41
+        self.maximum += n
+        self.execution_pool += n
+        self.add('grow', worker, n)
+
     def check(self):
         assert 0 <= self.stored() <= self.storage_pool and 0 <= self.exec() <= self.execution_pool
         assert self.storage_pool + self.execution_pool == self.maximum
@@ -246,6 +253,8 @@ def run(maximum, storage, workers, tasks, script, fails=()):
             model.unpin(worker)
         elif kind == 'remove':
             model.remove(worker, int(rest[0]))
+        elif kind == 'grow':
+            model.grow(worker, int(rest[0]))
         else:
             raise ValueError(step)
         model.check()
@@ -381,7 +390,33 @@ FAULTS = (600, 500, 1, 1,
 JOURNAL = (1_000, 400, 2, 2,
            'ask:0:300 admit:1:1.0:200:disk admit:1:1.1:100:disk ask:0:400 ask:1:200 ask:0:50 release:0:100 ask:1:200 release:0:120 '
            'ask:1:200 ask:1:100 release:0:280 admit:0:2.0:200:memory pin:0:1.0 ask:0:100 pin:1:1.1 admit:1:1.1:100:disk release:1:10 '
-           'admit:1:1.2:200:disk unpin:0 end:0 ask:1:490 remove:0:1 end:1')
+           'admit:1:1.2:200:disk unpin:0 end:0 ask:1:490 grow:0:500 ask:1:600 remove:0:1 end:1')
+
+# Pools that grow, worked by hand: a script with its answers, the journal's entries behind the begins, and the bytes of the
+# execution and of the storage pool after it.
+GROWTHS = [
+    ('a task that waits is granted after a growth', (600, 500, 2, 2),
+     'ask:0:500=500 ask:1:200=wait grow:0:400 ask:1:200=200 ask:0:50=0',
+     'attempt,0,0,500,200,0,500 attempt,1,1,200,100,0,wait grow,0,400 attempt,1,1,200,0,0,200 attempt,0,0,50,0,0,0', 1_000, 0),
+    ('a growth leaves blocks and the storage pool', (600, 500, 1, 1),
+     'admit:0:1.0:200:disk=in admit:0:2.0:200:memory=in grow:0:300 ask:0:500=500 ask:0:200=200 ask:0:200=0 pin:0:1.0=copy pin:0:2.0=hit',
+     'admit,0,1,0,200,disk,0,0 admit,0,2,0,200,memory,100,0 grow,0,300 attempt,0,0,500,0,0,500 evict,0,1,0,200,disk '
+     'attempt,0,0,200,200,1,200 attempt,0,0,200,0,0,0 pin,0,1,0,copy pin,0,2,0,resident', 700, 200),
+    ('a block borrows what a growth gave', (600, 500, 1, 1),
+     'ask:0:300=300 admit:0:1.0:300:memory=in grow:0:200 admit:0:1.1:200:disk=in admit:0:1.2:100:disk=refused admit:0:1.3:301:disk=refused',
+     'attempt,0,0,300,0,0,300 admit,0,1,0,300,memory,0,0 grow,0,200 admit,0,1,1,200,disk,200,0 refused,0,1,2,100,0,0 '
+     'refused,0,1,3,301,0,0', 300, 500),
+    ('a lone task takes all before a growth and after it', (600, 500, 1, 1),
+     'ask:0:700=600 grow:0:150 ask:0:200=150 grow:0:1 ask:0:1=1 ask:0:1=0 end:0=751',
+     'attempt,0,0,700,300,0,600 grow,0,150 attempt,0,0,200,0,0,150 grow,0,1 attempt,0,0,1,0,0,1 attempt,0,0,1,0,0,0 end,0,0,751', 751, 0),
+    ('a growth raises what a task that waits has to reach', (600, 0, 3, 3),
+     'ask:0:450=450 ask:1:300=150 ask:2:100=wait grow:0:60 ask:2:100=wait grow:0:60 ask:2:120=120 end:1=150 ask:2:200=150',
+     'attempt,0,0,450,0,0,450 attempt,1,1,300,0,0,150 attempt,2,2,100,0,0,wait grow,0,60 attempt,2,2,100,0,0,wait grow,0,60 '
+     'attempt,2,2,120,0,0,120 end,1,1,150 attempt,2,2,200,0,0,150', 720, 0),
+    ('a pool without a byte grows to 2^36', (0, 500, 1, 1),
+     'ask:0:1=0 grow:0:68719476736 ask:0:68719476737=68719476736',
+     'attempt,0,0,1,0,0,0 grow,0,68719476736 attempt,0,0,68719476737,0,0,68719476736', 2 ** 36, 0),
+]
 
 
 # The tables, each with what it is about and its scripts.
@@ -469,13 +504,20 @@ def joined(text):
 def check():
     with open(f'{TESTS}/asks.rt', encoding='utf-8') as file:
         asks = file.read()
-    scripts = joined(asks[asks.index('"') + 1:asks.rindex('"')]).split('\n\n')
+    scripts = [script for table in re.findall('"([^"]*)"', asks) for script in joined(table).split('\n\n')]
     for script in scripts:
         head, wanted = script.split('\n')
         maximum, storage, workers, tasks, name = head.split(' ', 4)
         words, _ = run(int(maximum), int(storage), int(workers), int(tasks), wanted)
         assert words == wanted.split(), (name, words, wanted)
     print(len(scripts), 'scripts agree')
+    for name, sizes, script, entries, execution, storage in GROWTHS:
+        words, model = run(*sizes, script)
+        assert words == script.split(), (name, words)
+        assert model.journal[sizes[3]:] == entries.split(), (name, model.journal)
+        assert (model.execution_pool, model.storage_pool) == (execution, storage), name
+        assert model.region == model.opening * sizes[1] // 1000, name
+    print(len(GROWTHS), 'growths agree')
     for names, texts in (('scripts.rt', 'copies.rt'), tables()), (('faults.rt',), fault_tables()):
         source = ''
         for name in names:
@@ -521,7 +563,7 @@ def table():
 def journal_text():
     """The text of the journal of docs/JOURNAL.md: a line of the sizes, and one for each entry."""
     _, model = run(*JOURNAL)
-    return '\n'.join([f'memory journal 1,{model.maximum},{model.region},{model.workers}', *model.journal, ''])
+    return '\n'.join([f'memory journal 2,{model.opening},{model.region},{model.workers}', *model.journal, ''])
 
 
 def journal():

@@ -47,6 +47,7 @@ rule_word rule.Growth = codes "growth"
 rule_word rule.Share = codes "share"
 rule_word rule.Store = codes "store"
 rule_word rule.Freed = codes "freed"
+rule_word rule.Grow = codes "grow"
 
 -- the line of a verdict, without its line feed
 abbrev pub verdict_text : Verdict → List ℕ

@@ -57,5 +57,6 @@ fn put_rule(line: &mut Vec<u8>, rule: Rule) -> Result<(), AllocError>
         Rule::Share => b"share",
         Rule::Store => b"store",
         Rule::Freed => b"freed",
+        Rule::Grow => b"grow",
     })
 }

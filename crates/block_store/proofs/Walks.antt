@@ -5,7 +5,7 @@ use Rattle.std.specs.List.{find, IsDistinct}
 use Rattle.std.specs.Option.{option_or, option_map_or}
 use Rattle.std.specs.Map.{lookup, lookup_entry, remove_entry, set_value, keys_of}
 use Rattle.std.specs.Cmp.{nat_eq_equiv}
-use Rattle.std.proofs.lemmas.Bool.{cases_Bool, ne_eqb}
+use Rattle.std.proofs.lemmas.Bool.{cases_Bool, cond-true, cond-false, ne_eqb}
 use Rattle.std.proofs.lemmas.Option.{none-some, same_Some}
 use Rattle.std.proofs.lemmas.List.{length-append, length-map}
 use Rattle.std.proofs.lemmas.List.Folds.{find-append}
@@ -183,3 +183,18 @@ pub written_fits : (slots rest left : List NumberedSlot) (number : ℕ) (slot : 
 written_fits slots rest left number slot resident items same at has =
     let all = written_more slots rest left number slot resident items (items ++ candidate_of (held_in resident) ∷ []) same at has refl in
     omega (arith, ap length all, length-append (items ++ candidate_of (held_in resident) ∷ []) (map candidate_of (blocks_in left)), length-append items (candidate_of (held_in resident) ∷ []), length-map (blocks_in slots) candidate_of)
+
+-- the first block that may go is looked for from the last slot to the first
+
+module _ (test : Candidate → Bool) (slots rest left : List NumberedSlot) (number : ℕ) (slot : Option Resident)
+    (same : find test (map candidate_of (blocks_in rest)) ≡ find test (map candidate_of (blocks_in slots))) (at : rest ≡ left ++ (number, slot) ∷ []) where
+  -- what is left to look at, once the slot's content is known
+  pub left_to_look : (known : Option Resident) → slot ≡ known → find test (map candidate_of (followed_by [] known ++ blocks_in left)) ≡ find test (map candidate_of (blocks_in slots))
+  left_to_look known is =
+      ap (λ (l : List HeldBlock). find test (map candidate_of l)) (sym (ap blocks_in (at ∙ ap (λ (o : Option Resident). left ++ (number, o) ∷ []) is) ∙ blocks-append left ((number, known) ∷ []))) ∙ same
+
+  pub goes_first : (resident : Resident) → slot ≡ Some resident → test (candidate_of (held_in resident)) ≡ true → Some (candidate_of (held_in resident)) ≡ find test (map candidate_of (blocks_in slots))
+  goes_first resident is goes = sym (cond-true (test (candidate_of (held_in resident))) (Some (candidate_of (held_in resident))) (find test (map candidate_of (blocks_in left))) goes) ∙ left_to_look (Some resident) is
+
+  pub goes_later : (resident : Resident) → slot ≡ Some resident → test (candidate_of (held_in resident)) ≡ false → find test (map candidate_of (blocks_in left)) ≡ find test (map candidate_of (blocks_in slots))
+  goes_later resident is stays = sym (cond-false (test (candidate_of (held_in resident))) (Some (candidate_of (held_in resident))) (find test (map candidate_of (blocks_in left))) stays) ∙ left_to_look (Some resident) is

@@ -264,16 +264,20 @@ module _ (cache : LruCache ℕ (Option Resident)) (count room : ℕ) (view : Mem
     pub set_is : (slot now : Option Resident) (pins : ℕ) → now ≡ option_map (with_pins pins) slot → Some slot ≡ lookup (nat_eq number) cache.entries → now ≡ Some (with_pins pins resident)
     set_is slot now pins set e = set ∙ ap (option_map (with_pins pins)) (slot_is slot e)
 
-    pub pinned : (pins : ℕ) (block : Block) → pins ≡ resident.pins + 1 → block ≡ arc_value resident.block → Leaves (lru_cache (set_value (nat_eq number) (promoted (nat_eq number) cache.entries) (Some (with_pins pins resident))) cache.cap) count room (without d p view.blocks ++ held_of (pins_at view.blocks d p + 1) block ∷ [])
-    pinned pins block more same =
-        let left = kept_pinned cache count room shown.kept d p number resident has pins in
-        let one : pins ≡ pins_at view.blocks d p + 1 = omega (arith, more, pins_found) in (
+    pub pinned : (pins : ℕ) → pins ≡ resident.pins + 1
+        → Leaves (lru_cache (set_value (nat_eq number) (promoted (nat_eq number) cache.entries) (Some (with_pins pins resident))) cache.cap) count room (without d p view.blocks ++ held_of (resident.pins + 1) (arc_value resident.block) ∷ [])
+    pinned pins more =
+        let left = kept_pinned cache count room shown.kept d p number resident has pins in (
           left.0,
           left.1
               ∙ ap (λ (l : List HeldBlock). without d p l ++ held_of pins (arc_value resident.block) ∷ []) shown.blocks
-              ∙ ap (λ (n : ℕ). without d p view.blocks ++ held_of n (arc_value resident.block) ∷ []) one
-              ∙ ap (λ (b : Block). without d p view.blocks ++ held_of (pins_at view.blocks d p + 1) b ∷ []) (sym same),
+              ∙ ap (λ (n : ℕ). without d p view.blocks ++ held_of n (arc_value resident.block) ∷ []) more,
         )
+
+    -- the same, said of the block as it was
+    pub pinned_last : (blocks : List HeldBlock) → blocks ≡ without d p view.blocks ++ held_of (resident.pins + 1) (arc_value resident.block) ∷ []
+        → IfSome (held_at view.blocks d p) (λ held. blocks ≡ without d p view.blocks ++ record held { pins = held.pins + 1 } ∷ [])
+    pinned_last blocks is = subst (λ (o : Option HeldBlock). IfSome o (λ held. blocks ≡ without d p view.blocks ++ record held { pins = held.pins + 1 } ∷ [])) (sym is_found) is
 
     pub unpinned_once : Leaves (lru_cache (set_value (nat_eq number) cache.entries (Some (with_pins (resident.pins - 1) resident))) cache.cap) count room (map (unpinned d p) view.blocks)
     unpinned_once =

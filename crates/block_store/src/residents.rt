@@ -1,12 +1,16 @@
 //! The blocks in memory.
 
-ghost use Rattle.std.specs.Prelude.{◌≡◌, ◌≤◌, ◌<◌, ◌+◌, ◌++◌, ◌∷◌, [], map, max, Some, None, IsSome, IfOk, OnOk, OnErr, IfSome, IfNone, is_some, length, vec_capacity};
+ghost use Rattle.std.specs.Prelude.{◌≡◌, ◌≤◌, ◌<◌, ◌+◌, ◌-◌, ◌^◌, ◌++◌, ◌∷◌, [], map, max, Some, None, IsSome, IfOk, OnOk, IfSome, IfNone, is_some, length, vec_capacity};
 ghost use Rattle.std.specs.Arc.{arc_value};
+ghost use Rattle.std.specs.List.{find};
+ghost use Rattle.eviction.specs.Victims.{is_evictable};
 ghost use Rattle.block_store.specs.Stores.{candidate_of, held_of, held_at, pins_at, without, unpinned, AreApart};
 
 use crate::Block;
 use crate::resident::Resident;
-use crate::slots::{Slots, add_slots, find, find_empty, list_blocks, set_pins, use_slot};
+use crate::slots::{
+    Slots, add_slots, find, find_empty, first_to_go, list_blocks, set_pins, use_slot,
+};
 use eviction::Candidate;
 use lru::LruCache;
 use std::alloc::{AllocError, Global};
@@ -57,6 +61,15 @@ impl Residents {
             Some(slots) => list_blocks(list, slots),
             None => list.clear(),
         }
+    }
+
+    /// The first block that may go, as a choice of victims sees it.
+    pub(crate) fn first_to_go(&self, except: Option<u32>) -> Option<Candidate>
+        ensures found { result ≡ find (is_evictable except) (map candidate_of self.now.blocks) }
+        ensures apart { AreApart self.now.blocks }
+    {
+        let slots = self.slots.as_ref()?;
+        first_to_go(slots, except)
     }
 
     /// For how many more blocks there is room.
@@ -132,39 +145,46 @@ impl Residents {
         self.room -= 1;
     }
 
-    /// Pins the block if it is in memory, and makes it the last one. An `Err` is want of memory,
-    /// also where the count of pins is at its end: after it all is as before.
-    pub(crate) fn pin(
-        &mut self,
+    /// The block, if it is in memory, for one more owner. An `Err` is want of memory.
+    pub(crate) fn lend(
+        &self,
         dataset: u32,
         part: u32,
     ) -> Result<Option<Arc<Block, Global>>, AllocError>
         ensures found { IfOk result (λ got.
-            is_some got ≡ is_some (held_at self.old.blocks dataset part)) }
+            is_some got ≡ is_some (held_at self.now.blocks dataset part)) }
         ensures value { IfOk result (λ got. IfSome got (λ block.
-            held_at self.old.blocks dataset part
-            ≡ Some (held_of (pins_at self.old.blocks dataset part) (arc_value block)))) }
-        ensures last { IfOk result (λ got. IfSome got (λ block.
+            held_at self.now.blocks dataset part
+            ≡ Some (held_of (pins_at self.now.blocks dataset part) (arc_value block)))) }
+    {
+        let Some(slots) = &self.slots else {
+            return Ok(None);
+        };
+        let Some((_, resident)) = find(slots, dataset, part) else {
+            return Ok(None);
+        };
+        let block = Arc::try_clone(&resident.block)?;
+        Ok(Some(block))
+    }
+
+    /// Pins a block in memory, and makes it the last one.
+    pub(crate) fn pin(&mut self, dataset: u32, part: u32)
+        requires resident { IsSome (held_at self.old.blocks dataset part) }
+        requires few { pins_at self.old.blocks dataset part < 2 ^ 64 - 1 }
+        ensures last { IfSome (held_at self.old.blocks dataset part) (λ held.
             self.new.blocks ≡ without dataset part self.old.blocks
-            ++ held_of (pins_at self.old.blocks dataset part + 1) (arc_value block) ∷ [])) }
-        ensures none { IfOk result (λ got. IfNone got (self.new.blocks ≡ self.old.blocks)) }
-        ensures err { OnErr result (self.new.blocks ≡ self.old.blocks) }
+            ++ record held { pins = held.pins + 1 } ∷ []) }
         ensures room { self.new.room ≡ self.old.room }
         ensures count { length self.new.blocks ≡ length self.old.blocks }
     {
         let Some(slots) = &mut self.slots else {
-            return Ok(None);
+            unreachable!()
         };
         let Some((number, resident)) = find(slots, dataset, part) else {
-            return Ok(None);
+            unreachable!()
         };
-        // Until there is another owner the block keeps its place.
-        let Some(pins) = resident.pins.checked_add(1) else {
-            return Err(AllocError);
-        };
-        let block = Arc::try_clone(&resident.block)?;
+        let pins = resident.pins + 1;
         use_slot(slots, number, pins);
-        Ok(Some(block))
     }
 
     /// Gives a pin of the block back. The block keeps its place.

@@ -1,9 +1,11 @@
 //! Numbered slots in use order, and walks over them.
 
 ghost use Rattle.std.specs.Prelude.{◌≡◌, ◌≤◌, ◌<◌, ◌+◌, ◌-◌, ◌^◌, ◌++◌, ◌∷◌, [], map, Some, None, IfSome, IfNone, OnOk, OnErr, length, nat_eq, vec_len, vec_capacity};
+ghost use Rattle.std.specs.List.{find};
 ghost use Rattle.std.specs.Option.{option_map};
 ghost use Rattle.std.specs.Map.{lookup, set_value};
 ghost use Rattle.lru.specs.LruCache.{lru_cache, promoted};
+ghost use Rattle.eviction.specs.Victims.{is_evictable};
 ghost use Rattle.block_store.specs.Stores.{candidate_of, is_held, held_at};
 ghost use Rattle.block_store.specs.Slots.{held_in, with_pins, blocks_in, AreBelow, HasBlock};
 
@@ -122,6 +124,22 @@ pub(crate) fn list_blocks(list: &mut Vec<Candidate>, slots: &Slots)
             push(list, candidate_in(resident));
         }
     }
+}
+
+/// The first block that may go, in use order, as a choice of victims sees it.
+pub(crate) fn first_to_go(slots: &Slots, except: Option<u32>) -> Option<Candidate>
+    ensures { result ≡ find (is_evictable except) (map candidate_of (blocks_in slots.now.entries)) }
+{
+    let oldest_first = slots.iter().rev();
+    for (_, slot) in oldest_first {
+        if let Some(resident) = slot {
+            let candidate = candidate_in(resident);
+            if candidate.may_go(except) {
+                return Some(candidate);
+            }
+        }
+    }
+    None
 }
 
 /// What a choice of victims sees of a block.

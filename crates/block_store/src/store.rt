@@ -1,8 +1,9 @@
 //! Blocks in memory and their copies on one disk.
 
-ghost use Rattle.std.specs.Prelude.{◌≡◌, ◌≤◌, ◌<◌, ◌+◌, ◌++◌, ◌∷◌, ◌==◌, [], ℕ, map, max, length, true, false, Option, Some, None, Ok, IsSome, is_some, IfOk, IfSome, IfNone, OnOk, OnErr, vec_capacity};
+ghost use Rattle.std.specs.Prelude.{◌≡◌, ◌≤◌, ◌<◌, ◌+◌, ◌-◌, ◌^◌, ◌++◌, ◌∷◌, [], ℕ, map, length, true, false, Option, Some, None, Ok, IsSome, is_some, IfOk, IfSome, IfNone, OnOk, vec_capacity};
 ghost use Rattle.std.specs.Arc.{arc_value};
-ghost use Rattle.row_page.specs.Spelling.{page_bytes};
+ghost use Rattle.std.specs.List.{find};
+ghost use Rattle.eviction.specs.Victims.{is_evictable};
 ghost use Rattle.fault_count.specs.Faults.{Rose};
 ghost use Rattle.block_store.specs.Stores.{candidate_of, held_of, held_at, pins_at, level_at, rows_at, without, unpinned, AreApart};
 ghost use Rattle.block_store.specs.Copies.{AreStored, has_copy, has_file, copy_rows, only_of};
@@ -66,6 +67,16 @@ impl<K: Disk> Store<K> {
         &self.candidates
     }
 
+    /// The first block that may go, the least recently used first: none that a pin keeps, and none of
+    /// the excepted dataset. The walk ends there, and nothing is written down.
+    pub fn first_that_may_go(&self, except: Option<u32>) -> Option<Candidate>
+        ensures found { result
+            ≡ find (is_evictable except) (map candidate_of (blocks_of self.now)) }
+        ensures apart { AreApart (blocks_of self.now) }
+    {
+        self.memory.first_to_go(except)
+    }
+
     /// Whether the block has a copy. On a disk that tells a copy has rows.
     pub fn has_copy(&self, dataset: u32, part: u32) -> bool
         ensures exact { result ≡ has_copy (copies_of self.now) dataset part }
@@ -90,6 +101,18 @@ impl<K: Disk> Store<K> {
         ensures none { IfNone result (held_at (blocks_of self.now) dataset part ≡ None) }
     {
         self.memory.pins(dataset, part)
+    }
+
+    /// The block, if it is in memory, for one more owner. It isn't pinned by that. An `Err` is want
+    /// of memory.
+    pub fn lend(&self, dataset: u32, part: u32) -> Result<Option<Arc<Block, Global>>, AllocError>
+        ensures found { IfOk result (λ got.
+            is_some got ≡ is_some (held_at (blocks_of self.now) dataset part)) }
+        ensures value { IfOk result (λ got. IfSome got (λ block.
+            held_at (blocks_of self.now) dataset part
+            ≡ Some (held_of (pins_at (blocks_of self.now) dataset part) (arc_value block)))) }
+    {
+        self.memory.lend(dataset, part)
     }
 
     /// Makes room for `n` more blocks, and for their copies. An `Err` is want of memory; some room
@@ -124,24 +147,19 @@ impl<K: Disk> Store<K> {
         self.memory.admit(block);
     }
 
-    /// Pins the block, if it is in memory: it then is the last of the list. Several workers may pin
-    /// one block. An `Err` is want of memory: after it all is as before.
-    pub fn pin(&mut self, dataset: u32, part: u32) -> Result<Option<Arc<Block, Global>>, AllocError>
-        ensures found { IfOk result (λ got.
-            is_some got ≡ is_some (held_at (blocks_of self.old) dataset part)) }
-        ensures value { IfOk result (λ got. IfSome got (λ block.
-            held_at (blocks_of self.old) dataset part
-            ≡ Some (held_of (pins_at (blocks_of self.old) dataset part) (arc_value block)))) }
-        ensures last { IfOk result (λ got. IfSome got (λ block.
+    /// Pins a block in memory: it then is the last of the list. Several workers may pin one block.
+    /// It takes no memory: whoever reads the block has it by `lend`.
+    pub fn pin(&mut self, dataset: u32, part: u32)
+        requires resident { IsSome (held_at (blocks_of self.old) dataset part) }
+        requires few { pins_at (blocks_of self.old) dataset part < 2 ^ 64 - 1 }
+        ensures last { IfSome (held_at (blocks_of self.old) dataset part) (λ held.
             blocks_of self.new ≡ without dataset part (blocks_of self.old)
-            ++ held_of (pins_at (blocks_of self.old) dataset part + 1) (arc_value block) ∷ [])) }
-        ensures none { IfOk result (λ got. IfNone got (blocks_of self.new ≡ blocks_of self.old)) }
-        ensures err { OnErr result (blocks_of self.new ≡ blocks_of self.old) }
+            ++ record held { pins = held.pins + 1 } ∷ []) }
         ensures room { room_of self.new ≡ room_of self.old }
         ensures copies { copies_of self.new ≡ copies_of self.old }
         ensures disk { disk_of self.new ≡ disk_of self.old }
     {
-        self.memory.pin(dataset, part)
+        self.memory.pin(dataset, part);
     }
 
     /// Gives one pin of the block back.

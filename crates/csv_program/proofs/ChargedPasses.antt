@@ -7,7 +7,7 @@ use Rattle.pool_ledger.specs.Workers.{entries_of}
 use Rattle.pool_ledger.specs.declared.entry.Entry.{Entry}
 use Rattle.run_file.specs.declared.run.Run.{Run}
 use Rattle.spill_disk.specs.Files.{Files}
-use Rattle.turn_lock.specs.Passes.{LockId, PassState}
+use Rattle.turn_lock.specs.Passes.{LockId, WorkerView}
 use Rattle.consumer_trait.specs.States.{State}
 use Rattle.memory_core.specs.Caches.{RowsByName}
 use Rattle.memory_lock.specs.Crew.{AreWorkers, HasAll}
@@ -38,18 +38,18 @@ use Rattle.csv_program.proofs.Passed.{pass_is}
 -- ---- one pass
 
 -- what is known of each place's tasks is known of each partition's
-pub charged_by_part : (states : ℕ → List State) (files : ℕ → Option Files) (given : RowsByName) (pass : PassView) (count : ℕ) (workers : List PassState) → 1 ≤ count
-    → ((place k : ℕ) (any : PassState) → place < count → part_at count place k < parts_of pass → IsPartCharged (states place) (files place) given pass (part_at count place k) (own_of (get_or workers place any)))
-    → (part : ℕ) (any : PassState) → part < parts_of pass → IsPartCharged (states (part % count)) (files (part % count)) given pass part (own_of (get_or workers (part % count) any))
+pub charged_by_part : (states : ℕ → List State) (files : ℕ → Option Files) (given : RowsByName) (pass : PassView) (count : ℕ) (workers : List WorkerView) → 1 ≤ count
+    → ((place k : ℕ) (any : WorkerView) → place < count → part_at count place k < parts_of pass → IsPartCharged (states place) (files place) given pass (part_at count place k) (own_of (get_or workers place any)))
+    → (part : ℕ) (any : WorkerView) → part < parts_of pass → IsPartCharged (states (part % count)) (files (part % count)) given pass part (own_of (get_or workers (part % count) any))
 charged_by_part states files given pass count workers some held part any within =
     let is = part_is count part in
     subst (λ (p : ℕ). IsPartCharged (states (part % count)) (files (part % count)) given pass p (own_of (get_or workers (part % count) any))) is
     (held (part % count) (part / count) any (mod-lt part some) (subst (λ (p : ℕ). p < parts_of pass) (sym is) within))
 
 -- and stays so
-pub charged_later : (states : ℕ → List State) (files : ℕ → Option Files) (given : RowsByName) (pass : PassView) (count : ℕ) (mids news : List PassState) → 1 ≤ count → EachSees count mids news
-    → ((part : ℕ) (any : PassState) → part < parts_of pass → IsPartCharged (states (part % count)) (files (part % count)) given pass part (own_of (get_or mids (part % count) any)))
-    → (part : ℕ) (any : PassState) → part < parts_of pass → IsPartCharged (states (part % count)) (files (part % count)) given pass part (own_of (get_or news (part % count) any))
+pub charged_later : (states : ℕ → List State) (files : ℕ → Option Files) (given : RowsByName) (pass : PassView) (count : ℕ) (mids news : List WorkerView) → 1 ≤ count → EachSees count mids news
+    → ((part : ℕ) (any : WorkerView) → part < parts_of pass → IsPartCharged (states (part % count)) (files (part % count)) given pass part (own_of (get_or mids (part % count) any)))
+    → (part : ℕ) (any : WorkerView) → part < parts_of pass → IsPartCharged (states (part % count)) (files (part % count)) given pass part (own_of (get_or news (part % count) any))
 charged_later states files given pass count mids news some sees held part any within =
     part_later (states (part % count)) (files (part % count)) given pass part (get_or mids (part % count) any) (get_or news (part % count) any) (sees (part % count) any (mod-lt part some)) (held part any within)
 
@@ -60,7 +60,7 @@ enough_still : (states : List State) (plan : Plan) (k : ℕ) (rows : List Fields
 enough_still states plan k rows bytes bytes' more enough =
     all_charged_still (leasts_in states plan (queries_at plan k)) bytes bytes' (queries_at plan k) (made_in plan (queries_at plan k) (derived (chain_in plan) (dataset_at plan k) rows)) more enough
 
-pub each_charges_later : (states : ℕ → List State) (plan : Plan) (partitions : ℕ) (rows : ℕ → List Fields) (count passes : ℕ) (mids news : List PassState) → 1 ≤ count → EachSees count mids news
+pub each_charges_later : (states : ℕ → List State) (plan : Plan) (partitions : ℕ) (rows : ℕ → List Fields) (count passes : ℕ) (mids news : List WorkerView) → 1 ≤ count → EachSees count mids news
     → EachCharges states plan partitions rows count passes mids → EachCharges states plan partitions rows count passes news
 each_charges_later states plan partitions rows count passes mids news some sees held pass part any below within =
     let task = part + pass * (partitions + 1) in
@@ -69,9 +69,9 @@ each_charges_later states plan partitions rows count passes mids news some sees 
     enough_still (states (part % count)) plan pass (rows part) (most_held (own_of mid) task) (most_held (own_of new) task) (most_later task mid new (sees (part % count) any (mod-lt part some))) (held pass part any below within)
 
 -- one pass more, whose consumers are those of the run's start
-pub each_charges_more : (states states' : ℕ → List State) (files : ℕ → Option Files) (given : RowsByName) (plan : Plan) (k dataset : ℕ) (queries : List ℕ) (parts : List Run) (part_rows first : ℕ) (rows : ℕ → List Fields) (count : ℕ) (mids news : List PassState)
+pub each_charges_more : (states states' : ℕ → List State) (files : ℕ → Option Files) (given : RowsByName) (plan : Plan) (k dataset : ℕ) (queries : List ℕ) (parts : List Run) (part_rows first : ℕ) (rows : ℕ → List Fields) (count : ℕ) (mids news : List WorkerView)
     → 1 ≤ count → dataset ≡ dataset_at plan k → queries ≡ queries_at plan k → first ≡ k * (length parts + 1) → ((place : ℕ) → KeepsConsumers (states place) (states' place)) → HoldsParts files given plan parts part_rows count rows → EachSees count mids news
-    → ((part : ℕ) (any : PassState) → part < length parts → IsPartCharged (states' (part % count)) (files (part % count)) given (pass_with plan dataset queries parts part_rows first) part (own_of (get_or news (part % count) any)))
+    → ((part : ℕ) (any : WorkerView) → part < length parts → IsPartCharged (states' (part % count)) (files (part % count)) given (pass_with plan dataset queries parts part_rows first) part (own_of (get_or news (part % count) any)))
     → EachCharges states plan (length parts) rows count k mids → EachCharges states plan (length parts) rows count (k + 1) news
 each_charges_more states states' files given plan k dataset queries parts part_rows first rows count mids news some is are starts kept holds sees held before p part any below within = elim (cases_lt p k) [
   | inl low ↦ each_charges_later states plan (length parts) rows count k mids news some sees before p part any low within
@@ -89,7 +89,7 @@ each_charges_more states states' files given plan k dataset queries parts part_r
 ]
 
 -- and the journal has of each worker the entries that it made
-pub journal_charges : (states : ℕ → List State) (plan : Plan) (partitions : ℕ) (rows : ℕ → List Fields) (count : ℕ) (lock : LockId) (workers : List PassState) (any : PassState) (journal : List Entry) → 1 ≤ count → AreWorkers lock count workers → HasAll workers journal
+pub journal_charges : (states : ℕ → List State) (plan : Plan) (partitions : ℕ) (rows : ℕ → List Fields) (count : ℕ) (lock : LockId) (workers : List WorkerView) (any : WorkerView) (journal : List Entry) → 1 ≤ count → AreWorkers lock count workers → HasAll workers journal
     → EachCharges states plan partitions rows count (length (passes_in plan)) workers → ChargesPlan states plan partitions rows count journal
 journal_charges states plan partitions rows count lock workers any journal some are all held pass part below within =
     let low = mod-lt part some in

@@ -9,7 +9,7 @@ use Rattle.pool_ledger.specs.History.{open_task, was_begun}
 use Rattle.pool_ledger.specs.Journal.{history_of}
 use Rattle.pool_ledger.specs.Workers.{entries_of}
 use Rattle.pool_ledger.specs.declared.entry.Entry.{Entry}
-use Rattle.turn_lock.specs.Passes.{LockId, PassState}
+use Rattle.turn_lock.specs.Passes.{LockId, WorkerView}
 use Rattle.memory_lock.specs.Crew.{AreNew, AreWorkers}
 use Rattle.memory_lock.specs.Workers.{HasNoPin, IsFree, KeepsPin, SeesMore, own_entries, own_of}
 use Rattle.task_runner.specs.AtOnce.{MayDoAll}
@@ -45,11 +45,11 @@ own_final owner workers partitions first owns =
 
 -- ---- new workers
 
-pub own_none : (lock : LockId) (workers : ℕ) (olds : List PassState) → AreWorkers lock workers olds → AreNew olds → (w : ℕ) (any : PassState) → w < workers → own_entries (get_or olds w any) ≡ []
+pub own_none : (lock : LockId) (workers : ℕ) (olds : List WorkerView) → AreWorkers lock workers olds → AreNew olds → (w : ℕ) (any : WorkerView) → w < workers → own_entries (get_or olds w any) ≡ []
 own_none lock workers olds are new w any below = ap (λ (es : List Entry). entries_of (get_or olds w any).number es) (new w any (omega (arith, below, are.0)))
 
 -- new workers did nothing
-pub new_between : (owner : ℕ → Option ℕ) (lock : LockId) (workers limit : ℕ) (olds : List PassState) → AreWorkers lock workers olds → AreNew olds → AreBetween lock owner workers limit olds
+pub new_between : (owner : ℕ → Option ℕ) (lock : LockId) (workers limit : ℕ) (olds : List WorkerView) → AreWorkers lock workers olds → AreNew olds → AreBetween lock owner workers limit olds
 new_between owner lock workers limit olds are new = record {
   workers_are = are;
   free = λ w any below. ap (λ (es : List Entry). open_task (history_of es) (get_or olds w any).number) (own_none lock workers olds are new w any below);
@@ -58,11 +58,11 @@ new_between owner lock workers limit olds are new = record {
 }
 
 -- no task from the limit on was begun
-pub fresh_each : (owner : ℕ → Option ℕ) (workers limit task : ℕ) (olds : List PassState) → EachDoes owner workers limit olds → limit ≤ task → (w : ℕ) (any : PassState) → w < workers → was_begun (own_of (get_or olds w any)) task ≡ false
+pub fresh_each : (owner : ℕ → Option ℕ) (workers limit task : ℕ) (olds : List WorkerView) → EachDoes owner workers limit olds → limit ≤ task → (w : ℕ) (any : WorkerView) → w < workers → was_begun (own_of (get_or olds w any)) task ≡ false
 fresh_each owner workers limit task olds did most w any below = fresh_from owner w limit task (own_entries (get_or olds w any)) most (did w any below)
 
 -- workers between two tasks may do all tasks of a pass that are theirs
-pub may_do : (owner : ℕ → Option ℕ) (lock : LockId) (workers : ℕ) (pass : PassView) (olds : List PassState) → OwnsPass owner workers (parts_of pass) pass.first → 0 < workers → AreBetween lock owner workers pass.first olds → MayDoAll lock owner pass olds
+pub may_do : (owner : ℕ → Option ℕ) (lock : LockId) (workers : ℕ) (pass : PassView) (olds : List WorkerView) → OwnsPass owner workers (parts_of pass) pass.first → 0 < workers → AreBetween lock owner workers pass.first olds → MayDoAll lock owner pass olds
 may_do owner lock workers pass olds owns some are =
     let size : length olds ≡ workers = are.workers_are.0 in
     -- the worker of a partition
@@ -79,8 +79,8 @@ may_do owner lock workers pass olds owns some are =
 
 -- ---- the partitions
 
-pub tasks_each : (owner : ℕ → Option ℕ) (lock : LockId) (workers partitions first : ℕ) (olds mids : List PassState) → 0 < workers → OwnsPass owner workers partitions first → AreWorkers lock workers olds → EachDoes owner workers first olds
-    → ((w : ℕ) (any : PassState) → w < workers → DoesSome first workers w partitions (get_or olds w any) (get_or mids w any)) → EachDoes owner workers (first + partitions) mids
+pub tasks_each : (owner : ℕ → Option ℕ) (lock : LockId) (workers partitions first : ℕ) (olds mids : List WorkerView) → 0 < workers → OwnsPass owner workers partitions first → AreWorkers lock workers olds → EachDoes owner workers first olds
+    → ((w : ℕ) (any : WorkerView) → w < workers → DoesSome first workers w partitions (get_or olds w any) (get_or mids w any)) → EachDoes owner workers (first + partitions) mids
 tasks_each owner lock workers partitions first olds mids some owns are did more w any below =
     let old = get_or olds w any in
     let adds = more w any below in
@@ -92,8 +92,8 @@ tasks_each owner lock workers partitions first olds mids some owns are did more 
     (λ j low. let inside = within j low in omega (arith, inside))
     (λ j low. own_part owner workers partitions first (part_at workers w j) owns (within j low) ∙ ap Some (worker_of workers w j below)) tasks (did w any below))
 
-pub begun_each : (owner : ℕ → Option ℕ) (lock : LockId) (workers partitions first : ℕ) (olds mids : List PassState) → OwnsPass owner workers partitions first → AreWorkers lock workers olds → EachBegins owner workers first olds
-    → ((w : ℕ) (any : PassState) → w < workers → DoesAll first workers w partitions (get_or olds w any) (get_or mids w any)) → EachBegins owner workers (first + partitions) mids
+pub begun_each : (owner : ℕ → Option ℕ) (lock : LockId) (workers partitions first : ℕ) (olds mids : List WorkerView) → OwnsPass owner workers partitions first → AreWorkers lock workers olds → EachBegins owner workers first olds
+    → ((w : ℕ) (any : WorkerView) → w < workers → DoesAll first workers w partitions (get_or olds w any) (get_or mids w any)) → EachBegins owner workers (first + partitions) mids
 begun_each owner lock workers partitions first olds mids owns are began more w any below =
     let old = get_or olds w any in
     let adds = more w any below in
@@ -104,7 +104,7 @@ begun_each owner lock workers partitions first olds mids owns are began more w a
 
 -- ---- and the final one
 
-final_does : (owner : ℕ → Option ℕ) (partitions first : ℕ) (mid after : PassState) → mid.number ≡ 0 → owner (partitions + first) ≡ Some 0 → MayWork (partitions + first) mid after
+final_does : (owner : ℕ → Option ℕ) (partitions first : ℕ) (mid after : WorkerView) → mid.number ≡ 0 → owner (partitions + first) ≡ Some 0 → MayWork (partitions + first) mid after
     → DoesOwn owner 0 (first + partitions) (own_entries mid) → DoesOwn owner 0 (first + partitions + 1) (own_entries after)
 final_does owner partitions first mid after number owns may did = elim may [
   | inl same ↦ subst (DoesOwn owner 0 (first + partitions + 1)) (sym same) (does_raise owner 0 (first + partitions) (first + partitions + 1) (own_entries mid) (omega arith) did)
@@ -115,18 +115,18 @@ final_does owner partitions first mid after number owns may did = elim may [
 ]
 
 -- each worker did its tasks, and the first of them maybe the final one
-pub final_each : (owner : ℕ → Option ℕ) (lock : LockId) (workers partitions first : ℕ) (mids news : List PassState) → OwnsPass owner workers partitions first → AreWorkers lock workers mids → EachDoes owner workers (first + partitions) mids
-    → ((any : PassState) → MayWork (partitions + first) (get_or mids 0 any) (get_or news 0 any)) → ((w : ℕ) (any : PassState) → w ≢ 0 → get_or news w any ≡ get_or mids w any)
+pub final_each : (owner : ℕ → Option ℕ) (lock : LockId) (workers partitions first : ℕ) (mids news : List WorkerView) → OwnsPass owner workers partitions first → AreWorkers lock workers mids → EachDoes owner workers (first + partitions) mids
+    → ((any : WorkerView) → MayWork (partitions + first) (get_or mids 0 any) (get_or news 0 any)) → ((w : ℕ) (any : WorkerView) → w ≢ 0 → get_or news w any ≡ get_or mids w any)
     → EachDoes owner workers (first + partitions + 1) news
 final_each owner lock workers partitions first mids news owns are did may others zero any below =
     final_does owner partitions first (get_or mids 0 any) (get_or news 0 any) (are.1 0 any below).number_is (own_final owner workers partitions first owns) (may any) (did 0 any below)
 final_each owner lock workers partitions first mids news owns are did may others (suc w) any below =
-    subst (λ (s : PassState). DoesOwn owner (suc w) (first + partitions + 1) (own_entries s)) (sym (others (suc w) any (λ same. absurd (omega (arith, same)))))
+    subst (λ (s : WorkerView). DoesOwn owner (suc w) (first + partitions + 1) (own_entries s)) (sym (others (suc w) any (λ same. absurd (omega (arith, same)))))
     (does_raise owner (suc w) (first + partitions) (first + partitions + 1) (own_entries (get_or mids (suc w) any)) (omega arith) (did (suc w) any below))
 
 -- each worker began all that is its own
-pub begun_final : (owner : ℕ → Option ℕ) (lock : LockId) (workers partitions first : ℕ) (mids news : List PassState) → OwnsPass owner workers partitions first → AreWorkers lock workers mids → EachBegins owner workers (first + partitions) mids
-    → ((any : PassState) → Works (partitions + first) (get_or mids 0 any) (get_or news 0 any)) → ((w : ℕ) (any : PassState) → w ≢ 0 → get_or news w any ≡ get_or mids w any)
+pub begun_final : (owner : ℕ → Option ℕ) (lock : LockId) (workers partitions first : ℕ) (mids news : List WorkerView) → OwnsPass owner workers partitions first → AreWorkers lock workers mids → EachBegins owner workers (first + partitions) mids
+    → ((any : WorkerView) → Works (partitions + first) (get_or mids 0 any) (get_or news 0 any)) → ((w : ℕ) (any : WorkerView) → w ≢ 0 → get_or news w any ≡ get_or mids w any)
     → EachBegins owner workers (first + partitions + 1) news
 begun_final owner lock workers partitions first mids news owns are began works others zero any below =
     let mid = get_or mids 0 any in
@@ -135,14 +135,14 @@ begun_final owner lock workers partitions first mids news owns are began works o
     (begins_final owner first partitions 0 (own_entries mid) did.0 (subst (λ (n : ℕ). IsTaskOf n (partitions + first) did.0) (are.1 0 any below).number_is did.1) (began 0 any below))
 begun_final owner lock workers partitions first mids news owns are began works others (suc w) any below =
     let apart : suc w ≢ 0 = λ same. absurd (omega (arith, same)) in
-    subst (λ (s : PassState). BeginsOwn owner (suc w) (first + partitions + 1) (own_entries s)) (sym (others (suc w) any apart))
+    subst (λ (s : WorkerView). BeginsOwn owner (suc w) (first + partitions + 1) (own_entries s)) (sym (others (suc w) any apart))
     (begins_other owner first partitions (suc w) (own_entries (get_or mids (suc w) any)) (own_final owner workers partitions first owns) apart (began (suc w) any below))
 
 -- ---- a whole pass
 
 -- the workers of a manager that have seen more are its workers still
-pub still_workers : (lock : LockId) (workers : ℕ) (olds mids : List PassState) → AreWorkers lock workers olds → length mids ≡ length olds → EachSees workers olds mids
-    → ((w : ℕ) (any : PassState) → w < workers → (get_or mids w any).base ≡ None) → AreWorkers lock workers mids
+pub still_workers : (lock : LockId) (workers : ℕ) (olds mids : List WorkerView) → AreWorkers lock workers olds → length mids ≡ length olds → EachSees workers olds mids
+    → ((w : ℕ) (any : WorkerView) → w < workers → (get_or mids w any).base ≡ None) → AreWorkers lock workers mids
 still_workers lock workers olds mids were same sees rests = (
   same ∙ were.0,
   λ w any below.
@@ -159,9 +159,9 @@ still_workers lock workers olds mids were same sees rests = (
 )
 
 -- the workers did their tasks, and not the final one
-pub between_tasks : (owner : ℕ → Option ℕ) (lock : LockId) (workers partitions first : ℕ) (olds mids : List PassState) → 0 < workers → OwnsPass owner workers partitions first → AreBetween lock owner workers first olds → AreWorkers lock workers mids
-    → ((w : ℕ) (any : PassState) → w < workers → DoesSome first workers w partitions (get_or olds w any) (get_or mids w any)) → ((w : ℕ) (any : PassState) → w < workers → IsFree (get_or mids w any))
-    → ((w : ℕ) (any : PassState) → w < workers → KeepsPin (get_or olds w any) (get_or mids w any)) → AreBetween lock owner workers (first + partitions) mids
+pub between_tasks : (owner : ℕ → Option ℕ) (lock : LockId) (workers partitions first : ℕ) (olds mids : List WorkerView) → 0 < workers → OwnsPass owner workers partitions first → AreBetween lock owner workers first olds → AreWorkers lock workers mids
+    → ((w : ℕ) (any : WorkerView) → w < workers → DoesSome first workers w partitions (get_or olds w any) (get_or mids w any)) → ((w : ℕ) (any : WorkerView) → w < workers → IsFree (get_or mids w any))
+    → ((w : ℕ) (any : WorkerView) → w < workers → KeepsPin (get_or olds w any) (get_or mids w any)) → AreBetween lock owner workers (first + partitions) mids
 between_tasks owner lock workers partitions first olds mids some owns old are more free pins = record {
   workers_are = are;
   free = free;
@@ -170,10 +170,10 @@ between_tasks owner lock workers partitions first olds mids some owns old are mo
 }
 
 -- the same, of what is told of all workers that there are
-pub between_ran : (owner : ℕ → Option ℕ) (lock : LockId) (workers partitions first : ℕ) (olds mids : List PassState) → 0 < workers → OwnsPass owner workers partitions first → AreBetween lock owner workers first olds
-    → length mids ≡ length olds → ((w : ℕ) (any : PassState) → w < length olds → (get_or mids w any).base ≡ None) → ((w : ℕ) (any : PassState) → w < length olds → SeesMore (get_or olds w any) (get_or mids w any))
-    → ((w : ℕ) (any : PassState) → w < length olds → DoesSome first (length olds) w partitions (get_or olds w any) (get_or mids w any)) → ((w : ℕ) (any : PassState) → w < length olds → IsFree (get_or mids w any))
-    → ((w : ℕ) (any : PassState) → w < length olds → KeepsPin (get_or olds w any) (get_or mids w any)) → AreBetween lock owner workers (first + partitions) mids
+pub between_ran : (owner : ℕ → Option ℕ) (lock : LockId) (workers partitions first : ℕ) (olds mids : List WorkerView) → 0 < workers → OwnsPass owner workers partitions first → AreBetween lock owner workers first olds
+    → length mids ≡ length olds → ((w : ℕ) (any : WorkerView) → w < length olds → (get_or mids w any).base ≡ None) → ((w : ℕ) (any : WorkerView) → w < length olds → SeesMore (get_or olds w any) (get_or mids w any))
+    → ((w : ℕ) (any : WorkerView) → w < length olds → DoesSome first (length olds) w partitions (get_or olds w any) (get_or mids w any)) → ((w : ℕ) (any : WorkerView) → w < length olds → IsFree (get_or mids w any))
+    → ((w : ℕ) (any : WorkerView) → w < length olds → KeepsPin (get_or olds w any) (get_or mids w any)) → AreBetween lock owner workers (first + partitions) mids
 between_ran owner lock workers partitions first olds mids some owns old same rests sees more free pins =
     let size : length olds ≡ workers = old.workers_are.0 in
     between_tasks owner lock workers partitions first olds mids some owns old
@@ -181,7 +181,7 @@ between_ran owner lock workers partitions first olds mids some owns old same res
     (λ w any below. subst (λ (n : ℕ). DoesSome first n w partitions (get_or olds w any) (get_or mids w any)) size (more w any (omega (arith, below, size))))
     (λ w any below. free w any (omega (arith, below, size))) (λ w any below. pins w any (omega (arith, below, size)))
 
-pub between_more : (owner : ℕ → Option ℕ) (lock : LockId) (workers limit higher : ℕ) (states : List PassState) → limit ≤ higher → AreBetween lock owner workers limit states → AreBetween lock owner workers higher states
+pub between_more : (owner : ℕ → Option ℕ) (lock : LockId) (workers limit higher : ℕ) (states : List WorkerView) → limit ≤ higher → AreBetween lock owner workers limit states → AreBetween lock owner workers higher states
 between_more owner lock workers limit higher states most are = record {
   workers_are = are.workers_are;
   free = are.free;
@@ -190,9 +190,9 @@ between_more owner lock workers limit higher states most are = record {
 }
 
 -- and maybe the final one
-pub between_passes : (owner : ℕ → Option ℕ) (lock : LockId) (workers partitions first : ℕ) (mids news : List PassState) → OwnsPass owner workers partitions first → AreBetween lock owner workers (first + partitions) mids → AreWorkers lock workers news
-    → ((any : PassState) → MayWork (partitions + first) (get_or mids 0 any) (get_or news 0 any)) → ((any : PassState) → IsFree (get_or news 0 any)) → ((any : PassState) → KeepsPin (get_or mids 0 any) (get_or news 0 any))
-    → ((w : ℕ) (any : PassState) → w ≢ 0 → get_or news w any ≡ get_or mids w any) → AreBetween lock owner workers (first + partitions + 1) news
+pub between_passes : (owner : ℕ → Option ℕ) (lock : LockId) (workers partitions first : ℕ) (mids news : List WorkerView) → OwnsPass owner workers partitions first → AreBetween lock owner workers (first + partitions) mids → AreWorkers lock workers news
+    → ((any : WorkerView) → MayWork (partitions + first) (get_or mids 0 any) (get_or news 0 any)) → ((any : WorkerView) → IsFree (get_or news 0 any)) → ((any : WorkerView) → KeepsPin (get_or mids 0 any) (get_or news 0 any))
+    → ((w : ℕ) (any : WorkerView) → w ≢ 0 → get_or news w any ≡ get_or mids w any) → AreBetween lock owner workers (first + partitions + 1) news
 between_passes owner lock workers partitions first mids news owns mid are may free pin others = record {
   workers_are = are;
   free = free_each;
@@ -200,32 +200,32 @@ between_passes owner lock workers partitions first mids news owns mid are may fr
   does = final_each owner lock workers partitions first mids news owns mid.workers_are mid.does may others;
 }
   where
-    free_each : (w : ℕ) (any : PassState) → w < workers → IsFree (get_or news w any)
+    free_each : (w : ℕ) (any : WorkerView) → w < workers → IsFree (get_or news w any)
     free_each zero any below = free any
     free_each (suc w) any below = subst IsFree (sym (others (suc w) any (λ same. absurd (omega (arith, same))))) (mid.free (suc w) any below)
 
-    pin_each : (w : ℕ) (any : PassState) → w < workers → HasNoPin (get_or news w any)
+    pin_each : (w : ℕ) (any : WorkerView) → w < workers → HasNoPin (get_or news w any)
     pin_each zero any below = pin any ∙ mid.unpinned 0 any below
     pin_each (suc w) any below = subst HasNoPin (sym (others (suc w) any (λ same. absurd (omega (arith, same))))) (mid.unpinned (suc w) any below)
 
 -- each worker began all tasks of the pass that are its own
-pub begun_pass : (owner : ℕ → Option ℕ) (lock : LockId) (workers partitions first : ℕ) (olds mids news : List PassState) → OwnsPass owner workers partitions first → AreWorkers lock workers olds → AreWorkers lock workers mids → EachBegins owner workers first olds
-    → ((w : ℕ) (any : PassState) → w < workers → DoesAll first workers w partitions (get_or olds w any) (get_or mids w any)) → ((any : PassState) → Works (partitions + first) (get_or mids 0 any) (get_or news 0 any))
-    → ((w : ℕ) (any : PassState) → w ≢ 0 → get_or news w any ≡ get_or mids w any) → EachBegins owner workers (first + partitions + 1) news
+pub begun_pass : (owner : ℕ → Option ℕ) (lock : LockId) (workers partitions first : ℕ) (olds mids news : List WorkerView) → OwnsPass owner workers partitions first → AreWorkers lock workers olds → AreWorkers lock workers mids → EachBegins owner workers first olds
+    → ((w : ℕ) (any : WorkerView) → w < workers → DoesAll first workers w partitions (get_or olds w any) (get_or mids w any)) → ((any : WorkerView) → Works (partitions + first) (get_or mids 0 any) (get_or news 0 any))
+    → ((w : ℕ) (any : WorkerView) → w ≢ 0 → get_or news w any ≡ get_or mids w any) → EachBegins owner workers (first + partitions + 1) news
 begun_pass owner lock workers partitions first olds mids news owns old mid began more works others =
     begun_final owner lock workers partitions first mids news owns mid (begun_each owner lock workers partitions first olds mids owns old began more) works others
 
 -- ---- blocks that are removed
 
 -- what the first worker clears between two tasks changes nothing of the others
-pub cleared_each : (P : ℕ → PassState → Type 0) (datasets : List ℕ) (workers : ℕ) (mids news : List PassState) → ((any : PassState) → Clears datasets (get_or mids 0 any) (get_or news 0 any))
-    → ((w : ℕ) (any : PassState) → w ≢ 0 → get_or news w any ≡ get_or mids w any) → ((before after : PassState) → Clears datasets before after → P 0 before → P 0 after)
-    → ((w : ℕ) (any : PassState) → w < workers → P w (get_or mids w any)) → (w : ℕ) (any : PassState) → w < workers → P w (get_or news w any)
+pub cleared_each : (P : ℕ → WorkerView → Type 0) (datasets : List ℕ) (workers : ℕ) (mids news : List WorkerView) → ((any : WorkerView) → Clears datasets (get_or mids 0 any) (get_or news 0 any))
+    → ((w : ℕ) (any : WorkerView) → w ≢ 0 → get_or news w any ≡ get_or mids w any) → ((before after : WorkerView) → Clears datasets before after → P 0 before → P 0 after)
+    → ((w : ℕ) (any : WorkerView) → w < workers → P w (get_or mids w any)) → (w : ℕ) (any : WorkerView) → w < workers → P w (get_or news w any)
 cleared_each P datasets workers mids news clears others stays were zero any below = stays (get_or mids 0 any) (get_or news 0 any) (clears any) (were 0 any below)
 cleared_each P datasets workers mids news clears others stays were (suc w) any below = subst (P (suc w)) (sym (others (suc w) any (λ same. absurd (omega (arith, same))))) (were (suc w) any below)
 
-pub between_cleared : (owner : ℕ → Option ℕ) (lock : LockId) (workers limit : ℕ) (datasets : List ℕ) (mids news : List PassState) → AreWorkers lock workers news → ((any : PassState) → Clears datasets (get_or mids 0 any) (get_or news 0 any))
-    → ((w : ℕ) (any : PassState) → w ≢ 0 → get_or news w any ≡ get_or mids w any) → AreBetween lock owner workers limit mids → AreBetween lock owner workers limit news
+pub between_cleared : (owner : ℕ → Option ℕ) (lock : LockId) (workers limit : ℕ) (datasets : List ℕ) (mids news : List WorkerView) → AreWorkers lock workers news → ((any : WorkerView) → Clears datasets (get_or mids 0 any) (get_or news 0 any))
+    → ((w : ℕ) (any : WorkerView) → w ≢ 0 → get_or news w any ≡ get_or mids w any) → AreBetween lock owner workers limit mids → AreBetween lock owner workers limit news
 between_cleared owner lock workers limit datasets mids news are clears others mid = record {
   workers_are = are;
   free = cleared_each (λ w s. IsFree s) datasets workers mids news clears others (λ before after cleared free. cleared.task ∙ free) mid.free;
@@ -234,8 +234,8 @@ between_cleared owner lock workers limit datasets mids news are clears others mi
       (λ before after cleared did. subst (DoesOwn owner 0 limit) (sym cleared.adds) (does_cleared owner 0 limit before.number datasets (own_entries before) cleared.removed cleared.all did)) mid.does;
 }
 
-pub begun_cleared : (owner : ℕ → Option ℕ) (workers limit : ℕ) (datasets : List ℕ) (mids news : List PassState) → ((any : PassState) → Clears datasets (get_or mids 0 any) (get_or news 0 any))
-    → ((w : ℕ) (any : PassState) → w ≢ 0 → get_or news w any ≡ get_or mids w any) → EachBegins owner workers limit mids → EachBegins owner workers limit news
+pub begun_cleared : (owner : ℕ → Option ℕ) (workers limit : ℕ) (datasets : List ℕ) (mids news : List WorkerView) → ((any : WorkerView) → Clears datasets (get_or mids 0 any) (get_or news 0 any))
+    → ((w : ℕ) (any : WorkerView) → w ≢ 0 → get_or news w any ≡ get_or mids w any) → EachBegins owner workers limit mids → EachBegins owner workers limit news
 begun_cleared owner workers limit datasets mids news clears others began =
     cleared_each (λ w s. BeginsOwn owner w limit (own_entries s)) datasets workers mids news clears others
     (λ before after cleared began. subst (BeginsOwn owner 0 limit) (sym cleared.adds) (begins_cleared owner 0 limit before.number datasets (own_entries before) cleared.removed cleared.all began)) began
@@ -243,23 +243,23 @@ begun_cleared owner workers limit datasets mids news clears others began =
 -- ---- what they have seen
 
 -- only the first went on
-pub sees_first : (workers : ℕ) (mids news : List PassState) → ((any : PassState) → SeesMore (get_or mids 0 any) (get_or news 0 any))
-    → ((w : ℕ) (any : PassState) → w ≢ 0 → get_or news w any ≡ get_or mids w any) → EachSees workers mids news
+pub sees_first : (workers : ℕ) (mids news : List WorkerView) → ((any : WorkerView) → SeesMore (get_or mids 0 any) (get_or news 0 any))
+    → ((w : ℕ) (any : WorkerView) → w ≢ 0 → get_or news w any ≡ get_or mids w any) → EachSees workers mids news
 sees_first workers mids news sees others zero any below = sees any
 sees_first workers mids news sees others (suc w) any below =
-    subst (λ (s : PassState). SeesMore (get_or mids (suc w) any) s) (sym (others (suc w) any (λ same. absurd (omega (arith, same))))) (sees_itself (get_or mids (suc w) any))
+    subst (λ (s : WorkerView). SeesMore (get_or mids (suc w) any) s) (sym (others (suc w) any (λ same. absurd (omega (arith, same))))) (sees_itself (get_or mids (suc w) any))
 
-pub sees_cleared : (datasets : List ℕ) (workers : ℕ) (mids news : List PassState) → ((any : PassState) → Clears datasets (get_or mids 0 any) (get_or news 0 any))
-    → ((w : ℕ) (any : PassState) → w ≢ 0 → get_or news w any ≡ get_or mids w any) → EachSees workers mids news
+pub sees_cleared : (datasets : List ℕ) (workers : ℕ) (mids news : List WorkerView) → ((any : WorkerView) → Clears datasets (get_or mids 0 any) (get_or news 0 any))
+    → ((w : ℕ) (any : WorkerView) → w ≢ 0 → get_or news w any ≡ get_or mids w any) → EachSees workers mids news
 sees_cleared datasets workers mids news clears others = sees_first workers mids news (λ any. (clears any).sees) others
 
-pub sees_then : (workers : ℕ) (olds mids news : List PassState) → EachSees workers olds mids → EachSees workers mids news → EachSees workers olds news
+pub sees_then : (workers : ℕ) (olds mids news : List WorkerView) → EachSees workers olds mids → EachSees workers mids news → EachSees workers olds news
 sees_then workers olds mids news first last w any below = sees_more (get_or olds w any) (get_or mids w any) (get_or news w any) (first w any below) (last w any below)
 
 -- ---- the worker that was lent
 
 -- what the worker that was lent did, the first of the list did
-pub works_at : (task : ℕ) (olds : List PassState) (worker worker' any : PassState) → 0 < length olds → worker ≡ get_or olds 0 worker → Works task worker worker' → Works task (get_or olds 0 any) (get_or (set olds 0 worker') 0 any)
+pub works_at : (task : ℕ) (olds : List WorkerView) (worker worker' any : WorkerView) → 0 < length olds → worker ≡ get_or olds 0 worker → Works task worker worker' → Works task (get_or olds 0 any) (get_or (set olds 0 worker') 0 any)
 works_at task olds worker worker' any some is works =
     let old : worker ≡ get_or olds 0 any = is ∙ get_or_default olds 0 worker any some in
-    subst (λ (w : PassState). Works task (get_or olds 0 any) w) (sym (get_or-set_same olds 0 worker' any some)) (subst (λ (w : PassState). Works task w worker') old works)
+    subst (λ (w : WorkerView). Works task (get_or olds 0 any) w) (sym (get_or-set_same olds 0 worker' any some)) (subst (λ (w : WorkerView). Works task w worker') old works)

@@ -14,7 +14,7 @@ use Rattle.pool_ledger.specs.declared.entry.Event.{Event}
 use Rattle.pool_ledger.specs.declared.entry.Event.TheVariants.{Begin}
 use Rattle.pool_laws.specs.Owners.{IsByOwner}
 use Rattle.pool_laws.specs.SafeJournal.{IsSafeJournal}
-use Rattle.turn_lock.specs.Passes.{LockId, PassState}
+use Rattle.turn_lock.specs.Passes.{LockId, WorkerView}
 use Rattle.memory_lock.proofs.Staying.{all_imply}
 use Rattle.memory_lock.specs.Crew.{AreWorkers, HasAll, new_worker}
 use Rattle.memory_lock.specs.Workers.{own_entries, own_of}
@@ -29,7 +29,7 @@ use Rattle.csv_program.proofs.Owners.{owner_is}
 use Rattle.csv_program.proofs.Journals.{all_known, begun_least, ended_all, none_of, owned_all}
 
 -- a worker's own entries are those that the journal has of it
-pub whole_of : (lock : LockId) (workers : ℕ) (news : List PassState) (journal : List Entry) → AreWorkers lock workers news → HasAll news journal → (w : ℕ) (any : PassState) → w < workers → entries_of w journal ≡ own_entries (get_or news w any)
+pub whole_of : (lock : LockId) (workers : ℕ) (news : List WorkerView) (journal : List Entry) → AreWorkers lock workers news → HasAll news journal → (w : ℕ) (any : WorkerView) → w < workers → entries_of w journal ≡ own_entries (get_or news w any)
 whole_of lock workers news journal are whole w any below =
     (whole w any (omega (arith, below, are.0))).own w (0, omega arith, refl) ∙ ap (λ (n : ℕ). entries_of n (get_or news w any).seen) (sym (are.1 w any below).number_is)
 
@@ -39,7 +39,7 @@ by_same owner owner' w same (Begin task) is = sym (same task) ∙ is
 by_same owner owner' w same _ is = tt
 
 -- what each worker did makes a journal of the plan
-pub follows : (setup : Sizes) (lock : LockId) (owner : ℕ → Option ℕ) (workers partitions passes limit : ℕ) (news : List PassState) (journal : List Entry) → workers ≡ setup.workers → ((task : ℕ) → owner task ≡ owner_of 0 0 workers partitions passes task)
+pub follows : (setup : Sizes) (lock : LockId) (owner : ℕ → Option ℕ) (workers partitions passes limit : ℕ) (news : List WorkerView) (journal : List Entry) → workers ≡ setup.workers → ((task : ℕ) → owner task ≡ owner_of 0 0 workers partitions passes task)
     → AreWorkers lock workers news → HasAll news journal → IsLegal setup (history_of journal) → EachDoes owner workers limit news → FollowsPlan (owner_of 0 0 workers partitions passes) journal
 follows setup lock owner workers partitions passes limit news journal size owns are whole legal did =
     let known : AllByRecursion (λ entry. entry.worker < workers) journal = subst (λ (n : ℕ). AllByRecursion (λ entry. entry.worker < n) journal) (sym size) (all_known setup journal legal) in
@@ -63,7 +63,7 @@ worker_known workers partitions place some = elim (cases_lt place partitions) [
 ]
 
 -- where each worker began all of its own, each task was begun once
-pub begins_all : (setup : Sizes) (lock : LockId) (owner : ℕ → Option ℕ) (workers partitions passes : ℕ) (news : List PassState) (journal : List Entry) → 0 < workers → ((task : ℕ) → owner task ≡ owner_of 0 0 workers partitions passes task)
+pub begins_all : (setup : Sizes) (lock : LockId) (owner : ℕ → Option ℕ) (workers partitions passes : ℕ) (news : List WorkerView) (journal : List Entry) → 0 < workers → ((task : ℕ) → owner task ≡ owner_of 0 0 workers partitions passes task)
     → AreWorkers lock workers news → HasAll news journal → IsSafeJournal setup journal → EachBegins owner workers (passes * (partitions + 1)) news → BeginsAll 0 partitions passes journal
 begins_all setup lock owner workers partitions passes news journal some owns are whole safe began task within =
     let w = worker_at workers partitions (task % (partitions + 1)) in
@@ -89,8 +89,8 @@ room_more says tells (Err (Damaged damage)) more room = tt
 room_more says tells (Err NoMemory) more room = tt
 
 -- want of room that a worker's own entries show is in the journal
-pub shows_short : (sizes setup : Sizes) (lock : LockId) (workers : ℕ) (news : List PassState) (journal : List Entry) → setup ≡ sizes → AreWorkers lock workers news → HasAll news journal
-    → (asked held floor : ℕ) → ((w task : ℕ) × (w < workers) × ((any : PassState) → ShowsNoRoom sizes (own_of (get_or news w any)) task asked held floor)) → ShowsShort setup journal asked held floor
+pub shows_short : (sizes setup : Sizes) (lock : LockId) (workers : ℕ) (news : List WorkerView) (journal : List Entry) → setup ≡ sizes → AreWorkers lock workers news → HasAll news journal
+    → (asked held floor : ℕ) → ((w task : ℕ) × (w < workers) × ((any : WorkerView) → ShowsNoRoom sizes (own_of (get_or news w any)) task asked held floor)) → ShowsShort setup journal asked held floor
 shows_short sizes setup lock workers news journal same are whole asked held floor shows =
     let any = new_worker lock 0 0 in
     let is = whole_of lock workers news journal are whole shows.0 any shows.2 in

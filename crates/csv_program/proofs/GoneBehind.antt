@@ -8,7 +8,7 @@ use Rattle.pool_ledger.specs.History.{end_of, ends, total}
 use Rattle.pool_ledger.specs.Journal.{history_of}
 use Rattle.pool_ledger.specs.declared.entry.Entry.{Entry}
 use Rattle.turn_lock.proofs.Prefixes.{prefix_trans}
-use Rattle.turn_lock.specs.Passes.{LockId, PassState}
+use Rattle.turn_lock.specs.Passes.{LockId, WorkerView}
 use Rattle.memory_lock.specs.Crew.{AreWorkers, HasAll}
 use Rattle.memory_lock.specs.Workers.{SeesMore, own_entries, own_of}
 use Rattle.job_plan.specs.Plans.{removed_in}
@@ -33,7 +33,7 @@ goes_later plan partitions passes seen later more goes pass dataset below within
     gone_later (partitions + pass * (partitions + 1)) dataset seen later more (goes pass dataset below within)
 
 -- the journal begins with all that the first worker has seen
-pub journal_goes : (plan : Plan) (partitions passes count : ℕ) (lock : LockId) (workers : List PassState) (any : PassState) (journal : List Entry) → 1 ≤ count → AreWorkers lock count workers → HasAll workers journal
+pub journal_goes : (plan : Plan) (partitions passes count : ℕ) (lock : LockId) (workers : List WorkerView) (any : WorkerView) (journal : List Entry) → 1 ≤ count → AreWorkers lock count workers → HasAll workers journal
     → GoesBehind plan partitions passes (get_or workers 0 any).seen → GoesBehind plan partitions passes journal
 journal_goes plan partitions passes count lock workers any journal some are all goes =
     let size = are.0 in
@@ -48,7 +48,7 @@ last_worker count partitions =
     ap (λ (b : Bool). if b then partitions % count else 0) none
 
 -- which has begun and ended it, where it has done its tasks below a limit behind it
-pub final_ended : (owner : ℕ → Option ℕ) (count partitions first : ℕ) (workers : List PassState) (any : PassState) → 1 ≤ count → OwnsPass owner count partitions first
+pub final_ended : (owner : ℕ → Option ℕ) (count partitions first : ℕ) (workers : List WorkerView) (any : WorkerView) → 1 ≤ count → OwnsPass owner count partitions first
     → EachDoes owner count (first + partitions + 1) workers → EachBegins owner count (first + partitions + 1) workers → 1 ≤ ends (own_of (get_or workers 0 any)) (partitions + first)
 final_ended owner count partitions first workers any some owns does begun =
     let owned : owner (partitions + first) ≡ Some 0 = owns partitions (omega arith) ∙ ap Some (last_worker count partitions) in
@@ -57,7 +57,7 @@ final_ended owner count partitions first workers any some owns does begun =
     omega (arith, began, ended)
 
 -- what a worker has ended it sees
-ended_seen : (task : ℕ) (before moment : PassState) → SeesMore before moment → 1 ≤ ends (own_of before) task → 1 ≤ ends (history_of moment.seen) task
+ended_seen : (task : ℕ) (before moment : WorkerView) → SeesMore before moment → 1 ≤ ends (own_of before) task → 1 ≤ ends (history_of moment.seen) task
 ended_seen task before moment since ended =
     let own = total_reverse (end_of task) (own_entries before) in
     let all = total_reverse (end_of task) moment.seen in
@@ -68,7 +68,7 @@ ended_seen task before moment since ended =
 
 -- ---- one pass more
 
-pub goes_more : (plan : Plan) (partitions number first : ℕ) (datasets : List ℕ) (old mid new : PassState) → datasets ≡ slice_index_or (removed_in plan) number [] → first ≡ number * (partitions + 1)
+pub goes_more : (plan : Plan) (partitions number first : ℕ) (datasets : List ℕ) (old mid new : WorkerView) → datasets ≡ slice_index_or (removed_in plan) number [] → first ≡ number * (partitions + 1)
     → SeesMore old mid → SeesMore mid new → 1 ≤ ends (own_of mid) (partitions + first) → ((dataset : ℕ) → Contains datasets dataset → SawGone dataset mid new)
     → GoesBehind plan partitions number old.seen → GoesBehind plan partitions (number + 1) new.seen
 goes_more plan partitions number first datasets old mid new are is worked cleared ended saw goes pass dataset below within = elim (cases_lt pass number) [

@@ -6,13 +6,13 @@ use Rattle.std.proofs.lemmas.Bool.{cases_lt}
 use Rattle.std.proofs.lemmas.List.{get_or_default}
 use Rattle.std.proofs.lemmas.List.Elements.{Contains-get_or}
 use Rattle.pool_ledger.specs.declared.entry.Entry.{Entry}
-use Rattle.turn_lock.specs.Passes.{PassState}
+use Rattle.turn_lock.specs.Passes.{WorkerView}
 use Rattle.task_pool.specs.Workers.{KeepsPin, KeepsTask, SeesMore, own_entries}
 use Rattle.task_pool.proofs.GoingOn.{all_append, sees_itself, sees_more}
 use Rattle.memory_lock.specs.Workers.{AddsRemovals, AreRemovals}
 use Rattle.csv_program.specs.Doing.{Clears, IsRemovalOf, SawGone}
 
-pub cleared_none : (datasets : List ℕ) (worker : PassState) → Clears datasets worker worker
+pub cleared_none : (datasets : List ℕ) (worker : WorkerView) → Clears datasets worker worker
 cleared_none datasets worker = record {
   task = refl;
   pin = refl;
@@ -23,7 +23,7 @@ cleared_none datasets worker = record {
 }
 
 -- nothing more was removed
-pub cleared_same : (datasets : List ℕ) (first before after : PassState) → Clears datasets first before → KeepsTask before after → KeepsPin before after → SeesMore before after → own_entries after ≡ own_entries before → Clears datasets first after
+pub cleared_same : (datasets : List ℕ) (first before after : WorkerView) → Clears datasets first before → KeepsTask before after → KeepsPin before after → SeesMore before after → own_entries after ≡ own_entries before → Clears datasets first after
 cleared_same datasets first before after cleared task pin sees same = record {
   task = task ∙ cleared.task;
   pin = pin ∙ cleared.pin;
@@ -38,7 +38,7 @@ removals_of worker dataset from datasets [] among are = tt
 removals_of worker dataset from datasets (entry ∷ more) among are = ((dataset, are.0, are.1, among, are.2), removals_of worker dataset (are.0 + 1) datasets more among are.4)
 
 -- and then blocks of one dataset
-pub cleared_more : (datasets : List ℕ) (first before after : PassState) (i : ℕ) → i < length datasets → Clears datasets first before → KeepsTask before after → KeepsPin before after → SeesMore before after
+pub cleared_more : (datasets : List ℕ) (first before after : WorkerView) (i : ℕ) → i < length datasets → Clears datasets first before → KeepsTask before after → KeepsPin before after → SeesMore before after
     → AddsRemovals (get_or datasets i 0) before after → Clears datasets first after
 cleared_more datasets first before after i below cleared task pin sees adds =
     let gone = removals_of before.number (get_or datasets i 0) 0 datasets adds.0 (Contains-get_or datasets i 0 below) adds.1 in
@@ -55,7 +55,7 @@ cleared_more datasets first before after i below cleared task pin sees adds =
 -- ---- which datasets' blocks it saw gone
 
 -- those of the first places, and then of one more
-pub gone_more : (datasets : List ℕ) (first before after : PassState) (i : ℕ) → i < length datasets → SeesMore first before → SeesMore before after → AddsRemovals (get_or datasets i 0) before after
+pub gone_more : (datasets : List ℕ) (first before after : WorkerView) (i : ℕ) → i < length datasets → SeesMore first before → SeesMore before after → AddsRemovals (get_or datasets i 0) before after
     → ((k any : ℕ) → k < i → SawGone (get_or datasets k any) first before) → (k any : ℕ) → k < i + 1 → SawGone (get_or datasets k any) first after
 gone_more datasets first before after i below seen sees adds sofar k any low = elim (cases_lt k i) [
   | inl old ↦
@@ -69,7 +69,7 @@ gone_more datasets first before after i below seen sees adds sofar k any low = e
 ]
 
 -- those of all places are all
-pub gone_all : (datasets : List ℕ) (first after : PassState) (count : ℕ) → count ≡ length datasets → ((k any : ℕ) → k < count → SawGone (get_or datasets k any) first after)
+pub gone_all : (datasets : List ℕ) (first after : WorkerView) (count : ℕ) → count ≡ length datasets → ((k any : ℕ) → k < count → SawGone (get_or datasets k any) first after)
     → (dataset : ℕ) → Contains datasets dataset → SawGone dataset first after
 gone_all datasets first after count all saw dataset within =
     subst (λ (d : ℕ). SawGone d first after) within.2 (saw within.0 dataset (omega (arith, within.1, all)))

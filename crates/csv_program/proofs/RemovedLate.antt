@@ -12,7 +12,7 @@ use Rattle.task_pool.proofs.GoingOn.{all_append}
 use Rattle.memory_lock.proofs.Staying.{all_imply}
 use Rattle.memory_lock.specs.Crew.{AreNew, AreWorkers, HasAll}
 use Rattle.memory_lock.specs.Workers.{own_entries}
-use Rattle.turn_lock.specs.Passes.{LockId, PassState}
+use Rattle.turn_lock.specs.Passes.{LockId, WorkerView}
 use Rattle.task_pool.specs.Asks.{IsOfTask}
 use Rattle.lineage.specs.Entries.{IsRowsWork}
 use Rattle.task_runner.specs.Workers.{AreTasks, DoesSome, part_at}
@@ -172,11 +172,11 @@ removes_cleared first limit number datasets entries removed low all did =
 
 -- ---- all workers of a pass
 
-pub removes_new : (first : ℕ → ℕ) (lock : LockId) (workers limit : ℕ) (olds : List PassState) → AreWorkers lock workers olds → AreNew olds → EachRemoves first workers limit olds
+pub removes_new : (first : ℕ → ℕ) (lock : LockId) (workers limit : ℕ) (olds : List WorkerView) → AreWorkers lock workers olds → AreNew olds → EachRemoves first workers limit olds
 removes_new first lock workers limit olds are new w any below = removes_none first limit (own_entries (get_or olds w any)) (own_none lock workers olds are new w any below)
 
-removes_each : (first : ℕ → ℕ) (lock : LockId) (workers partitions from : ℕ) (olds mids : List PassState) → 0 < workers → AreWorkers lock workers olds
-    → ((w : ℕ) (any : PassState) → w < workers → DoesSome from workers w partitions (get_or olds w any) (get_or mids w any)) → EachRemoves first workers from olds → EachRemoves first workers (from + partitions) mids
+removes_each : (first : ℕ → ℕ) (lock : LockId) (workers partitions from : ℕ) (olds mids : List WorkerView) → 0 < workers → AreWorkers lock workers olds
+    → ((w : ℕ) (any : WorkerView) → w < workers → DoesSome from workers w partitions (get_or olds w any) (get_or mids w any)) → EachRemoves first workers from olds → EachRemoves first workers (from + partitions) mids
 removes_each first lock workers partitions from olds mids some are more did w any below =
     let old = get_or olds w any in
     let adds = more w any below in
@@ -187,7 +187,7 @@ removes_each first lock workers partitions from olds mids some are more did w an
     (λ j low. let inside = within j low in omega (arith, inside))
     (subst (λ (n : ℕ). AreTasks from workers w n adds.count adds.does.0) number adds.does.1) (did w any below))
 
-removes_last : (first : ℕ → ℕ) (partitions from : ℕ) (mid after : PassState) → mid.number ≡ 0 → MayWork (partitions + from) mid after → RemovesOwn first (from + partitions) (own_entries mid) → RemovesOwn first (from + partitions + 1) (own_entries after)
+removes_last : (first : ℕ → ℕ) (partitions from : ℕ) (mid after : WorkerView) → mid.number ≡ 0 → MayWork (partitions + from) mid after → RemovesOwn first (from + partitions) (own_entries mid) → RemovesOwn first (from + partitions + 1) (own_entries after)
 removes_last first partitions from mid after number may did = elim may [
   | inl same ↦ subst (RemovesOwn first (from + partitions + 1)) (sym same) (removes_raise first (from + partitions) (from + partitions + 1) (own_entries mid) (omega arith) did)
   | inr works ↦
@@ -196,18 +196,18 @@ removes_last first partitions from mid after number may did = elim may [
       (removes_task first 0 (from + partitions) (partitions + from) (own_entries mid) works.0 (omega arith) (subst (λ (n : ℕ). IsTaskOf n (partitions + from) works.0) number works.1) did))
 ]
 
-removes_final : (first : ℕ → ℕ) (lock : LockId) (workers partitions from : ℕ) (mids news : List PassState) → AreWorkers lock workers mids → ((any : PassState) → MayWork (partitions + from) (get_or mids 0 any) (get_or news 0 any))
-    → ((w : ℕ) (any : PassState) → w ≢ 0 → get_or news w any ≡ get_or mids w any) → EachRemoves first workers (from + partitions) mids → EachRemoves first workers (from + partitions + 1) news
+removes_final : (first : ℕ → ℕ) (lock : LockId) (workers partitions from : ℕ) (mids news : List WorkerView) → AreWorkers lock workers mids → ((any : WorkerView) → MayWork (partitions + from) (get_or mids 0 any) (get_or news 0 any))
+    → ((w : ℕ) (any : WorkerView) → w ≢ 0 → get_or news w any ≡ get_or mids w any) → EachRemoves first workers (from + partitions) mids → EachRemoves first workers (from + partitions + 1) news
 removes_final first lock workers partitions from mids news are may others did zero any below =
     removes_last first partitions from (get_or mids 0 any) (get_or news 0 any) (are.1 0 any below).number_is (may any) (did 0 any below)
 removes_final first lock workers partitions from mids news are may others did (suc w) any below =
-    subst (λ (s : PassState). RemovesOwn first (from + partitions + 1) (own_entries s)) (sym (others (suc w) any (λ same. absurd (omega (arith, same)))))
+    subst (λ (s : WorkerView). RemovesOwn first (from + partitions + 1) (own_entries s)) (sym (others (suc w) any (λ same. absurd (omega (arith, same)))))
     (removes_raise first (from + partitions) (from + partitions + 1) (own_entries (get_or mids (suc w) any)) (omega arith) (did (suc w) any below))
 
 -- the tasks of a pass, and its final one
-pub removes_pass : (first : ℕ → ℕ) (lock : LockId) (workers partitions from : ℕ) (olds mids news : List PassState) → 0 < workers → AreWorkers lock workers olds → AreWorkers lock workers mids
-    → ((w : ℕ) (any : PassState) → w < length olds → DoesSome from (length olds) w partitions (get_or olds w any) (get_or mids w any)) → ((any : PassState) → MayWork (partitions + from) (get_or mids 0 any) (get_or news 0 any))
-    → ((w : ℕ) (any : PassState) → w ≢ 0 → get_or news w any ≡ get_or mids w any) → EachRemoves first workers from olds → EachRemoves first workers (from + partitions + 1) news
+pub removes_pass : (first : ℕ → ℕ) (lock : LockId) (workers partitions from : ℕ) (olds mids news : List WorkerView) → 0 < workers → AreWorkers lock workers olds → AreWorkers lock workers mids
+    → ((w : ℕ) (any : WorkerView) → w < length olds → DoesSome from (length olds) w partitions (get_or olds w any) (get_or mids w any)) → ((any : WorkerView) → MayWork (partitions + from) (get_or mids 0 any) (get_or news 0 any))
+    → ((w : ℕ) (any : WorkerView) → w ≢ 0 → get_or news w any ≡ get_or mids w any) → EachRemoves first workers from olds → EachRemoves first workers (from + partitions + 1) news
 removes_pass first lock workers partitions from olds mids news some old mid more may others did =
     let size : length olds ≡ workers = old.0 in
     removes_final first lock workers partitions from mids news mid may others
@@ -237,8 +237,8 @@ until_least (removed ∷ later) dataset (suc pass) within =
     let rest = until_least later dataset pass within in
     one_or (list_any (λ d. d == dataset) removed) (passes_until later dataset) (suc pass) (omega (arith, rest))
 
-pub removes_behind : (first : ℕ → ℕ) (workers limit : ℕ) (datasets : List ℕ) (mids news : List PassState) → ((dataset : ℕ) → Contains datasets dataset → first dataset ≤ limit)
-    → ((any : PassState) → Clears datasets (get_or mids 0 any) (get_or news 0 any)) → ((w : ℕ) (any : PassState) → w ≢ 0 → get_or news w any ≡ get_or mids w any) → EachRemoves first workers limit mids → EachRemoves first workers limit news
+pub removes_behind : (first : ℕ → ℕ) (workers limit : ℕ) (datasets : List ℕ) (mids news : List WorkerView) → ((dataset : ℕ) → Contains datasets dataset → first dataset ≤ limit)
+    → ((any : WorkerView) → Clears datasets (get_or mids 0 any) (get_or news 0 any)) → ((w : ℕ) (any : WorkerView) → w ≢ 0 → get_or news w any ≡ get_or mids w any) → EachRemoves first workers limit mids → EachRemoves first workers limit news
 removes_behind first workers limit datasets mids news low clears others did =
     cleared_each (λ w s. RemovesOwn first limit (own_entries s)) datasets workers mids news clears others
     (λ before after cleared did. subst (RemovesOwn first limit) (sym cleared.adds) (removes_cleared first limit before.number datasets (own_entries before) cleared.removed low cleared.all did)) did
@@ -250,7 +250,7 @@ free_behind plan partitions pass datasets are dataset within =
 
 -- ---- in the journal
 
-pub removes_late : (plan : Plan) (lock : LockId) (workers partitions limit : ℕ) (news : List PassState) (any : PassState) (journal : List Entry) → AreWorkers lock workers news → HasAll news journal
+pub removes_late : (plan : Plan) (lock : LockId) (workers partitions limit : ℕ) (news : List WorkerView) (any : WorkerView) (journal : List Entry) → AreWorkers lock workers news → HasAll news journal
     → EachRemoves (free_from plan partitions) workers limit news → RemovesLate plan workers partitions journal
 removes_late plan lock workers partitions limit news any journal are whole did w below =
     subst (RemovesBehind (free_from plan partitions)) (sym (whole_of lock workers news journal are whole w any below)) (did w any below).behind

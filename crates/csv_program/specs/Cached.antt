@@ -10,7 +10,7 @@ use Rattle.job_plan.specs.Columns.{Fields}
 use Rattle.job_plan.specs.Plans.{IsPlanOf, chain_in, passes_in, removed_in}
 use Rattle.job_plan.specs.declared.query_plan.Plan.{Plan}
 use Rattle.job_text.specs.declared.job.Job.{Job}
-use Rattle.turn_lock.specs.Passes.{PassState}
+use Rattle.turn_lock.specs.Passes.{WorkerView}
 use Rattle.lineage.specs.LineageViews.{name_for}
 use Rattle.lineage.specs.Telling.{nearest}
 use Rattle.task_runner.specs.Blocks.{TellsBlock}
@@ -32,9 +32,9 @@ TellsPasses plan workers partitions passes entries =
     (pass part : ℕ) → pass < passes → part < partitions → TellsAt plan workers partitions pass part entries
 
 -- the same by what the partition's worker has seen
-abbrev pub EachTells : Plan → ℕ → ℕ → ℕ → List PassState → Type 0
+abbrev pub EachTells : Plan → ℕ → ℕ → ℕ → List WorkerView → Type 0
 EachTells plan count partitions passes workers =
-    (pass part : ℕ) (any : PassState) → pass < passes → part < partitions
+    (pass part : ℕ) (any : WorkerView) → pass < passes → part < partitions
     → TellsAt plan count partitions pass part (slice_index_or workers (part % count) any).seen
 
 -- at one moment behind the end of a task, no block of the dataset was in memory but pinned ones

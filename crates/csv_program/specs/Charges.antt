@@ -18,7 +18,7 @@ use Rattle.task_pool.specs.Workers.{own_of}
 use Rattle.task_runner.specs.Charging.{leasts_in}
 use Rattle.task_runner.specs.Queries.{made_in}
 use Rattle.task_runner.specs.Spilling.{AreAllCharged}
-use Rattle.turn_lock.specs.Passes.{PassState}
+use Rattle.turn_lock.specs.Passes.{WorkerView}
 use Rattle.job_ending.specs.declared.call.RunCall.{RunCall}
 
 -- the dataset of a pass of a plan, and its queries, by its number
@@ -36,9 +36,9 @@ AreEnough states plan pass rows bytes =
     (made_in plan (queries_at plan pass) (derived (chain_in plan) (dataset_at plan pass) rows))
 
 -- the task of each partition in the first passes once held so much, by the entries that its worker has seen of its own
-abbrev pub EachCharges : (ℕ → List State) → Plan → ℕ → (ℕ → List Fields) → ℕ → ℕ → List PassState → Type 0
+abbrev pub EachCharges : (ℕ → List State) → Plan → ℕ → (ℕ → List Fields) → ℕ → ℕ → List WorkerView → Type 0
 EachCharges states plan partitions rows count passes workers =
-    (pass part : ℕ) (any : PassState) → pass < passes → part < partitions
+    (pass part : ℕ) (any : WorkerView) → pass < passes → part < partitions
     → AreEnough (states (part % count)) plan pass (rows part)
     (most_held (own_of (slice_index_or workers (part % count) any)) (part + pass * (partitions + 1)))
 

@@ -2,7 +2,7 @@
 
 ghost use Rattle.std.specs.Prelude.{◌≡◌, ◌≢◌, ◌≤◌, ℕ, Contains, None, OnOk, slice_index_or};
 ghost use Rattle.memory_lock.specs.Crew.{AreWorkers};
-ghost use Rattle.turn_lock.specs.Passes.{PassState};
+ghost use Rattle.turn_lock.specs.Passes.{WorkerView};
 ghost use Rattle.csv_program.specs.Doing.{Clears, SawGone};
 
 use memory_lock::{Basis, Worker};
@@ -20,11 +20,11 @@ pub fn remove_blocks<K: Disk, B: Basis, R: Wait>(
     requires workers { AreWorkers executor.now.manager.now B.sizes.workers workers.old.items }
     requires some { 1 ≤ B.sizes.workers }
     ensures workers { AreWorkers executor.now.manager.now B.sizes.workers workers.new.items }
-    ensures clears { (any : PassState) → Clears datasets.now
+    ensures clears { (any : WorkerView) → Clears datasets.now
         (slice_index_or workers.old.items 0 any) (slice_index_or workers.new.items 0 any) }
-    ensures gone { OnOk result ((any : PassState) (dataset : ℕ) → Contains datasets.now dataset
+    ensures gone { OnOk result ((any : WorkerView) (dataset : ℕ) → Contains datasets.now dataset
         → SawGone dataset (slice_index_or workers.old.items 0 any) (slice_index_or workers.new.items 0 any)) }
-    ensures others { (worker : ℕ) (any : PassState) → worker ≢ 0
+    ensures others { (worker : ℕ) (any : WorkerView) → worker ≢ 0
         → slice_index_or workers.new.items worker any ≡ slice_index_or workers.old.items worker any }
 {
     clear_all(executor, &mut workers[0], datasets)

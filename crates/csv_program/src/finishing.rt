@@ -12,7 +12,7 @@ ghost use Rattle.task_runner.specs.PassViews.{parts_of, queries_of, task_for};
 ghost use Rattle.task_runner.specs.Queries.{IsPass};
 ghost use Rattle.task_runner.specs.RunsApart.{AllOfLists, AreAllApart};
 ghost use Rattle.task_runner.specs.Works.{IfNoRoom, MayWork, ShowsNoRoom, Works};
-ghost use Rattle.turn_lock.specs.Passes.{PassState};
+ghost use Rattle.turn_lock.specs.Passes.{WorkerView};
 ghost use Rattle.csv_program.specs.Posts.{DamagedOn, post_faults, post_files};
 
 use consumer_trait::Consumer;
@@ -34,8 +34,8 @@ pub fn finish<K: Disk, D: Disk, C: Consumer, B: Basis, R: Wait>(
     requires some { 1 ≤ B.sizes.workers }
     requires pass { IsPass pass.now }
     requires owner { B.owner (task_for pass.now (parts_of pass.now)) ≡ Some 0 }
-    requires free { (any : PassState) → IsFree (slice_index_or workers.old.items 0 any) }
-    requires fresh { (any : PassState)
+    requires free { (any : WorkerView) → IsFree (slice_index_or workers.old.items 0 any) }
+    requires fresh { (any : WorkerView)
         → was_begun (own_of (slice_index_or workers.old.items 0 any)) (task_for pass.now (parts_of pass.now)) ≡ false }
     requires posts { B.sizes.workers ≤ length posts.old.items }
     requires few_posts { length posts.old.items < 2 ^ 32 - 1 }
@@ -51,19 +51,19 @@ pub fn finish<K: Disk, D: Disk, C: Consumer, B: Basis, R: Wait>(
 
     // The first worker's own entries.
     ensures workers { AreWorkers executor.now.manager.now B.sizes.workers workers.new.items }
-    ensures works { OnOk result ((any : PassState) → Works (task_for pass.now (parts_of pass.now))
+    ensures works { OnOk result ((any : WorkerView) → Works (task_for pass.now (parts_of pass.now))
         (slice_index_or workers.old.items 0 any) (slice_index_or workers.new.items 0 any)) }
-    ensures may_work { (any : PassState) → MayWork (task_for pass.now (parts_of pass.now))
+    ensures may_work { (any : WorkerView) → MayWork (task_for pass.now (parts_of pass.now))
         (slice_index_or workers.old.items 0 any) (slice_index_or workers.new.items 0 any) }
-    ensures free { (any : PassState) → IsFree (slice_index_or workers.new.items 0 any) }
-    ensures pin { (any : PassState)
+    ensures free { (any : WorkerView) → IsFree (slice_index_or workers.new.items 0 any) }
+    ensures pin { (any : WorkerView)
         → KeepsPin (slice_index_or workers.old.items 0 any) (slice_index_or workers.new.items 0 any) }
-    ensures sees { (any : PassState)
+    ensures sees { (any : WorkerView)
         → SeesMore (slice_index_or workers.old.items 0 any) (slice_index_or workers.new.items 0 any) }
-    ensures no_room { IfNoRoom result (λ asked held floor. (any : PassState)
+    ensures no_room { IfNoRoom result (λ asked held floor. (any : WorkerView)
         → ShowsNoRoom B.sizes (own_of (slice_index_or workers.new.items 0 any))
         (task_for pass.now (parts_of pass.now)) asked held floor) }
-    ensures others { (worker : ℕ) (any : PassState) → worker ≢ 0
+    ensures others { (worker : ℕ) (any : WorkerView) → worker ≢ 0
         → slice_index_or workers.new.items worker any ≡ slice_index_or workers.old.items worker any }
 
     // The posts.

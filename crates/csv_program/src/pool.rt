@@ -18,7 +18,7 @@ ghost use Rattle.task_runner.specs.PassViews.{parts_of, queries_of};
 ghost use Rattle.task_runner.specs.Queries.{IsPass};
 ghost use Rattle.task_runner.specs.Workers.{IfSound};
 ghost use Rattle.task_runner.specs.Works.{IfNoRoom, ShowsNoRoom};
-ghost use Rattle.turn_lock.specs.Passes.{PassState};
+ghost use Rattle.turn_lock.specs.Passes.{WorkerView};
 ghost use Rattle.csv_program.specs.Cached.{EachTells, GoesBehind, TellsPasses};
 ghost use Rattle.csv_program.specs.Charges.{EachCharges, ChargesPlan};
 ghost use Rattle.csv_program.specs.Doing.{AreBetween, EachBegins, EachRemoves, EachSees, OwnsPass};
@@ -212,10 +212,10 @@ fn run_passes<
         workers.new.items) }
     ensures removes { OnOk result (EachRemoves (free_from plan.now (length parts.now)) B.sizes.workers
         (length (passes_in plan.now) * (length parts.now + 1)) workers.new.items) }
-    ensures gone { OnOk result ((any : PassState) → GoesBehind plan.now (length parts.now)
+    ensures gone { OnOk result ((any : WorkerView) → GoesBehind plan.now (length parts.now)
         (length (passes_in plan.now)) (slice_index_or workers.new.items 0 any).seen) }
     ensures no_room { IfNoRoom result (λ asked held floor. (worker task : ℕ) × (worker < B.sizes.workers)
-        × ((any : PassState)
+        × ((any : WorkerView)
         → ShowsNoRoom B.sizes (own_of (slice_index_or workers.new.items worker any)) task asked held floor)) }
 {
     let Ok(mut answers) = no_answers(executor.alloc, plan.query_count()) else {
@@ -313,17 +313,17 @@ fn work<
     ensures begun { OnOk result (EachBegins B.owner B.sizes.workers
         (pass.now.first + parts_of pass.now + 1) workers.new.items) }
     ensures sees { EachSees B.sizes.workers workers.old.items workers.new.items }
-    ensures charged { OnOk result ((part : ℕ) (any : PassState) → part < parts_of pass.now
+    ensures charged { OnOk result ((part : ℕ) (any : WorkerView) → part < parts_of pass.now
         → IsPartCharged (states_at C.state posts.old.items (part % B.sizes.workers))
         (post_files D.files posts.old (part % B.sizes.workers)) B.rows pass.now part
         (own_of (slice_index_or workers.new.items (part % B.sizes.workers) any))) }
-    ensures told { OnOk result ((part : ℕ) (any : PassState) → part < parts_of pass.now
+    ensures told { OnOk result ((part : ℕ) (any : WorkerView) → part < parts_of pass.now
         → TellsTask pass.now part (slice_index_or workers.new.items (part % B.sizes.workers) any)) }
     ensures removes { OnOk result ((first : ℕ → ℕ)
         → EachRemoves first B.sizes.workers pass.now.first workers.old.items
         → EachRemoves first B.sizes.workers (pass.now.first + parts_of pass.now + 1) workers.new.items) }
     ensures no_room { IfNoRoom result (λ asked held floor. (worker task : ℕ) × (worker < B.sizes.workers)
-        × ((any : PassState)
+        × ((any : WorkerView)
         → ShowsNoRoom B.sizes (own_of (slice_index_or workers.new.items worker any)) task asked held floor)) }
 {
     let lists = match run_workers(executor, workers, pass, posts, gate) {

@@ -1,13 +1,15 @@
 -- The text of an entry is read as that entry.
-use Rattle.std.proofs.Common.{ℕ, ◌≡◌, ◌<◌, ◌^◌, ◌∷◌, [], Bool, Option, Some, decimal, IfSome, refl}
+use Rattle.std.proofs.Common.{ℕ, ◌≡◌, ◌<◌, ◌^◌, ◌∷◌, [], Bool, true, false, Option, Some, decimal, IfSome, refl}
 use Rattle.pool_ledger.specs.declared.entry.Entry.{Entry}
 use Rattle.pool_ledger.specs.declared.entry.Event.{Event}
-use Rattle.pool_ledger.specs.declared.entry.Event.TheVariants.{Begin, Attempt, Release, End, Evict, Admit, Refused, Pin, Unpin, Remove}
+use Rattle.pool_ledger.specs.declared.entry.Event.TheVariants.{Begin, Attempt, Release, End, Evict, Admit, Refused, Pin, Unpin, Remove, Grow}
 use Rattle.pool_ledger.specs.declared.entry.Fate.{Fate}
 use Rattle.pool_ledger.specs.declared.entry.Level.{Level}
-use Rattle.journal_audit.specs.Text.{fields_joined, got_text, fate_word, level_word, form_word, event_text, entry_text, EventFits, Fits}
+use Rattle.journal_audit.specs.declared.version.Version.{Version}
+use Rattle.journal_audit.specs.declared.version.Version.TheVariants.{First, Second}
+use Rattle.journal_audit.specs.Text.{fields_joined, got_text, fate_word, level_word, form_word, event_text, entry_text, is_growth, EventFits, FitsIn}
 use Rattle.journal_audit.specs.Fields.{split, ended}
-use Rattle.journal_audit.specs.Entries.{begin_at, attempt_at, release_at, end_at, evict_at, admit_at, refused_at, pin_at, unpin_at, remove_at, block_word, task_word, entry_at}
+use Rattle.journal_audit.specs.Entries.{begin_at, attempt_at, release_at, end_at, evict_at, admit_at, refused_at, pin_at, unpin_at, remove_at, grow_at, block_word, task_word, entry_word, entry_at}
 use Rattle.journal_audit.proofs.FieldsAgain.{long_again, short_again, got_again, fate_again, level_again, form_again}
 
 -- `begin` and its fields
@@ -113,19 +115,35 @@ remove_again worker dataset part size in_worker in_dataset in_part in_size =
     let after_part = fields_joined (decimal size ∷ []) in
     rw (short_again worker after_worker in_worker refl) (rw (short_again dataset after_dataset in_dataset refl) (rw (short_again part after_part in_part refl) (rw (long_again size [] in_size refl) refl)))
 
-event_again : (worker : ℕ) (event : Event) → worker < 2 ^ 32 → EventFits event → entry_at (event_text worker event) ≡ Some (record { worker = worker; event = event })
-unfolding entry_at task_word block_word split
-event_again worker (Begin task) in_worker h = begin_again worker task in_worker h
-event_again worker (Attempt task asked moved evictions got) in_worker h = attempt_again worker task asked moved evictions got in_worker h.0 h.1 h.2 h.3 h.4
-event_again worker (Release task freed) in_worker h = release_again worker task freed in_worker h.0 h.1
-event_again worker (End task freed) in_worker h = end_again worker task freed in_worker h.0 h.1
-event_again worker (Evict dataset part size fate) in_worker h = evict_again worker dataset part size fate in_worker h.0 h.1 h.2
-event_again worker (Admit dataset part size level borrowed evictions) in_worker h = admit_again worker dataset part size level borrowed evictions in_worker h.0 h.1 h.2 h.3 h.4
-event_again worker (Refused dataset part size borrowed evictions) in_worker h = refused_again worker dataset part size borrowed evictions in_worker h.0 h.1 h.2 h.3 h.4
-event_again worker (Pin dataset part copy) in_worker h = pin_again worker dataset part copy in_worker h.0 h.1
-event_again worker (Unpin dataset part) in_worker h = unpin_again worker dataset part in_worker h.0 h.1
-event_again worker (Remove dataset part size) in_worker h = remove_again worker dataset part size in_worker h.0 h.1 h.2
+-- `grow` and its fields
+grow_again : (worker : ℕ) (grown : ℕ) → worker < 2 ^ 32 → grown < 2 ^ 64
+    → grow_at Second (fields_joined (decimal worker ∷ decimal grown ∷ [])) ≡ Some (record { worker = worker; event = Grow grown })
+unfolding grow_at ended
+grow_again worker grown in_worker in_grown =
+    let after_worker = fields_joined (decimal grown ∷ []) in
+    rw (short_again worker after_worker in_worker refl) (rw (long_again grown [] in_grown refl) refl)
 
--- the text of an entry is read as that entry
-pub entry_again : (entry : Entry) → Fits entry → entry_at (entry_text entry) ≡ Some entry
-entry_again entry h = event_again entry.worker entry.event h.worker h.event
+-- `grow` and its fields, in a version that has it
+growth_again : (version : Version) (worker : ℕ) (grown : ℕ) → (version ≡ First → true ≡ false) → worker < 2 ^ 32 → grown < 2 ^ 64
+    → grow_at version (fields_joined (decimal worker ∷ decimal grown ∷ [])) ≡ Some (record { worker = worker; event = Grow grown })
+growth_again First worker grown known in_worker in_grown = absurd (cc (known refl))
+growth_again Second worker grown known in_worker in_grown = grow_again worker grown in_worker in_grown
+
+event_again : (version : Version) (worker : ℕ) (event : Event) → (version ≡ First → is_growth event ≡ false) → worker < 2 ^ 32 → EventFits event
+    → entry_at version (event_text worker event) ≡ Some (record { worker = worker; event = event })
+unfolding entry_at entry_word task_word block_word split
+event_again version worker (Begin task) known in_worker h = begin_again worker task in_worker h
+event_again version worker (Attempt task asked moved evictions got) known in_worker h = attempt_again worker task asked moved evictions got in_worker h.0 h.1 h.2 h.3 h.4
+event_again version worker (Release task freed) known in_worker h = release_again worker task freed in_worker h.0 h.1
+event_again version worker (End task freed) known in_worker h = end_again worker task freed in_worker h.0 h.1
+event_again version worker (Evict dataset part size fate) known in_worker h = evict_again worker dataset part size fate in_worker h.0 h.1 h.2
+event_again version worker (Admit dataset part size level borrowed evictions) known in_worker h = admit_again worker dataset part size level borrowed evictions in_worker h.0 h.1 h.2 h.3 h.4
+event_again version worker (Refused dataset part size borrowed evictions) known in_worker h = refused_again worker dataset part size borrowed evictions in_worker h.0 h.1 h.2 h.3 h.4
+event_again version worker (Pin dataset part copy) known in_worker h = pin_again worker dataset part copy in_worker h.0 h.1
+event_again version worker (Unpin dataset part) known in_worker h = unpin_again worker dataset part in_worker h.0 h.1
+event_again version worker (Remove dataset part size) known in_worker h = remove_again worker dataset part size in_worker h.0 h.1 h.2
+event_again version worker (Grow bytes) known in_worker h = growth_again version worker bytes known in_worker h
+
+-- the text of an entry in a version is read as that entry
+pub entry_again : (version : Version) (entry : Entry) → FitsIn version entry → entry_at version (entry_text entry) ≡ Some entry
+entry_again version entry h = event_again version entry.worker entry.event h.known h.fits.worker h.fits.event

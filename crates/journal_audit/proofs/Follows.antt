@@ -1,12 +1,12 @@
 -- An entry breaks no rule exactly where it may follow.
-use Rattle.std.proofs.Common.{ℕ, ◌≡◌, ◌≤◌, ◌^◌, [], None, Bool, true, false, not, ◌&&◌, ◌||◌, arith, sym, refl, subst}
+use Rattle.std.proofs.Common.{ℕ, ◌≡◌, ◌≤◌, ◌+◌, ◌^◌, [], None, Bool, true, false, not, ◌&&◌, ◌||◌, arith, sym, refl, subst}
 use Rattle.std.specs.Prelude.{is_some, nat_eq, nat_lt}
 use Rattle.std.proofs.lemmas.Bool.{ltb-true, ltb-false, lt-ltb, le-ltb, eqb-true, eqb-false, eq-eqb, ne_eqb}
 use Rattle.pool_ledger.specs.declared.entry.Entry.{Entry}
 use Rattle.pool_ledger.specs.declared.entry.Event.{Event}
-use Rattle.pool_ledger.specs.declared.entry.Event.TheVariants.{Begin, Attempt, Release, End, Evict, Admit, Refused, Pin, Unpin, Remove}
+use Rattle.pool_ledger.specs.declared.entry.Event.TheVariants.{Begin, Attempt, Release, End, Evict, Admit, Refused, Pin, Unpin, Remove, Grow}
 use Rattle.pool_ledger.specs.Sizes.{Sizes}
-use Rattle.pool_ledger.specs.History.{History, total, held, was_begun, open_task}
+use Rattle.pool_ledger.specs.History.{History, CanGrow, total, maximum, held, was_begun, open_task}
 use Rattle.pool_ledger.specs.Blocks.{Resident, resident_at, is_pinned, worker_pin, leaves_copy}
 use Rattle.pool_ledger.specs.Answers.{growth, answer, admission}
 use Rattle.pool_ledger.specs.Legal.{pending, settled, is_own_turn, MayLeave, MayCome, MayFollow}
@@ -42,6 +42,30 @@ between asked h =
 
 is_between : (asked : ℕ) → 1 ≤ asked → asked ≤ 2 ^ 50 → (nat_eq asked 0 || nat_lt (2 ^ 50) asked) ≡ false
 is_between asked some few = off_or (nat_eq asked 0) (nat_lt (2 ^ 50) asked) (ne_eqb asked 0 (omega arith)) (le-ltb (2 ^ 50) asked few)
+
+-- whether a growth breaks its rule
+abbrev grows_badly : Sizes → History → ℕ → ℕ → Bool
+grows_badly s h w bytes = ((not (nat_eq w 0) || nat_eq bytes 0) || nat_lt (2 ^ 36) bytes) || nat_lt (2 ^ 41) (maximum s h + bytes)
+
+can_grow : (s : Sizes) (h : History) (w bytes : ℕ) → grows_badly s h w bytes ≡ false → CanGrow s h w bytes
+can_grow s h w bytes off =
+    let three = or_off ((not (nat_eq w 0) || nat_eq bytes 0) || nat_lt (2 ^ 36) bytes) (nat_lt (2 ^ 41) (maximum s h + bytes)) off in
+    let two = or_off (not (nat_eq w 0) || nat_eq bytes 0) (nat_lt (2 ^ 36) bytes) three.0 in
+    let one = or_off (not (nat_eq w 0)) (nat_eq bytes 0) two.0 in
+    record {
+      first = eqb-true w 0 (not_off _ one.0);
+      some = omega (arith, eqb-false bytes 0 one.1);
+      few = ltb-false (2 ^ 36) bytes two.1;
+      fits = ltb-false (2 ^ 41) (maximum s h + bytes) three.1;
+    }
+
+grows_well : (s : Sizes) (h : History) (w bytes : ℕ) → CanGrow s h w bytes → grows_badly s h w bytes ≡ false
+grows_well s h w bytes can =
+    off_or ((not (nat_eq w 0) || nat_eq bytes 0) || nat_lt (2 ^ 36) bytes) (nat_lt (2 ^ 41) (maximum s h + bytes))
+    (off_or (not (nat_eq w 0) || nat_eq bytes 0) (nat_lt (2 ^ 36) bytes)
+    (off_or (not (nat_eq w 0)) (nat_eq bytes 0) (off_not _ (eq-eqb w 0 can.first)) (ne_eqb bytes 0 (omega (arith, can.some))))
+    (le-ltb (2 ^ 36) bytes can.few))
+    (le-ltb (2 ^ 41) (maximum s h + bytes) can.fits)
 
 -- What may come where no rule is broken
 
@@ -126,6 +150,9 @@ comes s h w (Remove d p size) turn h0 =
     let a = passed _ _ _ h0 in
     let leaves = leaves_is h d p size (not_off _ a.0) in
     (alone h turn, leaves.0, leaves.1)
+comes s h w (Grow bytes) turn h0 =
+    let a = passed _ _ _ h0 in
+    (alone h turn, can_grow s h w bytes a.0)
 
 own_turn : (h : History) (w : ℕ) (e : Event) → (is_waiting h && not (follows_evictions e && is_own_turn h w)) ≡ false → is_own_turn h w ≡ true
 own_turn h w (Attempt t asked moved evictions got) off = turn_is h w off
@@ -158,6 +185,7 @@ in_turn s h w (Pin d p false) own may = true_with (is_waiting h) (is_not_waiting
 in_turn s h w (Pin d p true) own may = true_with (is_waiting h) (is_not_waiting h may.0)
 in_turn s h w (Unpin d p) own may = true_with (is_waiting h) (is_not_waiting h may.0)
 in_turn s h w (Remove d p size) own may = true_with (is_waiting h) (is_not_waiting h may.0)
+in_turn s h w (Grow bytes) own may = true_with (is_waiting h) (is_not_waiting h may.0)
 
 keeps : (s : Sizes) (h : History) (w : ℕ) (e : Event) → MayCome s h w e → first_in (event_checks s h w e) ≡ None
 keeps s h w (Begin t) may = passes _ _ _ (off_or (was_begun h t) (is_some (open_task h w)) may.2 (is_none (open_task h w) may.1)) refl
@@ -190,6 +218,7 @@ keeps s h w (Pin d p true) may =
     passes _ _ _ may.1 (passes _ _ _ (ne_eqb copies 0 (omega (arith, may.3))) (passes _ _ _ (is_none (worker_pin h w) may.2) refl))
 keeps s h w (Unpin d p) may = passes _ _ _ (off_not _ (is_the_name (worker_pin h w) d p may.1)) refl
 keeps s h w (Remove d p size) may = passes _ _ _ (off_not _ (is_leaving h d p size may.1 may.2)) refl
+keeps s h w (Grow bytes) may = passes _ _ _ (grows_well s h w bytes may.1) refl
 
 pub breaks_none : (s : Sizes) (h : History) (entry : Entry) → MayFollow s h entry → first_broken s h entry ≡ None
 breaks_none s h entry may =

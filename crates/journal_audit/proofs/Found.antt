@@ -3,30 +3,34 @@ use Rattle.std.proofs.Common.{ℕ, ◌≡◌, ◌∙◌, ◌++◌, ◌∷◌, �
 use Rattle.std.specs.Option.{option_map}
 use Rattle.pool_ledger.specs.declared.entry.Entry.{Entry}
 use Rattle.pool_ledger.specs.Sizes.{Sizes, IsInRange}
-use Rattle.journal_audit.specs.Text.{entry_text, head_text, Fits}
+use Rattle.journal_audit.specs.declared.version.Version.{Version}
+use Rattle.journal_audit.specs.Text.{entry_text, head_text, FitsIn}
 use Rattle.journal_audit.specs.Reading.{line_at, head_line_at, setup_of}
 use Rattle.journal_audit.specs.Lines.{IsSetup, BeginsLine, BeginsHead}
 use Rattle.journal_audit.proofs.Wholes.{is_none}
 use Rattle.journal_audit.proofs.LinesOf.{line_again, line_takes, head_line_again, head_line_takes, setup_again, setup_takes}
 
-pub entry_found : {R : Type 0} (now : R → List ℕ) (bytes : List ℕ) (o : Option (Entry × R)) → option_map (λ p. (p.0, now p.1)) o ≡ line_at bytes
-    → IfSome o (λ p. Fits p.0 × (bytes ≡ entry_text p.0 ++ (10 ∷ now p.1)))
-entry_found now bytes None h = tt
-entry_found now bytes (Some p) h = line_takes bytes (p.0, now p.1) (sym h)
+pub entry_found : {R : Type 0} (now : R → List ℕ) (version : Version) (bytes : List ℕ) (o : Option (Entry × R))
+    → option_map (λ p. (p.0, now p.1)) o ≡ line_at version bytes
+    → IfSome o (λ p. FitsIn version p.0 × (bytes ≡ entry_text p.0 ++ (10 ∷ now p.1)))
+entry_found now version bytes None h = tt
+entry_found now version bytes (Some p) h = line_takes version bytes (p.0, now p.1) (sym h)
 
-pub no_entry : {R : Type 0} (now : R → List ℕ) (bytes : List ℕ) (o : Option (Entry × R)) → option_map (λ p. (p.0, now p.1)) o ≡ line_at bytes
-    → IfNone o (BeginsLine bytes → ⊥)
-no_entry now bytes None h = λ b. absurd (cc (h ∙ ap line_at b.3 ∙ line_again b.0 b.1 b.2))
-no_entry now bytes (Some p) h = tt
+pub no_entry : {R : Type 0} (now : R → List ℕ) (version : Version) (bytes : List ℕ) (o : Option (Entry × R))
+    → option_map (λ p. (p.0, now p.1)) o ≡ line_at version bytes → IfNone o (BeginsLine version bytes → ⊥)
+no_entry now version bytes None h = λ b. absurd (cc (h ∙ ap (line_at version) b.3 ∙ line_again version b.0 b.1 b.2))
+no_entry now version bytes (Some p) h = tt
 
-pub setup_found : {R : Type 0} (now : R → List ℕ) (bytes : List ℕ) (o : Option (Sizes × R)) → option_map (λ p. (p.0, now p.1)) o ≡ head_line_at bytes
-    → IfSome o (λ p. IsSetup p.0 × (bytes ≡ head_text p.0 ++ (10 ∷ now p.1)))
+pub setup_found : {R : Type 0} (now : R → List ℕ) (bytes : List ℕ) (o : Option (Version × Sizes × R))
+    → option_map (λ p. (p.0, p.1, now p.2)) o ≡ head_line_at bytes
+    → IfSome o (λ p. IsSetup p.1 × (bytes ≡ head_text p.0 p.1 ++ (10 ∷ now p.2)))
 setup_found now bytes None h = tt
-setup_found now bytes (Some p) h = head_line_takes bytes (p.0, now p.1) (sym h)
+setup_found now bytes (Some p) h = head_line_takes bytes (p.0, p.1, now p.2) (sym h)
 
-pub no_setup : {R : Type 0} (now : R → List ℕ) (bytes : List ℕ) (o : Option (Sizes × R)) → option_map (λ p. (p.0, now p.1)) o ≡ head_line_at bytes
-    → IfNone o (BeginsHead bytes → ⊥)
-no_setup now bytes None h = λ b. absurd (cc (h ∙ ap head_line_at b.3 ∙ head_line_again b.0 b.1 b.2))
+pub no_setup : {R : Type 0} (now : R → List ℕ) (bytes : List ℕ) (o : Option (Version × Sizes × R))
+    → option_map (λ p. (p.0, p.1, now p.2)) o ≡ head_line_at bytes
+    → IfNone o ((version : Version) → BeginsHead version bytes → ⊥)
+no_setup now bytes None h = λ version b. absurd (cc (h ∙ ap head_line_at b.3 ∙ head_line_again version b.0 b.1 b.2))
 no_setup now bytes (Some p) h = tt
 
 -- what is a setup exactly where there is one is the setup of the numbers

@@ -3,7 +3,7 @@ use Rattle.std.proofs.Common.{ℕ, ◌≡◌, ◌<◌, ◌≤◌, ◌^◌, ◌++
 use Rattle.std.specs.List.{prefix_len}
 use Rattle.pool_ledger.specs.declared.entry.Entry.{Entry}
 use Rattle.pool_ledger.specs.declared.entry.Event.{Event}
-use Rattle.pool_ledger.specs.declared.entry.Event.TheVariants.{Begin, Attempt, Release, End, Evict, Admit, Refused, Pin, Unpin, Remove}
+use Rattle.pool_ledger.specs.declared.entry.Event.TheVariants.{Begin, Attempt, Release, End, Evict, Admit, Refused, Pin, Unpin, Remove, Grow}
 use Rattle.pool_ledger.specs.declared.entry.Fate.{Fate}
 use Rattle.pool_ledger.specs.declared.entry.Fate.TheVariants.{Disk, Gone, NoMemory}
 use Rattle.pool_ledger.specs.declared.entry.Level.{Level}
@@ -85,6 +85,9 @@ event_inline worker (Unpin dataset part) in_worker h =
 event_inline worker (Remove dataset part size) in_worker h =
     let texts : List (List ℕ) = decimal worker ∷ decimal dataset ∷ decimal part ∷ decimal size ∷ [] in
     inline_append (codes "remove") (fields_joined texts) refl (joined_inline texts (inline_short worker in_worker, (inline_short dataset h.0, (inline_short part h.1, (inline_number size h.2, tt)))))
+event_inline worker (Grow bytes) in_worker h =
+    let texts : List (List ℕ) = decimal worker ∷ decimal bytes ∷ [] in
+    inline_append (codes "grow") (fields_joined texts) refl (joined_inline texts (inline_short worker in_worker, (inline_number bytes h, tt)))
 
 -- the text of an entry has no line feed
 pub entry_inline : (entry : Entry) → Fits entry → IsInline (entry_text entry)

@@ -1,19 +1,21 @@
 -- A line is read as it is spelled, and what is read is spelled so.
-use Rattle.std.proofs.Common.{ℕ, ◌≡◌, ◌<◌, ◌≤◌, ◌^◌, ◌++◌, ◌∷◌, [], List, Bool, false, Option, Some, None, decimal, codes, length, take, drop, true, cond, ◌&&◌, nat_eq, nat_le, arith, rules, sym, ◌∙◌, refl, ap, subst}
+use Rattle.std.proofs.Common.{ℕ, ◌≡◌, ◌<◌, ◌≤◌, ◌^◌, ◌++◌, ◌∷◌, [], List, inl, inr, Some, decimal, codes, length, take, drop, true, ◌&&◌, nat_eq, nat_le, arith, rules, sym, ◌∙◌, refl, ap, subst}
 use Rattle.std.specs.List.{prefix_len}
 use Rattle.std.specs.Str.{bytes_eq}
 use Rattle.std.proofs.lemmas.Option.{cond_some}
 use Rattle.std.proofs.lemmas.List.{take-append-drop}
 use Rattle.pool_ledger.specs.declared.entry.Entry.{Entry}
 use Rattle.pool_ledger.specs.Sizes.{Sizes, IsInRange}
-use Rattle.journal_audit.specs.Text.{field, fields_joined, entry_text, head_text, Fits}
+use Rattle.journal_audit.specs.declared.version.Version.{Version}
+use Rattle.journal_audit.specs.declared.version.Version.TheVariants.{First, Second}
+use Rattle.journal_audit.specs.Text.{field, fields_joined, entry_text, version_words, head_text, FitsIn}
 use Rattle.journal_audit.specs.Fields.{split, long_at, ended}
 use Rattle.journal_audit.specs.Entries.{entry_at}
-use Rattle.journal_audit.specs.Reading.{is_inline, cut, cut_behind, setup_of, sizes_at, head_at, line_at, head_line_at}
+use Rattle.journal_audit.specs.Reading.{is_inline, cut, cut_behind, setup_of, sizes_at, version_of, head_at, line_at, head_line_at}
 use Rattle.journal_audit.specs.Lines.{IsSetup}
 use Rattle.journal_audit.proofs.Wholes.{both, same_bytes}
-use Rattle.journal_audit.proofs.FieldsAgain.{passes_append, take_front, drop_front, long_again}
-use Rattle.journal_audit.proofs.FieldsTake.{bind_some, some_is, split_takes, long_takes, ended_takes}
+use Rattle.journal_audit.proofs.FieldsAgain.{IsPlain, passes_append, take_front, drop_front, split_again, long_again}
+use Rattle.journal_audit.proofs.FieldsTake.{bind_some, some_is, chosen, split_takes, long_takes, ended_takes}
 use Rattle.journal_audit.proofs.EntriesAgain.{entry_again}
 use Rattle.journal_audit.proofs.EntriesTake.{entry_takes}
 use Rattle.journal_audit.proofs.Inline.{IsInline, inline_append, joined_inline, inline_number, entry_inline}
@@ -43,18 +45,21 @@ cut_takes bytes p h =
 
 -- Entries
 
-pub line_again : (entry : Entry) (rest : List ℕ) → Fits entry → line_at (entry_text entry ++ (10 ∷ rest)) ≡ Some (entry, rest)
+pub line_again : (version : Version) (entry : Entry) (rest : List ℕ) → FitsIn version entry
+    → line_at version (entry_text entry ++ (10 ∷ rest)) ≡ Some (entry, rest)
 unfolding line_at
-line_again entry rest h = rw (cut_again (entry_text entry) rest (entry_inline entry h)) (rw (entry_again entry h) refl)
+line_again version entry rest h =
+    rw (cut_again (entry_text entry) rest (entry_inline entry h.fits)) (rw (entry_again version entry h) refl)
 
-pub line_takes : (bytes : List ℕ) (p : Entry × List ℕ) → line_at bytes ≡ Some p → Fits p.0 × (bytes ≡ entry_text p.0 ++ (10 ∷ p.1))
+pub line_takes : (version : Version) (bytes : List ℕ) (p : Entry × List ℕ) → line_at version bytes ≡ Some p
+    → FitsIn version p.0 × (bytes ≡ entry_text p.0 ++ (10 ∷ p.1))
 unfolding line_at
-line_takes bytes p h =
+line_takes version bytes p h =
     let c = bind_some (cut bytes) _ p h in
-    let e = bind_some (entry_at c.0.0) _ p c.2 in
-    let k = entry_takes c.0.0 e.0 e.1 in
+    let e = bind_some (entry_at version c.0.0) _ p c.2 in
+    let k = entry_takes version c.0.0 e.0 e.1 in
     let is : bytes ≡ entry_text e.0 ++ (10 ∷ c.0.1) = cut_takes bytes c.0 c.1 ∙ ap (λ x. x ++ (10 ∷ c.0.1)) k.1 in
-    subst (λ (q : Entry × List ℕ). Fits q.0 × (bytes ≡ entry_text q.0 ++ (10 ∷ q.1))) (some_is e.2) (k.0, is)
+    subst (λ (q : Entry × List ℕ). FitsIn version q.0 × (bytes ≡ entry_text q.0 ++ (10 ∷ q.1))) (some_is e.2) (k.0, is)
 
 -- Setups
 
@@ -114,43 +119,74 @@ sizes_takes bytes setup h =
     subst (λ (s : Sizes). IsSetup s × (bytes ≡ fields_joined (decimal s.maximum ∷ decimal s.region ∷ decimal s.workers ∷ [])))
     (is_setup.1 ∙ done.1) (is_setup.0, from_maximum)
 
-head_again : (setup : Sizes) → IsSetup setup → head_at (head_text setup) ≡ Some setup
-unfolding head_at split
-head_again setup h = sizes_again setup h
+-- Versions
 
--- the chosen side, where the other gives nothing
-if_some : {A : Type 0} (b : Bool) (o : Option A) (y : A) → cond b o None ≡ Some y → (b ≡ true) × (o ≡ Some y)
-if_some true o y h = (refl, h)
-if_some false o y h = absurd (cc h)
+version_again : (version : Version) → version_of (version_words version) ≡ Some version
+unfolding version_of
+version_again First = refl
+version_again Second = refl
 
-head_takes : (bytes : List ℕ) (setup : Sizes) → head_at bytes ≡ Some setup → IsSetup setup × (bytes ≡ head_text setup)
+version_takes : (words : List ℕ) (version : Version) → version_of words ≡ Some version → words ≡ version_words version
+unfolding version_of
+version_takes words version h = elim (chosen (bytes_eq words (codes "memory journal 1")) _ _ (Some version) h) [
+  | inl t ↦ same_bytes words (codes "memory journal 1") t.0 ∙ ap version_words (some_is t.1)
+  | inr t ↦
+      let u = cond_some (bytes_eq words (codes "memory journal 2")) Second version t.1 in
+      same_bytes words (codes "memory journal 2") u.0 ∙ ap version_words u.1
+]
+
+version_plain : (version : Version) → IsPlain (version_words version)
+version_plain First = refl
+version_plain Second = refl
+
+version_inline : (version : Version) → IsInline (version_words version)
+version_inline First = refl
+version_inline Second = refl
+
+-- First lines
+
+-- the fields behind the words of a first line
+abbrev sizes_text : Sizes → List ℕ
+sizes_text setup = fields_joined (decimal setup.maximum ∷ decimal setup.region ∷ decimal setup.workers ∷ [])
+
+head_again : (version : Version) (setup : Sizes) → IsSetup setup → head_at (head_text version setup) ≡ Some (version, setup)
 unfolding head_at
-head_takes bytes setup h =
-    let t = if_some (bytes_eq (split bytes).0 (codes "memory journal 1")) (sizes_at (split bytes).1) setup h in
-    let k = sizes_takes (split bytes).1 setup t.1 in (
-      k.0,
-      split_takes bytes ∙ ap (λ x. x ++ (split bytes).1) (same_bytes (split bytes).0 (codes "memory journal 1") t.0)
-          ∙ ap (λ x. codes "memory journal 1" ++ x) k.1,
-    )
+head_again version setup h =
+    rw (split_again (version_words version) (sizes_text setup) (version_plain version) refl)
+    (rw (version_again version) (rw (sizes_again setup h) refl))
 
-head_inline : (setup : Sizes) → IsSetup setup → IsInline (head_text setup)
-head_inline setup h =
+head_takes : (bytes : List ℕ) (p : Version × Sizes) → head_at bytes ≡ Some p → IsSetup p.1 × (bytes ≡ head_text p.0 p.1)
+unfolding head_at
+head_takes bytes p h =
+    let version = bind_some (version_of (split bytes).0) _ p h in
+    let setup = bind_some (sizes_at (split bytes).1) _ p version.2 in
+    let sizes = sizes_takes (split bytes).1 setup.0 setup.1 in
+    let is : bytes ≡ head_text version.0 setup.0 =
+    split_takes bytes ∙ ap (λ x. x ++ (split bytes).1) (version_takes (split bytes).0 version.0 version.1)
+    ∙ ap (λ x. version_words version.0 ++ x) sizes.1 in
+    subst (λ (q : Version × Sizes). IsSetup q.1 × (bytes ≡ head_text q.0 q.1)) (some_is setup.2) (sizes.0, is)
+
+head_inline : (version : Version) (setup : Sizes) → IsSetup setup → IsInline (head_text version setup)
+head_inline version setup h =
     let small : setup.maximum < 2 ^ 64 = omega (arith, h.maximum_small) in
     let in_it : setup.region < 2 ^ 64 = omega (arith, h.region_fits, h.maximum_small) in
     let few : setup.workers < 2 ^ 64 = omega (arith, h.few_workers) in
     let texts : List (List ℕ) = decimal setup.maximum ∷ decimal setup.region ∷ decimal setup.workers ∷ [] in
-    inline_append (codes "memory journal 1") (fields_joined texts) refl (joined_inline texts
+    inline_append (version_words version) (fields_joined texts) (version_inline version) (joined_inline texts
     (inline_number setup.maximum small, (inline_number setup.region in_it, (inline_number setup.workers few, tt))))
 
-pub head_line_again : (setup : Sizes) (rest : List ℕ) → IsSetup setup → head_line_at (head_text setup ++ (10 ∷ rest)) ≡ Some (setup, rest)
+pub head_line_again : (version : Version) (setup : Sizes) (rest : List ℕ) → IsSetup setup
+    → head_line_at (head_text version setup ++ (10 ∷ rest)) ≡ Some (version, setup, rest)
 unfolding head_line_at
-head_line_again setup rest h = rw (cut_again (head_text setup) rest (head_inline setup h)) (rw (head_again setup h) refl)
+head_line_again version setup rest h =
+    rw (cut_again (head_text version setup) rest (head_inline version setup h)) (rw (head_again version setup h) refl)
 
-pub head_line_takes : (bytes : List ℕ) (p : Sizes × List ℕ) → head_line_at bytes ≡ Some p → IsSetup p.0 × (bytes ≡ head_text p.0 ++ (10 ∷ p.1))
+pub head_line_takes : (bytes : List ℕ) (p : Version × Sizes × List ℕ) → head_line_at bytes ≡ Some p
+    → IsSetup p.1 × (bytes ≡ head_text p.0 p.1 ++ (10 ∷ p.2))
 unfolding head_line_at
 head_line_takes bytes p h =
     let c = bind_some (cut bytes) _ p h in
     let e = bind_some (head_at c.0.0) _ p c.2 in
     let k = head_takes c.0.0 e.0 e.1 in
-    let is : bytes ≡ head_text e.0 ++ (10 ∷ c.0.1) = cut_takes bytes c.0 c.1 ∙ ap (λ x. x ++ (10 ∷ c.0.1)) k.1 in
-    subst (λ (q : Sizes × List ℕ). IsSetup q.0 × (bytes ≡ head_text q.0 ++ (10 ∷ q.1))) (some_is e.2) (k.0, is)
+    let is : bytes ≡ head_text e.0.0 e.0.1 ++ (10 ∷ c.0.1) = cut_takes bytes c.0 c.1 ∙ ap (λ x. x ++ (10 ∷ c.0.1)) k.1 in
+    subst (λ (q : Version × Sizes × List ℕ). IsSetup q.1 × (bytes ≡ head_text q.0 q.1 ++ (10 ∷ q.2))) (some_is e.2) (k.0, is)

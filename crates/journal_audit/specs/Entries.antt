@@ -3,7 +3,9 @@
 use Rattle.std.specs.Prelude.{ℕ, if◌then◌else◌, List, Option, None, codes}
 use Rattle.std.specs.Str.{bytes_eq}
 use Rattle.pool_ledger.specs.declared.entry.Entry.{Entry}
-use Rattle.pool_ledger.specs.declared.entry.Event.TheVariants.{Begin, Attempt, Release, End, Evict, Admit, Refused, Pin, Unpin, Remove}
+use Rattle.pool_ledger.specs.declared.entry.Event.TheVariants.{Begin, Attempt, Release, End, Evict, Admit, Refused, Pin, Unpin, Remove, Grow}
+use Rattle.journal_audit.specs.declared.version.Version.{Version}
+use Rattle.journal_audit.specs.declared.version.Version.TheVariants.{First, Second}
 use Rattle.journal_audit.specs.Fields.{◌>>=◌, split, long_at, short_at, got_at, fate_at, level_at, form_at, ended}
 
 -- what follows the word `begin`
@@ -119,6 +121,18 @@ task_word word rest =
     else if bytes_eq word (codes "end") then end_at rest
     else block_word word rest
 
--- the entry of a line, without its line feed
-unfoldable pub entry_at : List ℕ → Option Entry
-entry_at bytes = task_word (split bytes).0 (split bytes).1
+-- what follows the word `grow`, which only the second version has
+unfoldable pub grow_at : Version → List ℕ → Option Entry
+grow_at First bytes = None
+grow_at Second bytes = do
+  worker ← short_at bytes
+  grown ← long_at worker.1
+  ended (record { worker = worker.0; event = Grow grown.0 }) grown.1
+
+-- the entry of a word in this version, and what follows it
+unfoldable pub entry_word : Version → List ℕ → List ℕ → Option Entry
+entry_word version word rest = if bytes_eq word (codes "grow") then grow_at version rest else task_word word rest
+
+-- the entry of a line in this version, without its line feed
+unfoldable pub entry_at : Version → List ℕ → Option Entry
+entry_at version bytes = entry_word version (split bytes).0 (split bytes).1

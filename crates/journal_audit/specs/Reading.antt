@@ -5,6 +5,8 @@ use Rattle.std.specs.List.{prefix_len}
 use Rattle.std.specs.Str.{bytes_eq}
 use Rattle.pool_ledger.specs.declared.entry.Entry.{Entry}
 use Rattle.pool_ledger.specs.Sizes.{Sizes}
+use Rattle.journal_audit.specs.declared.version.Version.{Version}
+use Rattle.journal_audit.specs.declared.version.Version.TheVariants.{First, Second}
 use Rattle.journal_audit.specs.Fields.{◌>>=◌, split, long_at, ended}
 use Rattle.journal_audit.specs.Entries.{entry_at}
 
@@ -23,9 +25,19 @@ sizes_at bytes = do
   setup ← setup_of maximum.0 region.0 workers.0
   ended setup workers.1
 
--- the sizes of a first line, without its line feed
-unfoldable pub head_at : List ℕ → Option Sizes
-head_at bytes = if bytes_eq (split bytes).0 (codes "memory journal 1") then sizes_at (split bytes).1 else None
+-- the version whose texts begin with these words
+unfoldable pub version_of : List ℕ → Option Version
+version_of words =
+    if bytes_eq words (codes "memory journal 1") then Some First
+    else if bytes_eq words (codes "memory journal 2") then Some Second
+    else None
+
+-- the version and the sizes of a first line, without its line feed
+unfoldable pub head_at : List ℕ → Option (Version × Sizes)
+head_at bytes = do
+  version ← version_of (split bytes).0
+  setup ← sizes_at (split bytes).1
+  Some (version, setup)
 
 -- whether the byte is no line feed
 abbrev pub is_inline : ℕ → Bool
@@ -40,16 +52,16 @@ cut_behind line (b ∷ rest) = cond (nat_eq b 10) (Some (line, rest)) None
 unfoldable pub cut : List ℕ → Option (List ℕ × List ℕ)
 cut bytes = cut_behind (take (prefix_len is_inline bytes) bytes) (drop (prefix_len is_inline bytes) bytes)
 
--- the entry of the first line, and what follows its line feed
-unfoldable pub line_at : List ℕ → Option (Entry × List ℕ)
-line_at bytes = do
+-- the entry of the first line in this version, and what follows its line feed
+unfoldable pub line_at : Version → List ℕ → Option (Entry × List ℕ)
+line_at version bytes = do
   found ← cut bytes
-  entry ← entry_at found.0
+  entry ← entry_at version found.0
   Some (entry, found.1)
 
--- the sizes of the first line, and what follows its line feed
-unfoldable pub head_line_at : List ℕ → Option (Sizes × List ℕ)
+-- the version and the sizes of the first line, and what follows its line feed
+unfoldable pub head_line_at : List ℕ → Option (Version × Sizes × List ℕ)
 head_line_at bytes = do
   found ← cut bytes
-  setup ← head_at found.0
-  Some (setup, found.1)
+  head ← head_at found.0
+  Some (head.0, head.1, found.1)

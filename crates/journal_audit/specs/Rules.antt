@@ -1,20 +1,20 @@
 -- The rules that an entry has to keep after the entries before it, in their order, and the first one that it breaks.
 -- This project's own, over the rules of Spark's UnifiedMemoryManager.
-use Rattle.std.specs.Prelude.{ℕ, ◌^◌, ◌==◌, nat_lt, Bool, true, false, not, ◌&&◌, ◌||◌, if◌then◌else◌, Option, Some, None, is_some, List, [], ◌∷◌, length}
+use Rattle.std.specs.Prelude.{ℕ, ◌+◌, ◌^◌, ◌==◌, nat_lt, Bool, true, false, not, ◌&&◌, ◌||◌, if◌then◌else◌, Option, Some, None, is_some, List, [], ◌∷◌, length}
 use Rattle.pool_ledger.specs.declared.entry.Entry.{Entry}
 use Rattle.pool_ledger.specs.declared.entry.Event.{Event}
-use Rattle.pool_ledger.specs.declared.entry.Event.TheVariants.{Begin, Attempt, Release, End, Evict, Admit, Refused, Pin, Unpin, Remove}
+use Rattle.pool_ledger.specs.declared.entry.Event.TheVariants.{Begin, Attempt, Release, End, Evict, Admit, Refused, Pin, Unpin, Remove, Grow}
 use Rattle.pool_ledger.specs.declared.entry.Fate.{Fate}
 use Rattle.pool_ledger.specs.declared.entry.Fate.TheVariants.{Disk, Gone, NoMemory}
 use Rattle.pool_ledger.specs.declared.entry.Level.{Level}
 use Rattle.pool_ledger.specs.declared.entry.Level.TheVariants.{Memory, Disk as OnDisk}
 use Rattle.pool_ledger.specs.Sizes.{Sizes}
-use Rattle.pool_ledger.specs.History.{History, total, held, was_begun, open_task}
+use Rattle.pool_ledger.specs.History.{History, total, maximum, held, was_begun, open_task}
 use Rattle.pool_ledger.specs.Blocks.{Name, Resident, resident_at, is_resident, is_pinned, worker_pin, leaves_copy}
 use Rattle.pool_ledger.specs.Answers.{growth, answer, admission}
 use Rattle.pool_ledger.specs.Legal.{Evicted, is_eviction, pending, settled, is_own_turn}
 use Rattle.journal_audit.specs.declared.rules.Rule.{Rule}
-use Rattle.journal_audit.specs.declared.rules.Rule.TheVariants.{Worker, Pending, Task, Asked, Block, Pin as Pinned, Victims, Growth, Share, Store, Freed}
+use Rattle.journal_audit.specs.declared.rules.Rule.TheVariants.{Worker, Pending, Task, Asked, Block, Pin as Pinned, Victims, Growth, Share, Store, Freed, Grow as Grown}
 
 -- a rule, and whether it is broken
 pub record Check : Type 0 where
@@ -129,6 +129,8 @@ event_checks setup history worker (Pin dataset part true) =
 event_checks setup history worker (Unpin dataset part) =
     breaks Pinned (not (is_name (worker_pin history worker) dataset part)) ∷ []
 event_checks setup history worker (Remove dataset part size) = breaks Block (not (may_leave history dataset part size)) ∷ []
+event_checks setup history worker (Grow bytes) =
+    breaks Grown (((not (worker == 0) || bytes == 0) || nat_lt (2 ^ 36) bytes) || nat_lt (2 ^ 41) (maximum setup history + bytes)) ∷ []
 
 -- the first rule that an entry breaks after the entries before it; none where it may follow them
 abbrev pub first_broken : Sizes → History → Entry → Option Rule

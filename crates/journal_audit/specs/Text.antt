@@ -1,14 +1,16 @@
--- The one text of a journal: a line with the setup's sizes, then a line for each entry.
+-- The one text of a journal in each version: a line with the setup's sizes, then a line for each entry.
 -- This project's own.
-use Rattle.std.specs.Prelude.{ℕ, ◌<◌, ◌^◌, ◌++◌, Bool, true, false, List, [], ◌∷◌, Option, Some, None, codes, decimal, flat_map, IfSome}
+use Rattle.std.specs.Prelude.{ℕ, ◌≡◌, ◌<◌, ◌^◌, ◌++◌, Bool, true, false, List, [], ◌∷◌, Option, Some, None, codes, decimal, flat_map, IfSome}
 use Rattle.pool_ledger.specs.declared.entry.Entry.{Entry}
 use Rattle.pool_ledger.specs.declared.entry.Event.{Event}
-use Rattle.pool_ledger.specs.declared.entry.Event.TheVariants.{Begin, Attempt, Release, End, Evict, Admit, Refused, Pin, Unpin, Remove}
+use Rattle.pool_ledger.specs.declared.entry.Event.TheVariants.{Begin, Attempt, Release, End, Evict, Admit, Refused, Pin, Unpin, Remove, Grow}
 use Rattle.pool_ledger.specs.declared.entry.Fate.{Fate}
 use Rattle.pool_ledger.specs.declared.entry.Fate.TheVariants.{Disk, Gone, NoMemory}
 use Rattle.pool_ledger.specs.declared.entry.Level.{Level}
 use Rattle.pool_ledger.specs.declared.entry.Level.TheVariants.{Memory, Disk as OnDisk}
 use Rattle.pool_ledger.specs.Sizes.{Sizes}
+use Rattle.journal_audit.specs.declared.version.Version.{Version}
+use Rattle.journal_audit.specs.declared.version.Version.TheVariants.{First, Second}
 
 -- a field with the comma ahead of it
 abbrev pub field : List ℕ → List ℕ
@@ -74,6 +76,7 @@ event_text worker (Attempt task asked moved evictions got) =
     ∷ got_text got ∷ [])
 event_text worker (Release task freed) = codes "release" ++ fields_joined (decimal worker ∷ decimal task ∷ decimal freed ∷ [])
 event_text worker (End task freed) = codes "end" ++ fields_joined (decimal worker ∷ decimal task ∷ decimal freed ∷ [])
+event_text worker (Grow bytes) = codes "grow" ++ fields_joined (decimal worker ∷ decimal bytes ∷ [])
 event_text worker event = block_text worker event
 
 -- the text of an entry, without its line feed
@@ -84,14 +87,28 @@ entry_text entry = event_text entry.worker entry.event
 abbrev pub lines_text : List Entry → List ℕ
 lines_text entries = flat_map (λ entry. entry_text entry ++ 10 ∷ []) entries
 
--- the text of the sizes that a pool started with, without its line feed
-abbrev pub head_text : Sizes → List ℕ
-head_text setup =
-    codes "memory journal 1" ++ fields_joined (decimal setup.maximum ∷ decimal setup.region ∷ decimal setup.workers ∷ [])
+-- the words that a text of this version begins with
+abbrev pub version_words : Version → List ℕ
+version_words First = codes "memory journal 1"
+version_words Second = codes "memory journal 2"
 
--- the text of a journal
+-- the text of the sizes that a pool started with, in this version, without its line feed
+abbrev pub head_text : Version → Sizes → List ℕ
+head_text version setup =
+    version_words version ++ fields_joined (decimal setup.maximum ∷ decimal setup.region ∷ decimal setup.workers ∷ [])
+
+-- the text of a journal in this version
+abbrev pub text_by : Version → Sizes → List Entry → List ℕ
+text_by version setup entries = head_text version setup ++ (10 ∷ lines_text entries)
+
+-- the text of a journal, which is written in the second version
 abbrev pub text_of : Sizes → List Entry → List ℕ
-text_of setup entries = head_text setup ++ (10 ∷ lines_text entries)
+text_of setup entries = text_by Second setup entries
+
+-- whether the pool grows
+abbrev pub is_growth : Event → Bool
+is_growth (Grow bytes) = true
+is_growth _ = false
 
 -- the numbers of an event are below their widths: names in 32 bits, amounts in 64
 abbrev pub EventFits : Event → Type 0
@@ -108,8 +125,14 @@ EventFits (Refused dataset part size borrowed evictions) =
 EventFits (Pin dataset part copy) = (dataset < 2 ^ 32) × (part < 2 ^ 32)
 EventFits (Unpin dataset part) = (dataset < 2 ^ 32) × (part < 2 ^ 32)
 EventFits (Remove dataset part size) = (dataset < 2 ^ 32) × (part < 2 ^ 32) × (size < 2 ^ 64)
+EventFits (Grow bytes) = bytes < 2 ^ 64
 
 -- the numbers of an entry are below their widths
 pub record Fits (entry : Entry) : Type 0 where
   pub worker : entry.worker < 2 ^ 32
   pub event : EventFits entry.event
+
+-- an entry that has a line in a text of this version: its numbers are below their widths, and a growth stands only in the second
+pub record FitsIn (version : Version) (entry : Entry) : Type 0 where
+  pub fits : Fits entry
+  pub known : version ≡ First → is_growth entry.event ≡ false

@@ -5,16 +5,19 @@ ghost use Rattle.pool_ledger.specs.declared.entry.Entry.{Entry};
 ghost use Rattle.pool_ledger.specs.Sizes.{Sizes};
 ghost use Rattle.pool_ledger.specs.History.{History};
 ghost use Rattle.pool_ledger.specs.Legal.{MayFollow};
-ghost use Rattle.journal_audit.specs.Text.{Fits, text_of};
+ghost use Rattle.journal_audit.specs.declared.version.Version.{Version};
+ghost use Rattle.journal_audit.specs.Text.{Fits, text_by};
 ghost use Rattle.journal_audit.specs.Lines.{IsSetup};
 ghost use Rattle.journal_audit.specs.Rules.{first_broken};
 
-/// No text is of two journals, nor of two setups. It does nothing when run.
+/// No text is of two versions, nor of two setups, nor of two journals. It does nothing when run.
 pub fn one_journal_for_a_text()
-    ensures setup { (a b : Sizes) (one two : List Entry) → IsSetup a → IsSetup b
-        → text_of a one ≡ text_of b two → a ≡ b }
-    ensures journal { (a b : Sizes) (one two : List Entry) → IsSetup a → IsSetup b
-        → All Fits one → All Fits two → text_of a one ≡ text_of b two → one ≡ two }
+    ensures version { (v w : Version) (a b : Sizes) (one two : List Entry) → IsSetup a → IsSetup b
+        → text_by v a one ≡ text_by w b two → v ≡ w }
+    ensures setup { (v w : Version) (a b : Sizes) (one two : List Entry) → IsSetup a → IsSetup b
+        → text_by v a one ≡ text_by w b two → a ≡ b }
+    ensures journal { (v w : Version) (a b : Sizes) (one two : List Entry) → IsSetup a → IsSetup b
+        → All Fits one → All Fits two → text_by v a one ≡ text_by w b two → one ≡ two }
 {}
 
 /// An entry breaks no rule exactly where it may follow the entries before it. The rule that is told isn't

@@ -6,51 +6,52 @@ ghost use Rattle.std.specs.Str.{bytes_eq};
 ghost use Rattle.std.specs.Option.{option_map};
 ghost use Rattle.pool_ledger.specs.declared.entry.Entry.{Entry};
 ghost use Rattle.pool_ledger.specs.Sizes.{Sizes};
-ghost use Rattle.journal_audit.specs.Text.{entry_text, head_text, Fits};
+ghost use Rattle.journal_audit.specs.Text.{entry_text, head_text, FitsIn};
 ghost use Rattle.journal_audit.specs.Fields.{split, ended};
-ghost use Rattle.journal_audit.specs.Reading.{is_inline, cut, cut_behind, setup_of, sizes_at, head_at, line_at, head_line_at};
+ghost use Rattle.journal_audit.specs.Reading.{is_inline, cut, cut_behind, setup_of, sizes_at, version_of, head_at, line_at, head_line_at};
 ghost use Rattle.journal_audit.specs.Lines.{IsSetup, BeginsLine, BeginsHead};
 
 use crate::fields::{is_word, split_field, take_long};
+use crate::version::Version;
 use crate::words::entry_of;
 use pool_ledger::{Entry, Setup};
 
-/// The entry of the first line, and what follows its line feed. `None` exactly where the bytes don't begin
-/// with the line of an entry.
-pub fn take_entry(bytes: &[u8]) -> Option<(Entry, &[u8])>
-    ensures found { IfSome result (λ p. Fits p.0 × (bytes.now ≡ entry_text p.0 ++ (10 ∷ p.1.now))) }
-    ensures none { IfNone result (BeginsLine bytes.now → ⊥) }
+/// The entry of the first line, in a text of this version, and what follows its line feed. `None` exactly
+/// where the bytes don't begin with the line of an entry.
+pub fn take_entry(version: Version, bytes: &[u8]) -> Option<(Entry, &[u8])>
+    ensures found { IfSome result (λ p. FitsIn version p.0 × (bytes.now ≡ entry_text p.0 ++ (10 ∷ p.1.now))) }
+    ensures none { IfNone result (BeginsLine version bytes.now → ⊥) }
 {
-    read_line(bytes)
+    read_line(version, bytes)
 }
 
-/// The setup of the first line, and what follows its line feed. `None` exactly where the bytes don't begin
-/// with the line of a setup.
-pub fn take_setup(bytes: &[u8]) -> Option<(Setup, &[u8])>
-    ensures found { IfSome result (λ p. IsSetup p.0 × (bytes.now ≡ head_text p.0 ++ (10 ∷ p.1.now))) }
-    ensures none { IfNone result (BeginsHead bytes.now → ⊥) }
+/// The version and the setup of the first line, and what follows its line feed. `None` exactly where the
+/// bytes don't begin with the line of a setup, in any version.
+pub fn take_setup(bytes: &[u8]) -> Option<(Version, Setup, &[u8])>
+    ensures found { IfSome result (λ p. IsSetup p.1 × (bytes.now ≡ head_text p.0 p.1 ++ (10 ∷ p.2.now))) }
+    ensures none { IfNone result ((version : Version) → BeginsHead version bytes.now → ⊥) }
 {
     read_head_line(bytes)
 }
 
 // The entry of the first line, as the definitions read it.
 #[tactic(auto, unfolding(crate::specs::Reading::line_at))]
-fn read_line(bytes: &[u8]) -> Option<(Entry, &[u8])>
-    ensures { option_map (λ p. (p.0, p.1.now)) result ≡ line_at bytes.now }
+fn read_line(version: Version, bytes: &[u8]) -> Option<(Entry, &[u8])>
+    ensures { option_map (λ p. (p.0, p.1.now)) result ≡ line_at version bytes.now }
 {
     let (line, rest) = cut_line(bytes)?;
-    let entry = entry_of(line)?;
+    let entry = entry_of(version, line)?;
     Some((entry, rest))
 }
 
-// The setup of the first line, as the definitions read it.
+// The version and the setup of the first line, as the definitions read them.
 #[tactic(auto, unfolding(crate::specs::Reading::head_line_at))]
-fn read_head_line(bytes: &[u8]) -> Option<(Setup, &[u8])>
-    ensures { option_map (λ p. (p.0, p.1.now)) result ≡ head_line_at bytes.now }
+fn read_head_line(bytes: &[u8]) -> Option<(Version, Setup, &[u8])>
+    ensures { option_map (λ p. (p.0, p.1, p.2.now)) result ≡ head_line_at bytes.now }
 {
     let (line, rest) = cut_line(bytes)?;
-    let setup = read_head(line)?;
-    Some((setup, rest))
+    let (version, setup) = read_head(line)?;
+    Some((version, setup, rest))
 }
 
 // How many bytes stand before the first line feed.
@@ -81,20 +82,32 @@ fn behind_line<'a>(line: &'a [u8], behind: &'a [u8]) -> Option<(&'a [u8], &'a [u
     }
 }
 
-// The setup of a first line, without its line feed.
+// The version and the setup of a first line, without its line feed.
 #[tactic(auto, unfolding(crate::specs::Reading::head_at))]
-fn read_head(bytes: &[u8]) -> Option<Setup>
+fn read_head(bytes: &[u8]) -> Option<(Version, Setup)>
     ensures { result ≡ head_at bytes.now }
 {
-    let (word, rest) = split_field(bytes);
-    if is_word(word, b"memory journal 1") {
-        read_sizes(rest)
+    let (words, rest) = split_field(bytes);
+    let version = read_version(words)?;
+    let setup = read_sizes(rest)?;
+    Some((version, setup))
+}
+
+// The version whose texts begin with these words.
+#[tactic(auto, unfolding(crate::specs::Reading::version_of))]
+fn read_version(words: &[u8]) -> Option<Version>
+    ensures { result ≡ version_of words.now }
+{
+    if is_word(words, b"memory journal 1") {
+        Some(Version::First)
+    } else if is_word(words, b"memory journal 2") {
+        Some(Version::Second)
     } else {
         None
     }
 }
 
-// The setup behind the word of the first line.
+// The setup behind the words of the first line.
 #[tactic(auto, unfolding(crate::specs::Reading::sizes_at))]
 fn read_sizes(bytes: &[u8]) -> Option<Setup>
     ensures { result ≡ sizes_at bytes.now }

@@ -29,4 +29,7 @@ pub enum Rule {
     Store,
     /// A task freed more than it held, or not all at its end.
     Freed,
+    /// The worker isn't the first one, or a growth isn't of 1 to 2^36 bytes, or the pool would pass 2^41
+    /// bytes.
+    Grow,
 }

@@ -9,8 +9,8 @@ use crate::writing::{put_entry, put_head};
 use pool_ledger::{Entry, Journal, Setup};
 use std::alloc::{AllocError, Global};
 
-/// The text of a journal that came from a pool of this setup: a first line with the setup's sizes, then a
-/// line for each entry. An `Err` is want of memory.
+/// The text of a journal that came from a pool of this setup, in the second version: a first line with the
+/// setup's sizes, then a line for each entry. An `Err` is want of memory.
 pub fn journal_text(alloc: Global, setup: &Setup, journal: &Journal) -> Result<Vec<u8>, AllocError>
     ensures ok { IfOk result (λ text. text.items ≡ text_of setup.now journal.now) }
 

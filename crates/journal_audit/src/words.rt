@@ -3,20 +3,33 @@
 ghost use Rattle.std.specs.Prelude.{◌≡◌};
 ghost use Rattle.pool_ledger.specs.declared.entry.Entry.{Entry};
 ghost use Rattle.journal_audit.specs.Fields.{ended, split, short_at, long_at, got_at, fate_at, level_at, form_at};
-ghost use Rattle.journal_audit.specs.Entries.{begin_at, attempt_at, release_at, end_at, evict_at, admit_at, refused_at, pin_at, unpin_at, remove_at, block_word, task_word, entry_at};
+ghost use Rattle.journal_audit.specs.Entries.{begin_at, attempt_at, release_at, end_at, evict_at, admit_at, refused_at, pin_at, unpin_at, remove_at, grow_at, block_word, task_word, entry_word, entry_at};
 
 use crate::fields::{
     is_word, split_field, take_fate, take_form, take_got, take_level, take_long, take_short,
 };
+use crate::version::Version;
 use pool_ledger::{Entry, Event};
 
-/// The entry that the line is of, without its line feed.
+/// The entry that the line is of in this version, without its line feed.
 #[tactic(auto, unfolding(crate::specs::Entries::entry_at))]
-pub(crate) fn entry_of(bytes: &[u8]) -> Option<Entry>
-    ensures { result ≡ entry_at bytes.now }
+pub(crate) fn entry_of(version: Version, bytes: &[u8]) -> Option<Entry>
+    ensures { result ≡ entry_at version bytes.now }
 {
     let (word, rest) = split_field(bytes);
-    read_task_word(word, rest)
+    read_word(version, word, rest)
+}
+
+// The entry of a word in this version, and what follows it.
+#[tactic(auto, unfolding(crate::specs::Entries::entry_word))]
+fn read_word(version: Version, word: &[u8], rest: &[u8]) -> Option<Entry>
+    ensures { result ≡ entry_word version word.now rest.now }
+{
+    if is_word(word, b"grow") {
+        read_grow(version, rest)
+    } else {
+        read_task_word(word, rest)
+    }
 }
 
 // The entry of a word, and what follows it.
@@ -262,6 +275,27 @@ fn read_remove(bytes: &[u8]) -> Option<Entry>
         },
         rest,
     )
+}
+
+// The first version has no such word.
+#[tactic(auto, unfolding(crate::specs::Entries::grow_at))]
+fn read_grow(version: Version, bytes: &[u8]) -> Option<Entry>
+    ensures { result ≡ grow_at version bytes.now }
+{
+    match version {
+        Version::First => None,
+        Version::Second => {
+            let (worker, rest) = take_short(bytes)?;
+            let (grown, rest) = take_long(rest)?;
+            at_end(
+                Entry {
+                    worker,
+                    event: Event::Grow { bytes: grown },
+                },
+                rest,
+            )
+        }
+    }
 }
 
 // The entry, if nothing is left of its line.

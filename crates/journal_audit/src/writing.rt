@@ -1,17 +1,20 @@
 //! The lines of a journal's text, written.
 
 ghost use Rattle.std.specs.Prelude.{◌≡◌, ◌++◌, OnOk};
-ghost use Rattle.journal_audit.specs.Text.{number_field, field, entry_text, block_text, stored_text, head_text, got_text, fate_word, level_word, form_word};
+ghost use Rattle.pool_ledger.specs.declared.entry.Event.TheVariants.{Grow};
+ghost use Rattle.journal_audit.specs.declared.version.Version.TheVariants.{Second};
+ghost use Rattle.journal_audit.specs.Text.{number_field, field, event_text, entry_text, block_text, stored_text, head_text, got_text, fate_word, level_word, form_word};
 
 use itoa::Buffer;
 use pool_ledger::{Entry, Event, Fate, Level, Setup};
 use std::alloc::AllocError;
 
-/// Appends the text of a setup's sizes, without its line feed. After an `Err` a part of it may be there.
+/// Appends the text of a setup's sizes in the second version, without its line feed. After an `Err` a
+/// part of it may be there.
 pub(crate) fn put_head(out: &mut Vec<u8>, setup: &Setup) -> Result<(), AllocError>
-    ensures ok { OnOk result (out.new.items ≡ out.old.items ++ head_text setup.now) }
+    ensures ok { OnOk result (out.new.items ≡ out.old.items ++ head_text Second setup.now) }
 {
-    out.extend_from_slice(b"memory journal 1")?;
+    out.extend_from_slice(b"memory journal 2")?;
     put_number(out, setup.max())?;
     put_number(out, setup.region())?;
     put_number(out, setup.workers())
@@ -45,8 +48,18 @@ pub(crate) fn put_entry(out: &mut Vec<u8>, entry: Entry) -> Result<(), AllocErro
             put_task(out, b"end", worker, task)?;
             put_number(out, freed)
         }
+        Event::Grow { bytes } => put_growth(out, worker, bytes),
         event => put_block_event(out, worker, event),
     }
+}
+
+// A pool that grows.
+fn put_growth(out: &mut Vec<u8>, worker: u32, bytes: u64) -> Result<(), AllocError>
+    ensures ok { OnOk result (out.new.items ≡ out.old.items ++ event_text worker (Grow bytes)) }
+{
+    out.extend_from_slice(b"grow")?;
+    put_number(out, u64::from(worker))?;
+    put_number(out, bytes)
 }
 
 // The text of an event of a block; nothing for an event of a task.

@@ -13,7 +13,8 @@ use Rattle.pool_ledger.specs.Legal.{pending, IsPermitted}
 use Rattle.pool_ledger.proofs.Prefixes.{after-more}
 use Rattle.journal_audit.specs.declared.rules.Rule.{Rule}
 use Rattle.journal_audit.specs.declared.rules.Rule.TheVariants.{Pending}
-use Rattle.journal_audit.specs.Text.{entry_text, head_text, lines_text, Fits}
+use Rattle.journal_audit.specs.declared.version.Version.{Version}
+use Rattle.journal_audit.specs.Text.{entry_text, head_text, lines_text, FitsIn}
 use Rattle.journal_audit.specs.Lines.{IsBadLine, IsSetup}
 use Rattle.journal_audit.specs.Rules.{first_broken, is_waiting}
 use Rattle.journal_audit.proofs.Tests.{is_not_waiting, none_waits}
@@ -21,7 +22,7 @@ use Rattle.journal_replay.specs.declared.replay.Replay.{Replay}
 use Rattle.journal_replay.specs.declared.verdict.Verdict.{Verdict}
 use Rattle.journal_replay.specs.declared.verdict.Verdict.TheVariants.{Yes, No, BadLine}
 use Rattle.journal_replay.specs.Replays.{history_of, setup_of, TellsHistory}
-use Rattle.journal_replay.specs.Verdicts.{IsAnswer, IsBad, IsVerdict}
+use Rattle.journal_replay.specs.Verdicts.{IsAnswer, IsBad, IsTextOf, IsVerdict}
 use Rattle.journal_replay.proofs.OneVerdict.{line_more}
 
 module _ (setup : Sizes) (entries : List Entry) (replay : Replay) (same : setup_of replay ≡ setup) where
@@ -73,22 +74,25 @@ tells_more replay new entries i any tells below after_it =
     subst (TellsHistory new) (sym (after-more i entries any below ∙ ap (λ (h : History). get_or entries i any ∷ h) (sym tells.turns.same))) after_it
 
 -- the verdict of the text
-pub of_answer : (text : List ℕ) (setup : Sizes) (lines : List ℕ) (entries : List Entry) (verdict : Verdict) → IsSetup setup → text ≡ head_text setup ++ (10 ∷ lines)
-    → All Fits entries → lines ≡ lines_text entries → IsAnswer setup entries verdict → IsVerdict text verdict
-of_answer text setup lines entries (Yes events) is_setup split fits is answer =
-    record { setup = setup; entries = entries; of = record { setup_is = is_setup; fits = fits; text_is = split ∙ ap (λ (bytes : List ℕ). head_text setup ++ (10 ∷ bytes)) is }; answer = answer }
-of_answer text setup lines entries (No event rule) is_setup split fits is answer =
-    record { setup = setup; entries = entries; of = record { setup_is = is_setup; fits = fits; text_is = split ∙ ap (λ (bytes : List ℕ). head_text setup ++ (10 ∷ bytes)) is }; answer = answer }
-of_answer text setup lines entries (BadLine line) is_setup split fits is answer = absurd answer
+module _ (text : List ℕ) (version : Version) (setup : Sizes) (lines : List ℕ) (is_setup : IsSetup setup) (split : text ≡ head_text version setup ++ (10 ∷ lines)) where
+  of_entries : (entries : List Entry) → All (FitsIn version) entries → lines ≡ lines_text entries → IsTextOf text setup entries
+  of_entries entries fits is =
+      record { version = version; setup_is = is_setup; fits = fits; text_is = split ∙ ap (λ (bytes : List ℕ). head_text version setup ++ (10 ∷ bytes)) is }
 
-pub of_bad_line : (text : List ℕ) (setup : Sizes) (lines : List ℕ) (line : ℕ) → IsSetup setup → text ≡ head_text setup ++ (10 ∷ lines) → IsBadLine lines line → IsBad text line
-of_bad_line text setup lines line is_setup split bad = inr (record { setup = setup; lines = lines; setup_is = is_setup; split = split; bad = bad })
+  pub of_answer : (entries : List Entry) (verdict : Verdict) → All (FitsIn version) entries → lines ≡ lines_text entries → IsAnswer setup entries verdict → IsVerdict text verdict
+  of_answer entries (Yes events) fits is answer = record { setup = setup; entries = entries; of = of_entries entries fits is; answer = answer }
+  of_answer entries (No event rule) fits is answer = record { setup = setup; entries = entries; of = of_entries entries fits is; answer = answer }
+  of_answer entries (BadLine line) fits is answer = absurd answer
+
+  pub of_bad_line : (line : ℕ) → IsBadLine version lines line → IsBad text line
+  of_bad_line line bad = inr (record { version = version; setup = setup; lines = lines; setup_is = is_setup; split = split; bad = bad })
 
 -- one more line that was read
-pub lines_more : (lines : List ℕ) (items more : List Entry) (rest behind : List ℕ) (entry : Entry) → All Fits items × (lines ≡ lines_text items ++ rest) → more ≡ items ++ entry ∷ []
-    → Fits entry × (rest ≡ entry_text entry ++ (10 ∷ behind)) → All Fits more × (lines ≡ lines_text more ++ behind)
-lines_more lines items more rest behind entry so_far is found =
-    let fits : All Fits more = subst (All Fits) (sym is) (All-push Fits items entry so_far.0 found.0) in
+pub lines_more : (version : Version) (lines : List ℕ) (items more : List Entry) (rest behind : List ℕ) (entry : Entry)
+    → All (FitsIn version) items × (lines ≡ lines_text items ++ rest) → more ≡ items ++ entry ∷ []
+    → FitsIn version entry × (rest ≡ entry_text entry ++ (10 ∷ behind)) → All (FitsIn version) more × (lines ≡ lines_text more ++ behind)
+lines_more version lines items more rest behind entry so_far is found =
+    let fits : All (FitsIn version) more = subst (All (FitsIn version)) (sym is) (All-push (FitsIn version) items entry so_far.0 found.0) in
     let text : lines ≡ lines_text more ++ behind =
     so_far.1
     ∙ ap (λ (bytes : List ℕ). lines_text items ++ bytes) (found.1 ∙ sym (line_more entry [] behind))

@@ -10,7 +10,7 @@ use Rattle.pool_ledger.specs.declared.entry.Entry.{Entry}
 use Rattle.pool_ledger.specs.declared.entry.Event.{Event}
 use Rattle.pool_ledger.specs.declared.entry.Event.TheVariants.{Admit, Evict, Pin, Remove}
 use Rattle.pool_ledger.specs.Sizes.{Sizes}
-use Rattle.pool_ledger.specs.History.{History}
+use Rattle.pool_ledger.specs.History.{History, maximum}
 use Rattle.pool_ledger.specs.Blocks.{Resident, is_block, only, residents, residents_after, sizes, without}
 use Rattle.pool_ledger.specs.Recorded.{CanCome, IsLeaving, IsRecorded}
 use Rattle.pool_ledger.proofs.Residents.{stored-without}
@@ -90,7 +90,7 @@ pub bytes_within : (dataset : ℕ) (blocks : List Resident) → bytes_of dataset
 bytes_within dataset blocks = omega (arith, both dataset blocks)
 
 -- an admission passes no bound of a number
-pub small_noted : {S : Type 0} (bytes : HashMap ℕ ℕ S) (s : Sizes) (h : History) (entry : Entry) → s.maximum ≤ 2 ^ 40 → IsRecorded s (entry ∷ h) → TellsBytes bytes h → IsSmall entry.event bytes
+pub small_noted : {S : Type 0} (bytes : HashMap ℕ ℕ S) (s : Sizes) (h : History) (entry : Entry) → maximum s h ≤ 2 ^ 41 → IsRecorded s (entry ∷ h) → TellsBytes bytes h → IsSmall entry.event bytes
 small_noted bytes s h entry low recorded tells = by entry.worker entry.event recorded.1.event_fits
   where
     by : (w : ℕ) (e : Event) → CanCome s h w e → IsSmall e bytes

@@ -1,23 +1,24 @@
 -- A text has one verdict.
-use Rattle.std.proofs.Common.{◌≡◌, ℕ, ◌+◌, Bool, true, false, cond, List, [], ◌∷◌, ◌++◌, length, Option, Some, None, refl, sym, ap, subst, ◌∙◌, inl, inr, arith, append_assoc, append-nil}
+use Rattle.std.proofs.Common.{◌≡◌, ℕ, ◌+◌, Bool, true, false, cond, List, [], ◌∷◌, ◌++◌, All, length, Option, Some, None, refl, sym, ap, subst, ◌∙◌, inl, inr, arith, append_assoc, append-nil}
 use Rattle.std.specs.Prelude.{reverse}
 use Rattle.std.specs.List.{AllByRecursion}
 use Rattle.std.proofs.lemmas.Bool.{cases_Bool}
 use Rattle.std.proofs.lemmas.List.{reverse-append}
-use Rattle.std.proofs.lemmas.List.Elements.{recursion_from_All}
+use Rattle.std.proofs.lemmas.List.Elements.{recursion_from_All, All-weaker}
 use Rattle.pool_ledger.specs.declared.entry.Entry.{Entry}
 use Rattle.pool_ledger.specs.Sizes.{Sizes}
 use Rattle.pool_ledger.specs.History.{History}
 use Rattle.pool_ledger.specs.Legal.{IsPermitted}
 use Rattle.journal_audit.specs.declared.rules.Rule.{Rule}
 use Rattle.journal_audit.specs.declared.rules.Rule.TheVariants.{Pending}
-use Rattle.journal_audit.specs.Text.{entry_text, lines_text, Fits}
+use Rattle.journal_audit.specs.declared.version.Version.{Version}
+use Rattle.journal_audit.specs.Text.{entry_text, lines_text, Fits, FitsIn}
 use Rattle.journal_audit.specs.Reading.{cut, cut_behind, line_at}
-use Rattle.journal_audit.specs.Lines.{BeginsHead, BeginsLine}
+use Rattle.journal_audit.specs.Lines.{BeginsHead, BeginsLine, IsBadLine}
 use Rattle.journal_audit.specs.Rules.{first_broken, is_waiting}
 use Rattle.journal_audit.proofs.FieldsTake.{some_is}
 use Rattle.journal_audit.proofs.Follows.{breaks_none}
-use Rattle.journal_audit.proofs.Journals.{same_behind, same_entries, same_setups}
+use Rattle.journal_audit.proofs.Journals.{same_entries, same_heads}
 use Rattle.journal_audit.proofs.LinesOf.{line_again}
 use Rattle.journal_audit.proofs.Tests.{is_not_waiting, none_waits}
 use Rattle.journal_replay.specs.declared.verdict.Verdict.{Verdict}
@@ -103,74 +104,90 @@ same_answer s entries (BadLine line) two one is same = absurd one
 same_answer s entries (Yes a) (BadLine line) one two same = absurd two
 same_answer s entries (No event rule) (BadLine line) one two same = absurd two
 
+-- What stands in a text
+
+all_fit : (version : Version) (entries : List Entry) → All (FitsIn version) entries → All Fits entries
+all_fit version entries fits = All-weaker (FitsIn version) Fits (λ entry fit. fit.fits) entries fits
+
 same_journal : (text : List ℕ) (one two : Verdict) → IsOfJournal text one → IsOfJournal text two → one ≡ two
 same_journal text one two a b =
-    let texts = sym a.of.text_is ∙ b.of.text_is in
-    let setups = same_setups a.setup b.setup (lines_text a.entries) (lines_text b.entries) a.of.setup_is b.of.setup_is texts in
-    let entries = same_entries a.entries b.entries a.of.fits b.of.fits (same_behind a.setup b.setup (lines_text a.entries) (lines_text b.entries) a.of.setup_is b.of.setup_is texts) in
+    let parts = same_heads a.of.version b.of.version a.setup b.setup (lines_text a.entries) (lines_text b.entries) a.of.setup_is b.of.setup_is (sym a.of.text_is ∙ b.of.text_is) in
+    let entries = same_entries a.entries b.entries (all_fit a.of.version a.entries a.of.fits) (all_fit b.of.version b.entries b.of.fits) parts.2 in
     let first : IsAnswer b.setup b.entries one =
-    subst (λ (es : List Entry). IsAnswer b.setup es one) entries (subst (λ (s : Sizes). IsAnswer s a.entries one) setups a.answer) in
+    subst (λ (es : List Entry). IsAnswer b.setup es one) entries (subst (λ (s : Sizes). IsAnswer s a.entries one) parts.1 a.answer) in
     same_answer b.setup b.entries one two first b.answer (sym (answered b.setup b.entries one first) ∙ answered b.setup b.entries two b.answer)
 
 -- Where lines end
 
-none_here : line_at [] ≡ None
+none_here : (version : Version) → line_at version [] ≡ None
 unfolding line_at cut cut_behind
-none_here = refl
+none_here version = refl
 
 -- no line begins where nothing is left
-nothing : BeginsLine [] → ⊥
-nothing begins = cc (sym none_here ∙ ap line_at begins.3 ∙ line_again begins.0 begins.1 begins.2)
+nothing : (version : Version) → BeginsLine version [] → ⊥
+nothing version begins = cc (sym (none_here version) ∙ ap (line_at version) begins.3 ∙ line_again version begins.0 begins.1 begins.2)
 
 pub line_more : (x : Entry) (a : List Entry) (r : List ℕ) → lines_text (x ∷ a) ++ r ≡ entry_text x ++ (10 ∷ (lines_text a ++ r))
 line_more x a r = append_assoc (entry_text x ++ (10 ∷ [])) (lines_text a) r ∙ append_assoc (entry_text x) (10 ∷ []) (lines_text a ++ r)
 
-same_fronts : (a b : List Entry) (r q : List ℕ) → AllByRecursion Fits a → AllByRecursion Fits b → (BeginsLine r → ⊥) → (BeginsLine q → ⊥)
-    → lines_text a ++ r ≡ lines_text b ++ q → (a ≡ b) × (r ≡ q)
-same_fronts [] [] r q fa fb nr nq same = (refl, same)
-same_fronts [] (y ∷ b) r q fa fb nr nq same = absurd (nr (y, lines_text b ++ q, fb.0, same ∙ line_more y b q))
-same_fronts (x ∷ a) [] r q fa fb nr nq same = absurd (nq (x, lines_text a ++ r, fa.0, sym same ∙ line_more x a r))
-same_fronts (x ∷ a) (y ∷ b) r q fa fb nr nq same =
-    let pair : (x, lines_text a ++ r) ≡ (y, lines_text b ++ q) =
-    some_is (sym (line_again x (lines_text a ++ r) fa.0) ∙ ap line_at (sym (line_more x a r) ∙ same ∙ line_more y b q) ∙ line_again y (lines_text b ++ q) fb.0) in
-    let head : x ≡ y = ap (λ (p : Entry × List ℕ). p.0) pair in
-    let rest = same_fronts a b r q fa.1 fb.1 nr nq (ap (λ (p : Entry × List ℕ). p.1) pair) in
-    (ap (λ (e : Entry). e ∷ a) head ∙ ap (λ (es : List Entry). y ∷ es) rest.0, rest.1)
+module _ (version : Version) where
+  same_fronts : (a b : List Entry) (r q : List ℕ) → AllByRecursion (FitsIn version) a → AllByRecursion (FitsIn version) b
+      → (BeginsLine version r → ⊥) → (BeginsLine version q → ⊥) → lines_text a ++ r ≡ lines_text b ++ q → (a ≡ b) × (r ≡ q)
+  same_fronts [] [] r q fa fb nr nq same = (refl, same)
+  same_fronts [] (y ∷ b) r q fa fb nr nq same = absurd (nr (y, lines_text b ++ q, fb.0, same ∙ line_more y b q))
+  same_fronts (x ∷ a) [] r q fa fb nr nq same = absurd (nq (x, lines_text a ++ r, fa.0, sym same ∙ line_more x a r))
+  same_fronts (x ∷ a) (y ∷ b) r q fa fb nr nq same =
+      let pair : (x, lines_text a ++ r) ≡ (y, lines_text b ++ q) =
+      some_is (sym (line_again version x (lines_text a ++ r) fa.0) ∙ ap (line_at version) (sym (line_more x a r) ∙ same ∙ line_more y b q) ∙ line_again version y (lines_text b ++ q) fb.0) in
+      let head : x ≡ y = ap (λ (p : Entry × List ℕ). p.0) pair in
+      let rest = same_fronts a b r q fa.1 fb.1 nr nq (ap (λ (p : Entry × List ℕ). p.1) pair) in
+      (ap (λ (e : Entry). e ∷ a) head ∙ ap (λ (es : List Entry). y ∷ es) rest.0, rest.1)
+
+  -- the lines of entries have no bad one
+  no_bad_line : (entries : List Entry) (lines : List ℕ) (line : ℕ) → All (FitsIn version) entries → lines_text entries ≡ lines → IsBadLine version lines line → ⊥
+  no_bad_line entries lines line fits same bad =
+      let both = same_fronts entries bad.front [] bad.rest (recursion_from_All (FitsIn version) entries fits) (recursion_from_All (FitsIn version) bad.front bad.fits) (nothing version) bad.bad
+      (append-nil (lines_text entries) ∙ same ∙ bad.split) in
+      let none : length bad.rest ≡ 0 = ap length (sym both.1) in
+      omega (arith, none, bad.left)
+
+  -- lines have one bad line
+  one_bad_line : (lines others : List ℕ) (a b : ℕ) → lines ≡ others → IsBadLine version lines a → IsBadLine version others b → a ≡ b
+  one_bad_line lines others a b same one two =
+      let both = same_fronts one.front two.front one.rest two.rest (recursion_from_All (FitsIn version) one.front one.fits) (recursion_from_All (FitsIn version) two.front two.fits) one.bad two.bad
+      (sym one.split ∙ same ∙ two.split) in
+      let counts : length one.front ≡ length two.front = ap length both.0 in
+      omega (arith, one.number, two.number, counts)
 
 -- no line of a journal's text is bad
 none_bad : (text : List ℕ) (verdict : Verdict) (line : ℕ) → IsOfJournal text verdict → HasBadLine text line → ⊥
 none_bad text verdict line of has =
-    let texts = sym of.of.text_is ∙ has.split in
-    let lines = same_behind of.setup has.setup (lines_text of.entries) has.lines of.of.setup_is has.setup_is texts in
-    let both = same_fronts of.entries has.bad.front [] has.bad.rest (recursion_from_All Fits of.entries of.of.fits) (recursion_from_All Fits has.bad.front has.bad.fits) nothing has.bad.bad
-    (append-nil (lines_text of.entries) ∙ lines ∙ has.bad.split) in
-    let none : length has.bad.rest ≡ 0 = ap length (sym both.1) in
-    omega (arith, none, has.bad.left)
+    let parts = same_heads of.of.version has.version of.setup has.setup (lines_text of.entries) has.lines of.of.setup_is has.setup_is (sym of.of.text_is ∙ has.split) in
+    let bad : IsBadLine of.of.version has.lines line = subst (λ (v : Version). IsBadLine v has.lines line) (sym parts.0) has.bad in
+    no_bad_line of.of.version of.entries has.lines line of.of.fits parts.2 bad
 
 same_bad : (text : List ℕ) (a b : ℕ) → HasBadLine text a → HasBadLine text b → a ≡ b
 same_bad text a b one two =
-    let lines = same_behind one.setup two.setup one.lines two.lines one.setup_is two.setup_is (sym one.split ∙ two.split) in
-    let both = same_fronts one.bad.front two.bad.front one.bad.rest two.bad.rest (recursion_from_All Fits one.bad.front one.bad.fits) (recursion_from_All Fits two.bad.front two.bad.fits) one.bad.bad two.bad.bad
-    (sym one.bad.split ∙ lines ∙ two.bad.split) in
-    let counts : length one.bad.front ≡ length two.bad.front = ap length both.0 in
-    omega (arith, one.bad.number, two.bad.number, counts)
+    let parts = same_heads one.version two.version one.setup two.setup one.lines two.lines one.setup_is two.setup_is (sym one.split ∙ two.split) in
+    let bad : IsBadLine two.version one.lines a = subst (λ (v : Version). IsBadLine v one.lines a) parts.0 one.bad in
+    one_bad_line two.version one.lines two.lines a b parts.2 bad two.bad
 
 -- One verdict
 
-begins : (text : List ℕ) (verdict : Verdict) → IsOfJournal text verdict → BeginsHead text
+begins : (text : List ℕ) (verdict : Verdict) (of : IsOfJournal text verdict) → BeginsHead of.of.version text
 begins text verdict of = (of.setup, lines_text of.entries, of.of.setup_is, of.of.text_is)
 
-begins_too : (text : List ℕ) (line : ℕ) → HasBadLine text line → BeginsHead text
+begins_too : (text : List ℕ) (line : ℕ) (has : HasBadLine text line) → BeginsHead has.version text
 begins_too text line has = (has.setup, has.lines, has.setup_is, has.split)
 
 apart : (text : List ℕ) (verdict : Verdict) (line : ℕ) → IsOfJournal text verdict → IsVerdict text (BadLine line) → ⊥
-apart text verdict line of (inl no_head) = no_head.0 (begins text verdict of)
+apart text verdict line of (inl no_head) = no_head.0 of.of.version (begins text verdict of)
 apart text verdict line of (inr has) = none_bad text verdict line of has
 
 same_lines : (text : List ℕ) (a b : ℕ) → IsVerdict text (BadLine a) → IsVerdict text (BadLine b) → a ≡ b
 same_lines text a b (inl x) (inl y) = x.1 ∙ sym y.1
-same_lines text a b (inl x) (inr has) = absurd (x.0 (begins_too text b has))
-same_lines text a b (inr has) (inl y) = absurd (y.0 (begins_too text a has))
+same_lines text a b (inl x) (inr has) = absurd (x.0 has.version (begins_too text b has))
+same_lines text a b (inr has) (inl y) = absurd (y.0 has.version (begins_too text a has))
 same_lines text a b (inr one) (inr two) = same_bad text a b one two
 
 pub one_verdict : (text : List ℕ) (one two : Verdict) → IsVerdict text one → IsVerdict text two → one ≡ two

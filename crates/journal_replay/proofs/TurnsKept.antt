@@ -6,12 +6,12 @@ use Rattle.std.proofs.lemmas.List.{map-append, reverse-append}
 use Rattle.pool_ledger.specs.declared.entry.Entry.{Entry}
 use Rattle.pool_ledger.specs.Accounts.{Accounts}
 use Rattle.pool_ledger.specs.Sizes.{Sizes}
-use Rattle.pool_ledger.specs.History.{History, held, open_task}
+use Rattle.pool_ledger.specs.History.{History, held, maximum, open_task}
 use Rattle.pool_ledger.specs.Journal.{after}
 use Rattle.pool_ledger.specs.Legal.{Evicted, evicted_by, is_eviction, pending, settled, IsPermitted, MayFollow}
 use Rattle.pool_ledger.proofs.Prefixes.{whole-after, after-more}
 use Rattle.pool_laws.proofs.Evictions.{open_settled}
-use Rattle.pool_laws.proofs.Settled.{leaves}
+use Rattle.pool_laws.proofs.Settled.{leaves, maximum_settled}
 use Rattle.journal_replay.specs.declared.before.Before.{Before}
 use Rattle.journal_replay.specs.declared.turns.Turns.{Turns}
 use Rattle.journal_replay.specs.Replays.{gone_of, is_turn_of, seen, TellsBefore, TellsTurns}
@@ -26,6 +26,9 @@ held_base turns h tells t =
     let same = leaves turns.ledger.setup h in
     let settled_is : held (settled h) t ≡ held h t = omega (arith, same.granted_same t, same.freed_same t) in
     ap (λ (g : History). held g t) (sym tells.base) ∙ settled_is
+
+pub maximum_base : (turns : Turns) (h : History) → TellsTurns turns h → maximum turns.ledger.setup turns.ledger.history ≡ maximum turns.ledger.setup h
+maximum_base turns h tells = ap (maximum turns.ledger.setup) (sym tells.base) ∙ sym (maximum_settled turns.ledger.setup h)
 
 -- An entry more
 

@@ -3,7 +3,7 @@
 use Rattle.std.specs.Prelude.{ℕ, ◌==◌, Bool, true, false, not, ◌&&◌, if◌then◌else◌, Option, List, [], ◌∷◌, length, ⊤}
 use Rattle.std.specs.Option.{option_map}
 use Rattle.pool_ledger.specs.declared.entry.Event.{Event}
-use Rattle.pool_ledger.specs.declared.entry.Event.TheVariants.{Begin, Attempt, Release, End, Admit, Refused}
+use Rattle.pool_ledger.specs.declared.entry.Event.TheVariants.{Begin, Attempt, Release, End, Admit, Refused, Grow}
 use Rattle.pool_ledger.specs.Sizes.{Sizes}
 use Rattle.pool_ledger.specs.History.{History}
 use Rattle.pool_ledger.specs.Answers.{growth, answer, admission}
@@ -61,6 +61,7 @@ IsOfBlock (Begin task) = ⊥
 IsOfBlock (Attempt task asked moved evictions got) = ⊥
 IsOfBlock (Release task freed) = ⊥
 IsOfBlock (End task freed) = ⊥
+IsOfBlock (Grow bytes) = ⊥
 IsOfBlock _ = ⊤
 
 -- the event is an admission or a refusal

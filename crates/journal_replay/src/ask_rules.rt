@@ -19,7 +19,7 @@ use crate::victims::{freed_by, have_gone};
 use execution_pool::{Share, ShareAt, share};
 use journal_audit::Rule;
 use pool_ledger::Ledger;
-use pool_plans::{AttemptPlan, need_of_attempt, plan_attempt};
+use pool_plans::{AttemptPlan, plan_attempt, room_for_attempt};
 
 /// The rule that an attempt breaks, of which this is told.
 pub(crate) fn check_attempt(
@@ -80,11 +80,11 @@ fn plan_ask(replay: &Replay, worker: u32, task: u32, asked: u64) -> AttemptPlan
     ensures few { result.evictions ≤ length (evictable replay.now.turns.ledger.history None) }
 {
     let ledger = &replay.turns.ledger;
-    let need = need_of_attempt(ledger, asked);
-    if need == 0 {
-        return plan_attempt(ledger, &[], task, asked);
+    let room = room_for_attempt(ledger, asked);
+    if room.need == 0 {
+        return plan_attempt(ledger, room, &[], task, asked);
     }
-    let freed = freed_by(replay, need, None);
+    let freed = freed_by(replay, room.need, None);
     plan_evicting(ledger, freed, task, asked)
 }
 

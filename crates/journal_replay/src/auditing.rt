@@ -1,7 +1,7 @@
 //! A journal's text, read and replayed.
 
 ghost use Rattle.std.specs.Prelude.{◌≡◌, ◌++◌, ◌∷◌, All, None, IfOk, MatchResult};
-ghost use Rattle.journal_audit.specs.Text.{lines_text, Fits};
+ghost use Rattle.journal_audit.specs.Text.{lines_text, FitsIn};
 ghost use Rattle.journal_audit.specs.Lines.{IsBadLine};
 ghost use Rattle.journal_audit.specs.Rules.{first_broken};
 ghost use Rattle.journal_replay.specs.Replays.{history_of, setup_of, IsReplay, TellsHistory};
@@ -12,7 +12,7 @@ use crate::check::check;
 use crate::laws::one_verdict_for_a_text;
 use crate::replay::{Replay, add, start};
 use crate::verdict::Verdict;
-use journal_audit::{Rule, rules_are_those_of_legal_journals, take_entry, take_setup};
+use journal_audit::{Rule, Version, rules_are_those_of_legal_journals, take_entry, take_setup};
 use pool_ledger::{Entry, Setup};
 use std::alloc::{AllocError, Global};
 
@@ -31,25 +31,29 @@ pub fn audit(alloc: Global, text: &[u8]) -> Result<Verdict, AllocError>
 fn read_and_replay(alloc: Global, text: &[u8]) -> Result<Verdict, AllocError>
     ensures { IfOk result (IsVerdict text.now) }
 {
-    let Some((setup, lines)) = take_setup(text) else {
+    let Some((version, setup, lines)) = take_setup(text) else {
         return Ok(Verdict::BadLine { line: 1 });
     };
-    match read_entries(alloc, lines)? {
+    match read_entries(alloc, version, lines)? {
         Ok(entries) => replay_all(alloc, setup, &entries),
         Err(line) => Ok(Verdict::BadLine { line }),
     }
 }
 
-// The entries of the lines behind the first one, or the number of the first that isn't an entry's.
-fn read_entries(alloc: Global, lines: &[u8]) -> Result<Result<Vec<Entry>, u64>, AllocError>
+// The entries of the lines behind the first one, or the number of the first that isn't an entry's in this version.
+fn read_entries(
+    alloc: Global,
+    version: Version,
+    lines: &[u8],
+) -> Result<Result<Vec<Entry>, u64>, AllocError>
     ensures { IfOk result (λ read. MatchResult read
-        (λ entries. All Fits entries.items × (lines.now ≡ lines_text entries.items))
-        (λ line. IsBadLine lines.now line)) }
+        (λ entries. All (FitsIn version) entries.items × (lines.now ≡ lines_text entries.items))
+        (λ line. IsBadLine version lines.now line)) }
 {
     let mut entries = Vec::new(alloc);
     let mut rest = lines;
     while !rest.is_empty() {
-        let Some((entry, behind)) = take_entry(rest) else {
+        let Some((entry, behind)) = take_entry(version, rest) else {
             return Ok(Err(entries.len() as u64 + 2));
         };
         entries.push(entry)?;

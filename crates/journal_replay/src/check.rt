@@ -8,6 +8,7 @@ ghost use Rattle.journal_replay.specs.Replays.{history_of, setup_of, IsReplay};
 
 use crate::ask_rules::check_attempt;
 use crate::block_rules::{check_evict, check_pin, check_remove, check_unpin};
+use crate::grow_rules::check_grow;
 use crate::replay::Replay;
 use crate::store_rules::check_stored;
 use crate::task_rules::{check_begin, check_end, check_release};
@@ -81,6 +82,7 @@ fn check_event(replay: &Replay, worker: u32, event: Event) -> Option<Rule>
         ),
         Event::Release { task, freed } => check_release(replay, worker, task, freed),
         Event::End { task, freed } => check_end(replay, worker, task, freed),
+        Event::Grow { bytes } => check_grow(replay, worker, bytes),
         event => check_block_event(replay, worker, event),
     }
 }

@@ -11,6 +11,7 @@ mod check;
 mod copies;
 mod evictable;
 mod fronts;
+mod grow_rules;
 mod laws;
 mod pins;
 mod placed;

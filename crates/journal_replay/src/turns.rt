@@ -1,7 +1,7 @@
 //! The entries so far: those that are settled, and the evictions that wait for what they are for.
 
-ghost use Rattle.std.specs.Prelude.{◌≡◌, ◌∷◌, ◌++◌, [], true, false, IfOk, OnOk, length, reverse};
-ghost use Rattle.pool_ledger.specs.History.{held, open_task};
+ghost use Rattle.std.specs.Prelude.{◌≡◌, ◌≤◌, ◌^◌, ◌∷◌, ◌++◌, [], true, false, IfOk, OnOk, length, reverse};
+ghost use Rattle.pool_ledger.specs.History.{held, maximum, open_task};
 ghost use Rattle.pool_ledger.specs.Legal.{is_eviction, IsPermitted, MayFollow};
 ghost use Rattle.pool_ledger.specs.Sizes.{IsInRange};
 ghost use Rattle.pool_laws.specs.Laws.{KeepsLaws};
@@ -9,7 +9,7 @@ ghost use Rattle.journal_replay.specs.Replays.{seen, TellsBefore, TellsTurns};
 
 use crate::before::{Before, none_before, note_bytes};
 use crate::use_order::note_order;
-use pool_laws::permitted_histories_keep_laws;
+use pool_laws::{permitted_histories_keep_laws, sums_stay_small};
 use pool_ledger::{Entry, Event, Ledger, Setup};
 use std::alloc::{AllocError, Global};
 
@@ -53,13 +53,26 @@ pub(crate) fn held(turns: &Turns, task: u32) -> u64
     turns.ledger.held(task)
 }
 
-/// The laws of a ledger's history, and the range of its sizes. It does nothing when run.
+/// The bytes of both pools together.
+pub(crate) fn max(turns: &Turns) -> u64
+    requires { TellsTurns turns.now (seen turns.now) }
+    ensures max { result ≡ maximum turns.now.ledger.setup (seen turns.now) }
+    ensures small { result ≤ 2 ^ 41 }
+{
+    ledger_keeps_laws(&turns.ledger);
+    turns.ledger.max()
+}
+
+/// The laws of a ledger's history, the range of its sizes, and the most that both pools together ever have. It does
+/// nothing when run.
 pub(crate) fn ledger_keeps_laws(ledger: &Ledger)
     requires { IsPermitted ledger.now.setup ledger.now.history }
     ensures laws { KeepsLaws ledger.now.setup ledger.now.history }
     ensures range { IsInRange ledger.now.setup.maximum ledger.now.setup.region ledger.now.setup.workers }
+    ensures small { maximum ledger.now.setup ledger.now.history ≤ 2 ^ 41 }
 {
     permitted_histories_keep_laws();
+    sums_stay_small();
     let _range = ledger.setup().max();
 }
 

@@ -6,7 +6,7 @@ use Rattle.std.proofs.lemmas.List.{reverse-append}
 use Rattle.std.proofs.lemmas.List.Folds.{list_any-append}
 use Rattle.pool_ledger.specs.declared.entry.Entry.{Entry}
 use Rattle.pool_ledger.specs.declared.entry.Event.{Event}
-use Rattle.pool_ledger.specs.declared.entry.Event.TheVariants.{Admit, Attempt, Begin, End, Evict, Pin, Refused, Release, Remove, Unpin}
+use Rattle.pool_ledger.specs.declared.entry.Event.TheVariants.{Admit, Attempt, Begin, End, Evict, Grow, Pin, Refused, Release, Remove, Unpin}
 use Rattle.pool_ledger.specs.declared.entry.Level.{Level}
 use Rattle.pool_ledger.specs.Blocks.{Resident, is_block, is_resident, only, residents, residents_after, without}
 use Rattle.pool_ledger.specs.History.{History}
@@ -63,6 +63,7 @@ module _ (dataset part : ℕ) (blocks : List Resident) (none : list_any (is_bloc
   gains (End task freed) some = absurd (both_ways _ none some)
   gains (Refused d p size borrowed evictions) some = absurd (both_ways _ none some)
   gains (Unpin d p) some = absurd (both_ways _ none some)
+  gains (Grow bytes) some = absurd (both_ways _ none some)
 
 -- among these entries stands an admission of the block
 pub record HasAdmission (dataset part : ℕ) (entries : List Entry) : Type 0 where

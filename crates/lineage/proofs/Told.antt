@@ -13,7 +13,7 @@ use Rattle.pool_ledger.specs.Journal.{history_of}
 use Rattle.pool_ledger.specs.Workers.{entries_of}
 use Rattle.pool_laws.specs.Growing.{entry_by}
 use Rattle.turn_lock.proofs.Entries.{entries_of-append}
-use Rattle.turn_lock.specs.Passes.{PassState}
+use Rattle.turn_lock.specs.Passes.{WorkerView}
 use Rattle.task_pool.specs.Workers.{SeesMore, own_entries}
 use Rattle.block_store.specs.declared.block.Block.{Block}
 use Rattle.memory_core.specs.declared.admission.Admission.{Admission as Answer}
@@ -47,7 +47,7 @@ module _ (p : Entry → Bool) (x : Entry) (back : List Entry) where
   ]
 
 -- an entry that was added to the worker's own stands behind what it had seen
-gains_own : (P : Entry → Type 0) (before after : PassState) (front back : List Entry) (entry : Entry) → SeesMore before after
+gains_own : (P : Entry → Type 0) (before after : WorkerView) (front back : List Entry) (entry : Entry) → SeesMore before after
     → own_entries after ≡ own_entries before ++ (front ++ entry ∷ back) → P entry → Gains P before after
 gains_own P before after front back entry sees adds holds =
     let more = sees.begins.0 in
@@ -66,7 +66,7 @@ gains_own P before after front back entry sees adds holds =
 
 -- ---- further calls
 
-gains_earlier : (P : Entry → Type 0) (first before after : PassState) → SeesMore first before → Gains P before after → Gains P first after
+gains_earlier : (P : Entry → Type 0) (first before after : WorkerView) → SeesMore first before → Gains P before after → Gains P first after
 gains_earlier P first before after sees told = record {
   amid = sees.begins.0 ++ told.amid;
   entry = told.entry;
@@ -78,7 +78,7 @@ gains_earlier P first before after sees told = record {
   holds = told.holds;
 }
 
-gains_later : (P : Entry → Type 0) (before after last : PassState) → Gains P before after → SeesMore after last → Gains P before last
+gains_later : (P : Entry → Type 0) (before after last : WorkerView) → Gains P before after → SeesMore after last → Gains P before last
 gains_later P before after last told sees = record {
   amid = told.amid;
   entry = told.entry;
@@ -91,20 +91,20 @@ gains_later P before after last told sees = record {
 }
 
 module _ (dataset part : ℕ) where
-  pub told_later : (before after last : PassState) → ToldOf dataset part before after → SeesMore after last → ToldOf dataset part before last
+  pub told_later : (before after last : WorkerView) → ToldOf dataset part before after → SeesMore after last → ToldOf dataset part before last
   told_later before after last told sees = gains_later _ before after last told sees
 
-  pub told_earlier : (first before after : PassState) → SeesMore first before → ToldOf dataset part before after → ToldOf dataset part first after
+  pub told_earlier : (first before after : WorkerView) → SeesMore first before → ToldOf dataset part before after → ToldOf dataset part first after
   told_earlier first before after sees told =
       gains_earlier _ first before after sees
       (subst (λ (n : ℕ). Gains (λ entry. IsPinOf n dataset part entry ⊎ IsKeepOf n dataset part entry) before after) sees.number_is told)
 
   -- what keeps a block tells of it
-  pub told_kept : (before after : PassState) → KeptOf dataset part before after → ToldOf dataset part before after
+  pub told_kept : (before after : WorkerView) → KeptOf dataset part before after → ToldOf dataset part before after
   told_kept before after kept = record { amid = kept.amid; entry = kept.entry; behind = kept.behind; gained = kept.gained; holds = inr kept.holds }
 
   -- a block that comes to be in memory by what the worker sees was admitted
-  pub told_between : (before after : PassState) → IsAbsent dataset part before → IsThere dataset part after → SeesMore before after → ToldOf dataset part before after
+  pub told_between : (before after : WorkerView) → IsAbsent dataset part before → IsThere dataset part after → SeesMore before after → ToldOf dataset part before after
   told_between before after absent there sees =
       let has = admitted_amid dataset part before.seen sees.begins.0 absent
       (subst (λ (es : List Entry). is_resident (history_of es) dataset part ≡ true) (sym sees.begins.1) there) in
@@ -118,7 +118,7 @@ module _ (dataset part : ℕ) where
       }
 
   -- what keeping a block shows, where more had been seen before
-  pub keep_earlier : (first before after : PassState) → SeesMore first before → TellsKeep dataset part before after → TellsKeep dataset part first after
+  pub keep_earlier : (first before after : WorkerView) → SeesMore first before → TellsKeep dataset part before after → TellsKeep dataset part first after
   keep_earlier first before after sees tells = elim tells [
     | inl kept ↦ inl (gains_earlier _ first before after sees (subst (λ (n : ℕ). Gains (IsKeepOf n dataset part) before after) sees.number_is kept))
     | inr there ↦ inr there
@@ -127,11 +127,11 @@ module _ (dataset part : ℕ) where
 -- ---- pins and admissions
 
 -- what a pin that was answered tells
-pin_told : (dataset part : ℕ) (copy : Bool) (before after : PassState) → SeesMore before after → Adds before after (entry_by before.number (Pin dataset part copy) ∷ []) → ToldOf dataset part before after
+pin_told : (dataset part : ℕ) (copy : Bool) (before after : WorkerView) → SeesMore before after → Adds before after (entry_by before.number (Pin dataset part copy) ∷ []) → ToldOf dataset part before after
 pin_told dataset part copy before after sees adds = gains_own _ before after [] [] (entry_by before.number (Pin dataset part copy)) sees adds (inl (copy, refl))
 
 -- what an admission tells
-keep_told : (answer : Answer) (block : Block) (size : ℕ) (before after : PassState) → SeesMore before after → AddsAdmission answer block size before after
+keep_told : (answer : Answer) (block : Block) (size : ℕ) (before after : WorkerView) → SeesMore before after → AddsAdmission answer block size before after
     → TellsKeep block.dataset block.part before after
 keep_told Admitted block size before after sees adds =
     inl (gains_own _ before after adds.0 [] (entry_by before.number (Admit block.dataset block.part size block.level adds.1 (length adds.0))) sees adds.3
@@ -142,19 +142,19 @@ keep_told Refused block size before after sees adds =
 keep_told AlreadyResident block size before after sees adds = inr adds.1
 
 -- the same of a block that is another owner's of one
-pub kept_told : (answer : Answer) (block shared : Block) (size : ℕ) (before after : PassState) → shared ≡ block → SeesMore before after → AddsAdmission answer shared size before after
+pub kept_told : (answer : Answer) (block shared : Block) (size : ℕ) (before after : WorkerView) → shared ≡ block → SeesMore before after → AddsAdmission answer shared size before after
     → TellsKeep block.dataset block.part before after
 kept_told answer block shared size before after same sees adds =
     subst (λ (b : Block). TellsKeep b.dataset b.part before after) same (keep_told answer shared size before after sees adds)
 
 -- what a pin that found the block tells, or one that read its copy back
-pub hit_told : (pinned : Found) (block : Arc Block Global) (asked dataset part : ℕ) (before after : PassState) → pinned ≡ Hit block → asked ≡ dataset → SeesMore before after
+pub hit_told : (pinned : Found) (block : Arc Block Global) (asked dataset part : ℕ) (before after : WorkerView) → pinned ≡ Hit block → asked ≡ dataset → SeesMore before after
     → AddsPin pinned asked part before after → ToldOf dataset part before after
 hit_told pinned block asked dataset part before after is same sees adds =
     let hit : AddsPin (Hit block) dataset part before after = subst (λ (d : ℕ). AddsPin (Hit block) d part before after) same (subst (λ (p : Found). AddsPin p asked part before after) is adds) in
     pin_told dataset part false before after sees hit.0
 
-pub copy_told : (pinned : Found) (block : Arc Block Global) (asked dataset part : ℕ) (before after : PassState) → pinned ≡ ReadBack block → asked ≡ dataset → SeesMore before after
+pub copy_told : (pinned : Found) (block : Arc Block Global) (asked dataset part : ℕ) (before after : WorkerView) → pinned ≡ ReadBack block → asked ≡ dataset → SeesMore before after
     → AddsPin pinned asked part before after → ToldOf dataset part before after
 copy_told pinned block asked dataset part before after is same sees adds =
     let read : AddsPin (ReadBack block) dataset part before after = subst (λ (d : ℕ). AddsPin (ReadBack block) d part before after) same (subst (λ (p : Found). AddsPin p asked part before after) is adds) in

@@ -10,7 +10,7 @@ use Rattle.memory_core.specs.declared.admission.Admission.{Admission as Answer}
 use Rattle.memory_core.specs.declared.admission.Admission.TheVariants.{Admitted, Refused, Resident as AlreadyResident}
 use Rattle.memory_core.specs.declared.pinned.Pinned.{Pinned as Found}
 use Rattle.memory_core.specs.declared.pinned.Pinned.TheVariants.{Hit, OnDisk as ReadBack, Miss}
-use Rattle.turn_lock.specs.Passes.{PassState}
+use Rattle.turn_lock.specs.Passes.{WorkerView}
 use Rattle.task_pool.proofs.GoingOn.{all_append, sees_more}
 use Rattle.memory_lock.specs.Workers.{Adds, AddsAdmission, AddsPin, IsEviction, KeepsTask, SeesMore, own_entries}
 use Rattle.lineage.specs.declared.rows.Rows.{Rows}
@@ -33,15 +33,15 @@ evictions : (worker : ℕ) (entries : List Entry) → AllByRecursion (IsEviction
 evictions worker [] all = tt
 evictions worker (entry ∷ more) all = (inr (inr all.0), evictions worker more all.1)
 
-pub pin_adds : (pinned : Found) (dataset part : ℕ) (before after : PassState) → AddsPin pinned dataset part before after → AddsRowsWork before.number (own_entries before) (own_entries after)
+pub pin_adds : (pinned : Found) (dataset part : ℕ) (before after : WorkerView) → AddsPin pinned dataset part before after → AddsRowsWork before.number (own_entries before) (own_entries after)
 pin_adds (Hit block) dataset part before after adds = (entry_by before.number (Pin dataset part false) ∷ [], adds.0, (inl (inl (dataset, part, false, refl)), tt))
 pin_adds (ReadBack block) dataset part before after adds = (entry_by before.number (Pin dataset part true) ∷ [], adds.0, (inl (inl (dataset, part, true, refl)), tt))
 pin_adds Miss dataset part before after adds = adds_none before.number (own_entries before) (own_entries after) adds.0.0
 
-pub unpin_adds : (dataset part : ℕ) (before after : PassState) → Adds before after (entry_by before.number (Unpin dataset part) ∷ []) → AddsRowsWork before.number (own_entries before) (own_entries after)
+pub unpin_adds : (dataset part : ℕ) (before after : WorkerView) → Adds before after (entry_by before.number (Unpin dataset part) ∷ []) → AddsRowsWork before.number (own_entries before) (own_entries after)
 unpin_adds dataset part before after adds = (entry_by before.number (Unpin dataset part) ∷ [], adds, (inl (inr (dataset, part, refl)), tt))
 
-pub admission_adds : (answer : Answer) (block : Block) (size : ℕ) (before after : PassState) → AddsAdmission answer block size before after → AddsRowsWork before.number (own_entries before) (own_entries after)
+pub admission_adds : (answer : Answer) (block : Block) (size : ℕ) (before after : WorkerView) → AddsAdmission answer block size before after → AddsRowsWork before.number (own_entries before) (own_entries after)
 admission_adds Admitted block size before after adds =
     let last = entry_by before.number (Admit block.dataset block.part size block.level adds.1 (length adds.0)) in (
       adds.0 ++ last ∷ [],
@@ -60,7 +60,7 @@ admission_adds AlreadyResident block size before after adds = adds_none before.n
 
 -- ---- workers
 
-pub works_then : (before amid after : PassState) → WorksOn before amid → WorksOn amid after → WorksOn before after
+pub works_then : (before amid after : WorkerView) → WorksOn before amid → WorksOn amid after → WorksOn before after
 works_then before amid after first last = record {
   task = last.task ∙ first.task;
   sees = sees_more before amid after first.sees last.sees;
@@ -69,7 +69,7 @@ works_then before amid after first last = record {
 }
 
 -- what was added, where the parent's rows were handed out in between
-pub adds_through : (first looked handed last : PassState) → WorksOn first looked → KeepsTask looked handed → SeesMore looked handed
+pub adds_through : (first looked handed last : WorkerView) → WorksOn first looked → KeepsTask looked handed → SeesMore looked handed
     → AddsRowsWork looked.number (own_entries looked) (own_entries handed) → WorksOn handed last → AddsRowsWork first.number (own_entries first) (own_entries last)
 adds_through first looked handed last one task sees adds three =
     let two : WorksOn looked handed = record { task = task; sees = sees; adds = adds } in
@@ -77,7 +77,7 @@ adds_through first looked handed last one task sees adds three =
     all.adds
 
 -- rows are given back
-pub done_works : (rows : Rows) (before after : PassState) → KeepsTask before after → SeesMore before after → AddsUnpin before after rows → WorksOn before after
+pub done_works : (rows : Rows) (before after : WorkerView) → KeepsTask before after → SeesMore before after → AddsUnpin before after rows → WorksOn before after
 done_works rows before after task sees adds = record { task = task; sees = sees; adds = by rows adds }
   where
     by : (given : Rows) → AddsUnpin before after given → AddsRowsWork before.number (own_entries before) (own_entries after)
@@ -85,7 +85,7 @@ done_works rows before after task sees adds = record { task = task; sees = sees;
     by (Own block) same = adds_none before.number (own_entries before) (own_entries after) (ap own_entries same)
 
 -- a pin, and what was done behind it
-pub pin_then : (pinned : Found) (dataset part : ℕ) (before read after : PassState) → KeepsTask before read → SeesMore before read → AddsPin pinned dataset part before read
+pub pin_then : (pinned : Found) (dataset part : ℕ) (before read after : WorkerView) → KeepsTask before read → SeesMore before read → AddsPin pinned dataset part before read
     → WorksOn read after → WorksOn before after
 pin_then pinned dataset part before read after task sees adds works =
     works_then before read after (record { task = task; sees = sees; adds = pin_adds pinned dataset part before read adds }) works

@@ -7,7 +7,7 @@ use Rattle.pool_ledger.specs.declared.entry.Entry.{Entry}
 use Rattle.pool_ledger.specs.declared.entry.Event.TheVariants.{Admit, Pin, Refused, Unpin}
 use Rattle.pool_ledger.specs.declared.entry.Level.{Level}
 use Rattle.pool_laws.specs.Growing.{entry_by}
-use Rattle.turn_lock.specs.Passes.{PassState}
+use Rattle.turn_lock.specs.Passes.{WorkerView}
 use Rattle.task_pool.specs.Workers.{IsEviction, KeepsTask, SeesMore, own_entries}
 use Rattle.lineage.specs.declared.rows.Rows.{Rows}
 use Rattle.lineage.specs.declared.rows.Rows.TheVariants.{Pinned, Own}
@@ -33,13 +33,13 @@ abbrev pub AddsRowsWork : ℕ → List Entry → List Entry → Type 0
 AddsRowsWork worker before after = (added : List Entry) × (after ≡ before ++ added) × AllByRecursion (IsRowsWork worker) added
 
 -- the worker went on: its task is as before, it has seen more, and it added entries of work on blocks alone
-pub record WorksOn (before after : PassState) : Type 0 where
+pub record WorksOn (before after : WorkerView) : Type 0 where
   pub task : KeepsTask before after
   pub sees : SeesMore before after
   pub adds : AddsRowsWork before.number (own_entries before) (own_entries after)
 
 -- what giving rows back adds: the unpin of a block that was pinned
-abbrev pub AddsUnpin : PassState → PassState → Rows → Type 0
+abbrev pub AddsUnpin : WorkerView → WorkerView → Rows → Type 0
 AddsUnpin before after (Pinned block) =
     own_entries after ≡ own_entries before ++ entry_by before.number (Unpin (arc_value block).dataset (arc_value block).part) ∷ []
 AddsUnpin before after (Own block) = after ≡ before

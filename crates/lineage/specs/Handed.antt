@@ -11,7 +11,7 @@ use Rattle.run_file.specs.declared.run.Run.{Run}
 use Rattle.row_filter.specs.declared.chain.Chain.{Chain}
 use Rattle.row_filter.specs.Chains.{level_at}
 use Rattle.block_store.specs.declared.block.Block.{Block}
-use Rattle.turn_lock.specs.Passes.{PassState}
+use Rattle.turn_lock.specs.Passes.{WorkerView}
 use Rattle.memory_lock.specs.Workers.{HasNoPin, HasPin}
 use Rattle.lineage.specs.declared.rows.Rows.{Rows}
 use Rattle.lineage.specs.declared.rows.Rows.TheVariants.{Pinned, Own}
@@ -48,12 +48,12 @@ IsOwn (Pinned block) = ⊥
 IsOwn (Own block) = ⊤
 
 -- the worker has the block pinned that is handed out as pinned, and else none
-abbrev pub HoldsPin : PassState → Rows → Type 0
+abbrev pub HoldsPin : WorkerView → Rows → Type 0
 HoldsPin worker (Pinned block) = HasPin worker (arc_value block).dataset (arc_value block).part
 HoldsPin worker (Own block) = HasNoPin worker
 
 -- the same of a block that was looked for; where none is used it has none
-abbrev pub FindsPin : PassState → Option Rows → Type 0
+abbrev pub FindsPin : WorkerView → Option Rows → Type 0
 FindsPin worker (Some rows) = HoldsPin worker rows
 FindsPin worker None = HasNoPin worker
 
@@ -63,7 +63,7 @@ IsOfKept lineage dataset part (Pinned block) = IsKeptBlock lineage dataset part 
 IsOfKept lineage dataset part (Own block) = ⊤
 
 -- the same of what was answered; after a fault the worker has none
-abbrev pub LeavesPin : LineageView → ℕ → ℕ → PassState → Result Rows RowsFault → Type 0
+abbrev pub LeavesPin : LineageView → ℕ → ℕ → WorkerView → Result Rows RowsFault → Type 0
 LeavesPin lineage dataset part worker (Ok rows) = HoldsPin worker rows × IsOfKept lineage dataset part rows
 LeavesPin lineage dataset part worker (Err fault) = HasNoPin worker
 

@@ -11,7 +11,7 @@ use Rattle.pool_laws.specs.Growing.{entry_by}
 use Rattle.row_filter.specs.declared.chain.Chain.{Chain}
 use Rattle.row_filter.specs.Chains.{level_at, links_of}
 use Rattle.row_filter.specs.Lines.{line}
-use Rattle.turn_lock.specs.Passes.{PassState}
+use Rattle.turn_lock.specs.Passes.{WorkerView}
 use Rattle.lineage.specs.declared.rows.Rows.{Rows}
 use Rattle.lineage.specs.declared.rows.Rows.TheVariants.{Own, Pinned}
 use Rattle.lineage.specs.LineageViews.{name_for}
@@ -27,7 +27,7 @@ abbrev pub IsPinOf : ℕ → ℕ → ℕ → Entry → Type 0
 IsPinOf worker dataset part entry = (copy : Bool) × (entry ≡ entry_by worker (Pin dataset part copy))
 
 -- behind what the worker had seen stands an entry of which this holds
-pub record Gains (P : Entry → Type 0) (before after : PassState) : Type 0 where
+pub record Gains (P : Entry → Type 0) (before after : WorkerView) : Type 0 where
   pub amid : List Entry
   pub entry : Entry
   pub behind : List Entry
@@ -35,19 +35,19 @@ pub record Gains (P : Entry → Type 0) (before after : PassState) : Type 0 wher
   pub holds : P entry
 
 -- one that tells of the block: its pin, its admission or its refusal
-abbrev pub ToldOf : ℕ → ℕ → PassState → PassState → Type 0
+abbrev pub ToldOf : ℕ → ℕ → WorkerView → WorkerView → Type 0
 ToldOf dataset part before after = Gains (λ entry. IsPinOf before.number dataset part entry ⊎ IsKeepOf before.number dataset part entry) before after
 
 -- one that keeps the block, or refuses it
-abbrev pub KeptOf : ℕ → ℕ → PassState → PassState → Type 0
+abbrev pub KeptOf : ℕ → ℕ → WorkerView → WorkerView → Type 0
 KeptOf dataset part before after = Gains (IsKeepOf before.number dataset part) before after
 
 -- the block isn't in memory by what the worker has seen
-abbrev pub IsAbsent : ℕ → ℕ → PassState → Type 0
+abbrev pub IsAbsent : ℕ → ℕ → WorkerView → Type 0
 IsAbsent dataset part worker = is_resident (history_of worker.seen) dataset part ≡ false
 
 -- the block is in memory by what the worker has seen
-abbrev pub IsThere : ℕ → ℕ → PassState → Type 0
+abbrev pub IsThere : ℕ → ℕ → WorkerView → Type 0
 IsThere dataset part worker = is_resident (history_of worker.seen) dataset part ≡ true
 
 -- the nearest kept dataset on the way from this one to the input, if there is one
@@ -55,24 +55,24 @@ abbrev pub nearest : Chain → ℕ → Option ℕ
 nearest chain dataset = find (λ d. is_some (level_at chain d)) (line (links_of chain) dataset)
 
 -- such an entry stands there for the block of the nearest kept dataset
-abbrev pub TellsNearest : Chain → ℕ → ℕ → PassState → PassState → Type 0
+abbrev pub TellsNearest : Chain → ℕ → ℕ → WorkerView → WorkerView → Type 0
 TellsNearest chain dataset part before after = IfSome (nearest chain dataset) (λ kept. ToldOf (name_for chain kept) part before after)
 
 -- what looking for a kept dataset's block shows: an entry, or that the block isn't in memory
-abbrev pub TellsLook : Chain → ℕ → ℕ → PassState → PassState → Option Rows → Type 0
+abbrev pub TellsLook : Chain → ℕ → ℕ → WorkerView → WorkerView → Option Rows → Type 0
 TellsLook chain dataset part before after (Some rows) = ToldOf (name_for chain dataset) part before after
 TellsLook chain dataset part before after None =
     IsSome (level_at chain dataset) → ToldOf (name_for chain dataset) part before after ⊎ IsAbsent (name_for chain dataset) part after
 
 -- what keeping a block shows: it was admitted or refused, or is in memory
-abbrev pub TellsKeep : ℕ → ℕ → PassState → PassState → Type 0
+abbrev pub TellsKeep : ℕ → ℕ → WorkerView → WorkerView → Type 0
 TellsKeep dataset part before after = KeptOf dataset part before after ⊎ IsThere dataset part after
 
 -- the same of a kept dataset's block
-abbrev pub TellsMade : Chain → ℕ → ℕ → PassState → PassState → Type 0
+abbrev pub TellsMade : Chain → ℕ → ℕ → WorkerView → WorkerView → Type 0
 TellsMade chain dataset part before after = IsSome (level_at chain dataset) → TellsKeep (name_for chain dataset) part before after
 
 -- the same of rows of a kept dataset that no pin keeps
-abbrev pub TellsOwn : Chain → ℕ → ℕ → PassState → PassState → Rows → Type 0
+abbrev pub TellsOwn : Chain → ℕ → ℕ → WorkerView → WorkerView → Rows → Type 0
 TellsOwn chain dataset part before after (Pinned block) = ⊤
 TellsOwn chain dataset part before after (Own block) = TellsMade chain dataset part before after

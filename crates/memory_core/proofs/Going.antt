@@ -5,7 +5,7 @@ use Rattle.std.proofs.lemmas.List.Elements.{All-append, All-cons, All-nil}
 use Rattle.std.proofs.lemmas.Grind.{reverse_onto}
 use Rattle.pool_ledger.specs.declared.entry.Entry.{Entry}
 use Rattle.pool_ledger.specs.declared.entry.Event.{Event}
-use Rattle.pool_ledger.specs.declared.entry.Event.TheVariants.{Begin, Release, End, Evict, Pin, Unpin, Remove}
+use Rattle.pool_ledger.specs.declared.entry.Event.TheVariants.{Begin, Release, End, Evict, Pin, Unpin, Remove, Grow}
 use Rattle.pool_ledger.specs.Sizes.{Sizes}
 use Rattle.pool_ledger.specs.History.{History, held, open_task, task_after}
 use Rattle.pool_ledger.specs.Blocks.{Resident, pin_after, worker_pin}
@@ -20,6 +20,7 @@ use Rattle.memory_core.specs.Caches.{Cache}
 use Rattle.memory_core.specs.Changes.{RemovesInTurn}
 use Rattle.memory_core.specs.Evictions.{EvictsInTurn, admission_by, refusal_by}
 use Rattle.memory_core.specs.Steady.{GoesSteadily, IsSteady, StatesGoOn, end_owed, owed, unpin_owed}
+use Rattle.memory_core.proofs.Stepping.{may_read}
 use Rattle.memory_core.proofs.Owing.{owed-own, owed_same, owes, owes_few, owes_nothing}
 use Rattle.memory_core.proofs.Fitting.{admits_fits, clears_fits, evicts_fits, hit_given, pins_fits, read_given, reads_fits, unpins_fits}
 
@@ -130,10 +131,16 @@ module _ (grow : (setup : Sizes) (history : History) → IsLegal setup history �
       (grow setup history (legal_of setup history cache steady)).ends worker task known its,
       goes setup history worker (End task (held history task)) 1 0 known refl (omega (arith, ap end_owed its)),
     );
+    grows = λ setup history cache worker bytes steady known can. (
+      (grow setup history (legal_of setup history cache steady)).grows worker bytes known can,
+      goes setup history worker (Grow bytes) 0 0 known refl refl,
+    );
     pins = λ setup history worker dataset part known free.
         goes setup history worker (Pin dataset part false) 0 1 known refl (omega (arith, ap unpin_owed free));
-    reads = λ setup history worker dataset part known.
-        goes setup history worker (Pin dataset part true) 0 0 known refl refl;
+    reads = λ setup history cache worker dataset part steady known absent free copied. (
+      may_read setup history worker dataset part known steady.whole absent free (steady.amid.in_step.copies dataset part copied),
+      goes setup history worker (Pin dataset part true) 0 0 known refl refl,
+    );
     unpins = λ setup history worker dataset part name known its.
         goes setup history worker (Unpin dataset part) 1 0 known refl (omega (arith, ap unpin_owed its));
     attempts = λ setup base amid had has worker task asked steady known its some few gone evicting. (

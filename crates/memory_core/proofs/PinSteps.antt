@@ -1,28 +1,28 @@
 -- A pin and an unpin: what is kept of blocks stays in step with the history.
-use Rattle.std.proofs.Common.{◌≡◌, ◌≢◌, ℕ, ◌+◌, ◌-◌, ◌≤◌, ◌<◌, Bool, true, false, ◌&&◌, cond, List, ◌⊎◌, [], ◌∷◌, ◌++◌, map, count_by, Some, refl, sym, ap, subst, ◌∙◌, inl, inr, arith}
+use Rattle.std.proofs.Common.{◌≡◌, ◌≢◌, ℕ, ◌+◌, ◌-◌, ◌≤◌, ◌<◌, ◌^◌, Bool, true, false, ◌&&◌, cond, List, ◌⊎◌, [], ◌∷◌, ◌++◌, map, count_by, Option, Some, None, refl, sym, ap, subst, ◌∙◌, inl, inr, arith}
 use Rattle.std.specs.List.{filter, find}
-use Rattle.std.specs.Prelude.{nat_eq}
+use Rattle.std.specs.Prelude.{IfSome, IsSome, is_some, nat_eq}
 use Rattle.std.specs.Option.{option_map}
-use Rattle.std.proofs.lemmas.Bool.{cases_Bool, cases_eq, cond-true, cond-false, and_from, eq-eqb, ne_eqb}
+use Rattle.std.proofs.lemmas.Bool.{cases_Bool, cases_eq, cond-true, cond-false, and_from, eq-eqb, false≢true, ne_eqb}
 use Rattle.std.proofs.lemmas.List.{map-append}
 use Rattle.std.proofs.lemmas.List.Sums.{sum_by-cons}
 use Rattle.std.proofs.lemmas.Option.{none-some, same_Some}
 use Rattle.pool_ledger.specs.declared.entry.Event.TheVariants.{Pin, Unpin}
 use Rattle.pool_ledger.specs.Sizes.{Sizes}
 use Rattle.pool_ledger.specs.History.{History, total}
-use Rattle.pool_ledger.specs.Blocks.{Resident, is_block, only, pin_of, residents, unpin_of, without as residents_without}
+use Rattle.pool_ledger.specs.Blocks.{Resident, is_block, is_resident, only, pin_of, residents, unpin_of, without as residents_without}
 use Rattle.pool_ledger.specs.Legal.{IsPermitted}
 use Rattle.pool_ledger.proofs.Residents.{different}
 use Rattle.pool_laws.specs.Growing.{entry_by}
 use Rattle.pool_laws.proofs.Passing.{holds}
-use Rattle.block_store.specs.declared.block.Block.{Block}
-use Rattle.block_store.specs.Stores.{HeldBlock, held_at, held_of, is_held, pins_at, unpinned, without}
+use Rattle.pool_laws.proofs.Pins.{pins_few}
+use Rattle.block_store.specs.Stores.{HeldBlock, held_at, is_held, pins_at, unpinned, without}
 use Rattle.block_store.specs.Copies.{has_copy}
 use Rattle.block_store.proofs.UseOrder.{name_is}
 use Rattle.memory_core.specs.Caches.{Cache, resident_of}
-use Rattle.memory_core.specs.Steady.{IsInStep}
+use Rattle.memory_core.specs.Steady.{IsAmid, IsInStep}
 use Rattle.memory_core.proofs.Gone.{gone_at, other_dataset, other_part, pins_found, without_mapped}
-use Rattle.memory_core.proofs.Stepping.{find_mapped, found_before, found_last, found_name}
+use Rattle.memory_core.proofs.Stepping.{find_mapped, found_before, found_last, found_name, resident_is}
 
 -- ---- a pin
 
@@ -96,30 +96,30 @@ by_name P d p this others e q = elim (cases_eq d e) [
 ]
 
 -- the block is the last one, with a pin more
-pub in_step_pinned : (setup : Sizes) (h : History) (worker d p : ℕ) (block : Block) (had has : Cache) → setup.region ≤ setup.maximum → IsPermitted setup h → IsInStep h had
-    → held_at had.blocks d p ≡ Some (held_of (pins_at had.blocks d p) block)
-    → has.blocks ≡ without d p had.blocks ++ held_of (pins_at had.blocks d p + 1) block ∷ [] → has.copies ≡ had.copies
+in_step_pinned : (setup : Sizes) (h : History) (worker d p : ℕ) (held : HeldBlock) (had has : Cache) → setup.region ≤ setup.maximum → IsPermitted setup h → IsInStep h had
+    → held_at had.blocks d p ≡ Some held
+    → has.blocks ≡ without d p had.blocks ++ record held { pins = held.pins + 1 } ∷ [] → has.copies ≡ had.copies
     → IsInStep (entry_by worker (Pin d p false) ∷ h) has
-in_step_pinned setup h worker d p block had has region permitted step here blocks copies = record {
+in_step_pinned setup h worker d p held had has region permitted step here blocks copies = record {
   blocks =
       ap (map resident_of) blocks ∙ map-append resident_of (without d p had.blocks) (last ∷ [])
       ∙ ap (λ (rs : List Resident). rs ++ resident_of last ∷ []) (without_mapped d p had.blocks ∙ ap (residents_without d p) step.blocks)
-      ∙ ap (λ (rs : List Resident). residents_without d p (residents h) ++ rs) (sym (only_one setup h had d p (held_of (pins_at had.blocks d p) block) region permitted step here));
+      ∙ ap (λ (rs : List Resident). residents_without d p (residents h) ++ rs) (sym (only_one setup h had d p held region permitted step here));
   pins = λ e q. ap (λ bs. pins_at bs e q + total (unpin_of e q) (entry_by worker (Pin d p false) ∷ h)) blocks ∙ by_name Agrees d p this others e q;
   copies = λ e q there. omega (arith, step.copies e q (sym (ap (λ cs. has_copy cs e q) copies) ∙ there));
 }
   where
     last : HeldBlock
-    last = held_of (pins_at had.blocks d p + 1) block
+    last = record held { pins = held.pins + 1 }
 
     Agrees : ℕ → ℕ → Type 0
     Agrees e q = pins_at (without d p had.blocks ++ last ∷ []) e q + total (unpin_of e q) (entry_by worker (Pin d p false) ∷ h) ≡ total (pin_of e q) (entry_by worker (Pin d p false) ∷ h)
 
     named : is_held d p last ≡ true
-    named = found_name d p had.blocks (held_of (pins_at had.blocks d p) block) here
+    named = found_name d p had.blocks held here
 
     this : Agrees d p
-    this = omega (arith, ap pins_found (found_last (without d p had.blocks) last d p named (gone_at d p had.blocks)), step.pins d p, cond-true {A = ℕ} (nat_eq d d && nat_eq p p) 1 0 (names_same d p))
+    this = omega (arith, ap pins_found (found_last (without d p had.blocks) last d p named (gone_at d p had.blocks)), ap pins_found here, step.pins d p, cond-true {A = ℕ} (nat_eq d d && nat_eq p p) 1 0 (names_same d p))
 
     others : (e q : ℕ) → AreApartNames d p e q → Agrees e q
     others e q apart = omega (
@@ -128,6 +128,34 @@ in_step_pinned setup h worker d p block had has region permitted step here block
       step.pins e q,
       cond-false {A = ℕ} (nat_eq e d && nat_eq q p) 1 0 (names_apart d p e q apart),
     )
+
+-- a block in memory, once it is pinned
+module _ (setup : Sizes) (h : History) (had : Cache) (amid : IsAmid setup h had) (d p : ℕ) where
+  -- it has no more pins than there are workers
+  pub pins_are_few : pins_at had.blocks d p < 2 ^ 64 - 1
+  pins_are_few = omega (arith, amid.in_step.pins d p, pins_few setup h d p amid.permitted, amid.range.few_workers)
+
+  -- it is there
+  pub is_there : is_resident h d p ≡ true → IsSome (held_at had.blocks d p)
+  is_there resident = sym (resident_is h had d p amid.in_step) ∙ resident
+
+  pub in_step_hit : (worker : ℕ) (has : Cache) → is_resident h d p ≡ true
+      → IfSome (held_at had.blocks d p) (λ held. has.blocks ≡ without d p had.blocks ++ record held { pins = held.pins + 1 } ∷ []) → has.copies ≡ had.copies
+      → IsInStep (entry_by worker (Pin d p false) ∷ h) has
+  in_step_hit worker has resident blocks copies = at_block (held_at had.blocks d p) refl
+    where
+      at_block : (o : Option HeldBlock) → held_at had.blocks d p ≡ o → IsInStep (entry_by worker (Pin d p false) ∷ h) has
+      at_block None none = absurd (false≢true (sym (ap is_some none) ∙ is_there resident))
+      at_block (Some held) here =
+          in_step_pinned setup h worker d p held had has amid.range.region_fits amid.permitted amid.in_step here
+          (subst (λ (o : Option HeldBlock). IfSome o (λ held. has.blocks ≡ without d p had.blocks ++ record held { pins = held.pins + 1 } ∷ [])) here blocks) copies
+
+-- what is kept of blocks, where the blocks alone changed
+pub cache_pinned : (had has : Cache) (found : Option HeldBlock) (left : List HeldBlock)
+    → IfSome found (λ held. has.blocks ≡ left ++ record held { pins = held.pins + 1 } ∷ []) → has ≡ record had { blocks = has.blocks }
+    → IfSome found (λ held. has ≡ record had { blocks = left ++ record held { pins = held.pins + 1 } ∷ [] })
+cache_pinned had has None left blocks others = tt
+cache_pinned had has (Some held) left blocks others = others ∙ ap (λ (bs : List HeldBlock). record had { blocks = bs }) blocks
 
 -- ---- an unpin
 

@@ -9,7 +9,7 @@ use Rattle.std.proofs.lemmas.Option.{none-some, same_Some}
 use Rattle.row_page.specs.Spelling.{page_cost}
 use Rattle.pool_ledger.specs.declared.entry.Entry.{Entry}
 use Rattle.pool_ledger.specs.declared.entry.Event.{Event}
-use Rattle.pool_ledger.specs.declared.entry.Event.TheVariants.{Begin, Attempt, Release, End, Evict, Admit, Refused, Pin, Unpin, Remove}
+use Rattle.pool_ledger.specs.declared.entry.Event.TheVariants.{Begin, Attempt, Release, End, Evict, Admit, Refused, Pin, Unpin, Remove, Grow}
 use Rattle.pool_ledger.specs.Sizes.{Sizes}
 use Rattle.pool_ledger.specs.History.{History, total}
 use Rattle.pool_ledger.specs.Blocks.{Resident, is_block, is_pinned, is_resident, leaves_copy, pin_of, residents, unpin_of, worker_pin}
@@ -106,6 +106,7 @@ in_step_quiet h worker (End task freed) cache quiet step = in_step_same h (entry
 in_step_quiet h worker (Refused d p size borrowed evictions) cache quiet step = in_step_same h (entry_by worker (Refused d p size borrowed evictions)) cache step refl (λ e q. refl) (λ e q. refl)
 in_step_quiet h worker (Pin d p true) cache quiet step = in_step_same h (entry_by worker (Pin d p true)) cache step refl (λ e q. refl) (λ e q. refl)
 in_step_quiet h worker (Pin d p false) cache quiet step = absurd (cc quiet)
+in_step_quiet h worker (Grow bytes) cache quiet step = in_step_same h (entry_by worker (Grow bytes)) cache step refl (λ e q. refl) (λ e q. refl)
 in_step_quiet h worker (Unpin d p) cache quiet step = absurd (cc quiet)
 in_step_quiet h worker (Evict d p size fate) cache quiet step = absurd (cc quiet)
 in_step_quiet h worker (Admit d p size level borrowed evictions) cache quiet step = absurd (cc quiet)

@@ -2,10 +2,10 @@
 -- This project's own.
 use Rattle.std.specs.Prelude.{ℕ, zero, suc, ◌≡◌, ◌+◌, ◌*◌, ◌≤◌, ◌<◌, ◌^◌, true, false, min, Bool, Option, Some, None, List, [], ◌∷◌, ◌++◌, map, is_some}
 use Rattle.pool_ledger.specs.declared.entry.Event.{Event}
-use Rattle.pool_ledger.specs.declared.entry.Event.TheVariants.{Begin, Attempt, Release, End, Refused, Pin, Unpin}
+use Rattle.pool_ledger.specs.declared.entry.Event.TheVariants.{Begin, Attempt, Release, End, Refused, Pin, Unpin, Grow}
 use Rattle.pool_ledger.specs.Sizes.{Sizes, IsInRange}
 use Rattle.pool_ledger.specs.declared.entry.Level.{Level}
-use Rattle.pool_ledger.specs.History.{History, held, open_task, total, was_begun}
+use Rattle.pool_ledger.specs.History.{History, CanGrow, held, open_task, total, was_begun}
 use Rattle.pool_ledger.specs.Blocks.{Name, Resident, is_resident, leaves_copy, pin_of, residents, unpin_of, worker_pin}
 use Rattle.pool_ledger.specs.Answers.{admission, growth}
 use Rattle.pool_ledger.specs.Journal.{journal_of}
@@ -60,6 +60,7 @@ is_quiet (Release task freed) = true
 is_quiet (End task freed) = true
 is_quiet (Refused dataset part size borrowed evictions) = true
 is_quiet (Pin dataset part copy) = copy
+is_quiet (Grow bytes) = true
 is_quiet _ = false
 
 -- how the state goes on
@@ -85,10 +86,14 @@ pub record StatesGoOn : Type 0 where
   pub ends : (setup : Sizes) (history : History) (cache : Cache) (worker task : ℕ) → IsSteady setup history cache → worker < setup.workers
       → open_task history worker ≡ Some task
       → MayFollow setup history (entry_by worker (End task (held history task))) × GoesSteadily setup history (entry_by worker (End task (held history task)) ∷ history) worker 1 0
+  pub grows : (setup : Sizes) (history : History) (cache : Cache) (worker bytes : ℕ) → IsSteady setup history cache → worker < setup.workers
+      → CanGrow setup history worker bytes
+      → MayFollow setup history (entry_by worker (Grow bytes)) × GoesSteadily setup history (entry_by worker (Grow bytes) ∷ history) worker 0 0
   pub pins : (setup : Sizes) (history : History) (worker dataset part : ℕ) → worker < setup.workers → worker_pin history worker ≡ None
       → GoesSteadily setup history (entry_by worker (Pin dataset part false) ∷ history) worker 0 1
-  pub reads : (setup : Sizes) (history : History) (worker dataset part : ℕ) → worker < setup.workers
-      → GoesSteadily setup history (entry_by worker (Pin dataset part true) ∷ history) worker 0 0
+  pub reads : (setup : Sizes) (history : History) (cache : Cache) (worker dataset part : ℕ) → IsSteady setup history cache → worker < setup.workers
+      → is_resident history dataset part ≡ false → worker_pin history worker ≡ None → has_copy cache.copies dataset part ≡ true
+      → MayFollow setup history (entry_by worker (Pin dataset part true)) × GoesSteadily setup history (entry_by worker (Pin dataset part true) ∷ history) worker 0 0
   pub unpins : (setup : Sizes) (history : History) (worker dataset part : ℕ) (name : Name) → worker < setup.workers → worker_pin history worker ≡ Some name
       → GoesSteadily setup history (entry_by worker (Unpin dataset part) ∷ history) worker 1 0
   pub attempts : (setup : Sizes) (base amid : History) (had has : Cache) (worker task asked : ℕ) → IsSteady setup base had → worker < setup.workers

@@ -57,7 +57,7 @@ impl<K: Disk> Pool<K> {
     {
         permitted_histories_keep_laws();
         victims_go_one_by_one();
-        let Some(next) = self.next_to_go(except) else {
+        let Some(next) = self.store.first_that_may_go(except) else {
             unreachable!()
         };
         let fate = self.store.evict_one(next.dataset, next.part);

@@ -3,6 +3,7 @@
 
 mod admission;
 mod attempted;
+mod block_calls;
 mod choice;
 mod evicting;
 mod listing;

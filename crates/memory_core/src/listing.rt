@@ -1,12 +1,10 @@
-//! What is read off the list of blocks: plans, for which it is filled only where blocks have to go, and the next
-//! block that goes.
+//! What is read off the list of blocks: plans, for which it is filled only where blocks have to go, and what of a
+//! dataset may be removed.
 
 ghost use Rattle.std.specs.Prelude.{◌≡◌, ◌≤◌, ◌^◌, length, take, map, count_by, Some, None};
-ghost use Rattle.std.specs.List.{find};
 ghost use Rattle.pool_ledger.specs.History.{open_task};
 ghost use Rattle.pool_ledger.specs.Blocks.{evictable};
 ghost use Rattle.pool_ledger.specs.Answers.{growth, answer, admission};
-ghost use Rattle.eviction.specs.Victims.{is_evictable};
 ghost use Rattle.block_store.specs.Stores.{AreApart, candidate_of};
 ghost use Rattle.memory_core.specs.Changes.{may_be_removed};
 ghost use Rattle.memory_core.specs.Choices.{least_in};
@@ -16,8 +14,7 @@ use crate::choice::{count_of, least_of};
 use crate::pool::Pool;
 use eviction::Candidate;
 use pool_plans::{
-    AdmissionPlan, AttemptPlan, first_to_go, need_of_admission, need_of_attempt, plan_admission,
-    plan_attempt,
+    AdmissionPlan, AttemptPlan, need_of_admission, plan_admission, plan_attempt, room_for_attempt,
 };
 use spill_disk::Disk;
 
@@ -35,10 +32,11 @@ impl<K: Disk> Pool<K> {
         ensures known { result.evictions ≤ length self.old.cache.blocks }
         ensures same { self.new ≡ self.old }
     {
-        if need_of_attempt(&self.ledger, asked) == 0 {
-            return plan_attempt(&self.ledger, &[], task, asked);
+        let room = room_for_attempt(&self.ledger, asked);
+        if room.need == 0 {
+            return plan_attempt(&self.ledger, room, &[], task, asked);
         }
-        plan_attempt(&self.ledger, self.store.list(), task, asked)
+        plan_attempt(&self.ledger, room, self.store.list(), task, asked)
     }
 
     // The plan for a block of this size that isn't in memory.
@@ -55,15 +53,6 @@ impl<K: Disk> Pool<K> {
             return plan_admission(&self.ledger, &[], dataset, size);
         }
         plan_admission(&self.ledger, self.store.list(), dataset, size)
-    }
-
-    // The first block that may go.
-    pub(crate) fn next_to_go(&mut self, except: Option<u32>) -> Option<Candidate>
-        ensures found { result ≡ find (is_evictable except) (map candidate_of self.old.cache.blocks) }
-        ensures apart { AreApart self.old.cache.blocks }
-        ensures same { self.new ≡ self.old }
-    {
-        first_to_go(self.store.list(), except)
     }
 
     // How many blocks of a dataset may be removed: those in memory that no pin keeps.

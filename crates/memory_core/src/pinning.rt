@@ -1,6 +1,6 @@
 //! Pins, and copies that are read back.
 
-ghost use Rattle.std.specs.Prelude.{◌≡◌, ◌≤◌, ◌<◌, ◌+◌, ◌++◌, [], ◌∷◌, map, is_some, true, false, Some, None, IfOk, IfSome, IfNone, OnOk, OnErr};
+ghost use Rattle.std.specs.Prelude.{◌≡◌, ◌≤◌, ◌<◌, ◌+◌, ◌++◌, [], ◌∷◌, map, is_some, true, false, Some, None, IfOk, IfSome, IfNone};
 ghost use Rattle.std.specs.Arc.{arc_value};
 ghost use Rattle.fault_count.specs.Faults.{Rose};
 ghost use Rattle.pool_ledger.specs.Blocks.{is_resident, worker_pin};
@@ -21,34 +21,38 @@ use std::alloc::{AllocError, Global};
 use std::sync::Arc;
 
 impl<K: Disk> Pool<K> {
-    // Pins a block that is in memory, for a worker without a pin.
-    pub(crate) fn pin(
-        &mut self,
-        worker: u32,
+    // The block, if it is in memory, for one more owner.
+    pub(crate) fn lend(
+        &self,
         dataset: u32,
         part: u32,
-    ) -> Result<Arc<Block, Global>, AllocError>
+    ) -> Result<Option<Arc<Block, Global>>, AllocError>
+        requires amid { IsAmid self.now.setup self.now.history self.now.cache }
+        ensures found { IfOk result (λ got. is_some got ≡ is_resident self.now.history dataset part) }
+        ensures value { IfOk result (λ got. IfSome got (λ block. held_at self.now.cache.blocks dataset part
+            ≡ Some (held_of (pins_at self.now.cache.blocks dataset part) (arc_value block)))) }
+    {
+        self.store.lend(dataset, part)
+    }
+
+    // Pins a block that is in memory, for a worker without a pin.
+    pub(crate) fn pin(&mut self, worker: u32, dataset: u32, part: u32)
         requires amid { IsAmid self.old.setup self.old.history self.old.cache }
         requires whole { pending self.old.history ≡ [] }
         requires known { worker < self.old.setup.workers }
         requires free { worker_pin self.old.history worker ≡ None }
         requires resident { is_resident self.old.history dataset part ≡ true }
         requires spare { 1 ≤ self.old.spare }
-        ensures value { IfOk result (λ block. held_at self.old.cache.blocks dataset part
-            ≡ Some (held_of (pins_at self.old.cache.blocks dataset part) (arc_value block))) }
-        ensures history { OnOk result (self.new.history ≡ entry_by worker (Pin dataset part false) ∷ self.old.history) }
-        ensures cache { IfOk result (λ block. self.new.cache ≡ record self.old.cache {
-          blocks = without dataset part self.old.cache.blocks ++ held_of (pins_at self.old.cache.blocks dataset part + 1) (arc_value block) ∷ [];
-        }) }
-        ensures spare { OnOk result (self.new.spare + 1 ≡ self.old.spare) }
-        ensures err { OnErr result (self.new ≡ self.old) }
         ensures amid { IsAmid self.new.setup self.new.history self.new.cache }
+        ensures history { self.new.history ≡ entry_by worker (Pin dataset part false) ∷ self.old.history }
+        ensures cache { IfSome (held_at self.old.cache.blocks dataset part) (λ held. self.new.cache ≡ record self.old.cache {
+          blocks = without dataset part self.old.cache.blocks ++ record held { pins = held.pins + 1 } ∷ [];
+        }) }
+        ensures spare { self.new.spare + 1 ≡ self.old.spare }
         ensures setup { self.new.setup ≡ self.old.setup }
     {
         permitted_histories_keep_laws();
-        let Some(block) = self.store.pin(dataset, part)? else {
-            unreachable!()
-        };
+        self.store.pin(dataset, part);
         self.ledger.push(Entry {
             worker,
             event: Event::Pin {
@@ -57,7 +61,6 @@ impl<K: Disk> Pool<K> {
                 copy: false,
             },
         });
-        Ok(block)
     }
 
     // Gives a worker's pin back.
@@ -81,19 +84,13 @@ impl<K: Disk> Pool<K> {
         });
     }
 
-    // Reads the copy of a block that isn't in memory, for a worker without a pin.
-    pub(crate) fn read_back(
+    // Reads the copy of a block, if it has one.
+    pub(crate) fn read_copy(
         &mut self,
-        worker: u32,
         dataset: u32,
         part: u32,
     ) -> Result<Option<Arc<Block, Global>>, AllocError>
         requires amid { IsAmid self.old.setup self.old.history self.old.cache }
-        requires whole { pending self.old.history ≡ [] }
-        requires known { worker < self.old.setup.workers }
-        requires free { worker_pin self.old.history worker ≡ None }
-        requires absent { is_resident self.old.history dataset part ≡ false }
-        requires spare { 1 ≤ self.old.spare }
         ensures copied { IfOk result (λ read. IfSome read (λ _. has_copy self.old.cache.copies dataset part ≡ true)) }
         ensures rows { is_some self.old.cache.files ≡ true → IfOk result (λ read. IfSome read (λ block.
             copy_rows self.old.cache.files self.old.cache.copies dataset part ≡ Some (arc_value block).page.rows)) }
@@ -102,26 +99,12 @@ impl<K: Disk> Pool<K> {
         ensures level { IfOk result (λ read. IfSome read (λ block. (arc_value block).level ≡ Level.Disk)) }
         ensures lost { has_copy self.old.cache.copies dataset part ≡ true → is_some self.old.cache.files ≡ true
             → IfOk result (λ read. IfNone read (Rose self.old.cache.faults self.new.cache.faults)) }
-        ensures history { IfOk result (λ read. IfSome read (λ _. self.new.history ≡ entry_by worker (Pin dataset part true) ∷ self.old.history)) }
-        ensures none { IfOk result (λ read. IfNone read (self.new.history ≡ self.old.history)) }
-        ensures err { OnErr result (self.new.history ≡ self.old.history) }
-        ensures cache { ReadsAlone self.old.cache self.new.cache }
         ensures amid { IsAmid self.new.setup self.new.history self.new.cache }
+        ensures cache { ReadsAlone self.old.cache self.new.cache }
+        ensures history { self.new.history ≡ self.old.history }
         ensures setup { self.new.setup ≡ self.old.setup }
-        ensures spare { self.old.spare ≤ self.new.spare + 1 }
+        ensures spare { self.new.spare ≡ self.old.spare }
     {
-        permitted_histories_keep_laws();
-        let Some(block) = self.store.copy_of(dataset, part)? else {
-            return Ok(None);
-        };
-        self.ledger.push(Entry {
-            worker,
-            event: Event::Pin {
-                dataset,
-                part,
-                copy: true,
-            },
-        });
-        Ok(Some(block))
+        self.store.copy_of(dataset, part)
     }
 }

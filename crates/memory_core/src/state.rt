@@ -1,36 +1,30 @@
 //! The state: a legal journal and the blocks, with room kept for the end of each open task and for each unpin.
 
-ghost use Rattle.std.specs.Prelude.{◌≡◌, ◌≢◌, ◌+◌, ◌≤◌, ◌<◌, ◌^◌, Option, Some, None, Ok, [], ◌∷◌, ℕ, List, map, false, length, count_by, min, nat_lt, IsOk, IfOk, OnOk, OnErr};
-ghost use Rattle.std.specs.Arc.{arc_value};
-ghost use Rattle.row_page.specs.Spelling.{page_cost};
-ghost use Rattle.pool_ledger.specs.History.{held, maximum, open_task, was_begun};
-ghost use Rattle.pool_ledger.specs.Blocks.{is_pinned, residents, worker_pin};
+ghost use Rattle.std.specs.Prelude.{◌≡◌, ◌≢◌, ◌+◌, ◌≤◌, ◌<◌, ◌^◌, Some, None, Ok, [], ◌∷◌, ℕ, map, false, length, min, nat_lt, IsOk, IfOk, OnOk, OnErr};
+ghost use Rattle.pool_ledger.specs.History.{CanGrow, held, maximum, open_task, was_begun};
+ghost use Rattle.pool_ledger.specs.Blocks.{is_pinned, residents};
 ghost use Rattle.pool_ledger.specs.Journal.{history_of, journal_of};
-ghost use Rattle.pool_ledger.specs.Answers.{admission, answer, growth};
+ghost use Rattle.pool_ledger.specs.Answers.{answer, growth};
 ghost use Rattle.pool_ledger.specs.Legal.{IsLegal};
 ghost use Rattle.pool_ledger.specs.Workers.{Continues};
-ghost use Rattle.pool_ledger.specs.declared.entry.Event.TheVariants.{Begin, Release, End, Unpin};
+ghost use Rattle.pool_ledger.specs.declared.entry.Event.TheVariants.{Begin, Release, End, Grow};
 ghost use Rattle.pool_laws.specs.Growing.{entry_by};
 ghost use Rattle.pool_laws.specs.Laws.{HoldsMost};
-ghost use Rattle.block_store.specs.Stores.{pins_at, unpinned};
+ghost use Rattle.block_store.specs.Stores.{pins_at};
 ghost use Rattle.memory_core.specs.Attempts.{granted_in, KeepsFloor, WaitsBehind};
-ghost use Rattle.memory_core.specs.Caches.{Cache, resident_of};
-ghost use Rattle.memory_core.specs.Changes.{Clears, HandsGiven, HasPinnedAlone, IsNamed, IsPinned, ReadsAlone, StillFits, StillFitsWith, may_be_removed};
-ghost use Rattle.memory_core.specs.Evictions.{Attempts, IsAnswered};
+ghost use Rattle.memory_core.specs.Caches.{resident_of};
+ghost use Rattle.memory_core.specs.Changes.{StillFits};
+ghost use Rattle.memory_core.specs.Evictions.{Attempts};
 ghost use Rattle.memory_core.specs.Steady.{IsSteady, StatesGoOn};
 ghost use Rattle.memory_core.specs.declared.attempted.Attempted.TheVariants.{Wait};
 
-use crate::admission::Admission;
 use crate::attempted::{Attempted, answered};
-use crate::pinned::Pinned;
 use crate::pool::Pool;
-use block_store::Block;
 use pool_laws::{legal_histories_grow, permitted_histories_keep_laws, victims_go_one_by_one};
 use pool_ledger::{Entry, Event, Journal, Setup};
 use spill_disk::Disk;
 use std::alloc::{AllocError, Global};
 use std::marker::Model;
-use std::sync::Arc;
 
 /// The pool's journal with its running sums, the blocks in memory, and the store disk with the copies of evicted
 /// ones. A contract sees the setup, the entries as a history, the newest first, `spare`, the number of entries for
@@ -38,8 +32,8 @@ use std::sync::Arc;
 /// copies, and the disk's files and count of faults.
 #[derive(Drop)]
 pub struct MemoryState<K: Disk> {
-    pool: Pool<K>,
-    kept: u64,
+    pub(crate) pool: Pool<K>,
+    pub(crate) kept: u64,
 }
 
 impl<K: Disk> Model for MemoryState<K> {
@@ -60,7 +54,7 @@ impl<K: Disk> Model for MemoryState<K> {
 }
 
 // What the state does next is legal, and what it owes.
-fn states_go_on()
+pub(crate) fn states_go_on()
     ensures { StatesGoOn }
 {
     legal_histories_grow();
@@ -240,118 +234,25 @@ impl<K: Disk> MemoryState<K> {
         freed
     }
 
-    /// Keeps a block in memory that isn't there, if there is room: what storage has free, then what it can borrow
-    /// from what execution has free, then what blocks of other datasets give that no pin keeps. What was borrowed
-    /// stays storage's, also where the block is refused. After an `Err` all is as before.
-    ///
-    /// After Spark's `UnifiedMemoryManager.acquireStorageMemory` and `MemoryStore.evictBlocksToFreeSpace`.
-    pub fn admit(&mut self, worker: u32, block: Arc<Block, Global>) -> Result<Admission, AllocError>
+    /// Makes both pools together larger, by 1 to 2^36 bytes that execution gets, to 2^41 at most. The first worker alone
+    /// does it. After an `Err` all is as before; it doesn't come where there is room for an entry.
+    pub fn grow(&mut self, worker: u32, bytes: u64) -> Result<(), AllocError>
         requires known { worker < self.old.setup.workers }
-        ensures ok { IfOk result (λ answer. IsAnswered answer worker (arc_value block) (page_cost (arc_value block).page.rows) self.old self.new) }
+        requires can { CanGrow self.old.setup self.old.history worker bytes }
+        ensures ok { OnOk result (self.new.history ≡ entry_by worker (Grow bytes) ∷ self.old.history) }
+        ensures enough { 1 ≤ self.old.spare → IsOk result }
         ensures err { OnErr result (self.new ≡ self.old) }
         ensures setup { self.new.setup ≡ self.old.setup }
+        ensures cache { self.new.cache ≡ self.old.cache }
         ensures own { Continues worker (journal_of self.old.history) (journal_of self.new.history) }
-        ensures rows { StillFitsWith (arc_value block) self.old.cache self.new.cache }
-        ensures room { self.old.spare ≤ self.new.spare
-            + length (admission self.old.setup self.old.history (arc_value block).dataset (page_cost (arc_value block).page.rows)).evicted + 1 }
+        ensures room { self.old.spare ≤ self.new.spare + 1 }
     {
-        let (dataset, part, size) = (block.dataset, block.part, block.size());
-        if self.pool.is_resident(dataset, part) {
-            return Ok(Admission::Resident);
-        }
+        self.reserve(1)?;
         states_go_on();
-        let plan = self.pool.plan_admission(dataset, size);
-        let Some(entries) = plan.evictions.checked_add(self.kept + 1) else {
-            return Err(AllocError);
-        };
-        self.pool.reserve_block()?;
-        self.pool.reserve(entries)?;
-        self.pool.evict(worker, Some(dataset), plan.evictions);
-        if plan.admitted {
-            self.pool
-                .admit(worker, plan.borrowed, plan.evictions, block);
-            return Ok(Admission::Admitted);
-        }
         self.pool.add(Entry {
             worker,
-            event: Event::Refused {
-                dataset,
-                part,
-                size,
-                borrowed: plan.borrowed,
-                evictions: plan.evictions,
-            },
+            event: Event::Grow { bytes },
         });
-        Ok(Admission::Refused)
-    }
-
-    /// Pins a block for a worker that has no pin, if it is in memory; it then was used last, and no call evicts
-    /// or removes it until the unpin, whose room is kept. Else reads its copy, if it has one. After an `Err`
-    /// history, blocks, copies and files are as before; room may have been made.
-    pub fn pin(&mut self, worker: u32, dataset: u32, part: u32) -> Result<Pinned, AllocError>
-        requires known { worker < self.old.setup.workers }
-        requires free { worker_pin self.old.history worker ≡ None }
-        ensures ok { IfOk result (λ pinned. IsPinned pinned worker dataset part self.old self.new) }
-        ensures handed { IfOk result (λ pinned. HandsGiven pinned dataset part self.old.cache) }
-        ensures named { IfOk result (λ pinned. IsNamed pinned dataset part) }
-        ensures err { OnErr result (self.new.history ≡ self.old.history) }
-        ensures err_cache { OnErr result (ReadsAlone self.old.cache self.new.cache) }
-        ensures setup { self.new.setup ≡ self.old.setup }
-        ensures own { Continues worker (journal_of self.old.history) (journal_of self.new.history) }
-        ensures rows { StillFits self.old.cache self.new.cache }
-        ensures room { self.old.spare ≤ self.new.spare + 2 }
-    {
-        states_go_on();
-        if self.pool.is_resident(dataset, part) {
-            // One entry for this pin, and one for the unpin.
-            self.reserve(2)?;
-            let block = self.pool.pin(worker, dataset, part)?;
-            self.kept += 1;
-            return Ok(Pinned::Hit(block));
-        }
-        self.reserve(1)?;
-        let Some(block) = self.pool.read_back(worker, dataset, part)? else {
-            return Ok(Pinned::Miss);
-        };
-        Ok(Pinned::OnDisk(block))
-    }
-
-    /// Gives the worker's pin back. It takes no memory and can't be refused: its entry has its room since the
-    /// pin.
-    pub fn unpin(&mut self, worker: u32, dataset: u32, part: u32)
-        requires known { worker < self.old.setup.workers }
-        requires its_pin { worker_pin self.old.history worker ≡ Some (record { dataset = dataset; part = part }) }
-        ensures history { self.new.history ≡ entry_by worker (Unpin dataset part) ∷ self.old.history }
-        ensures cache { self.new.cache ≡ record self.old.cache { blocks = map (unpinned dataset part) self.old.cache.blocks } }
-        ensures setup { self.new.setup ≡ self.old.setup }
-        ensures own { Continues worker (journal_of self.old.history) (journal_of self.new.history) }
-        ensures rows { StillFits self.old.cache self.new.cache }
-        ensures room { self.old.spare ≤ self.new.spare }
-    {
-        states_go_on();
-        self.pool.unpin(worker, dataset, part);
-        self.kept -= 1;
-    }
-
-    /// Removes the blocks of a dataset that no pin keeps, ascending by part, and forgets all its copies. What the
-    /// store disk answers to the removal of their files changes nothing. After an `Err` all is as before; it doesn't
-    /// come where there is room for an entry for each of these blocks.
-    pub fn remove(&mut self, worker: u32, dataset: u32) -> Result<(), AllocError>
-        requires known { worker < self.old.setup.workers }
-        ensures ok { OnOk result (Clears worker dataset self.old self.new) }
-        ensures left { OnOk result (HasPinnedAlone dataset self.new.history) }
-        ensures err { OnErr result (self.new ≡ self.old) }
-        ensures setup { self.new.setup ≡ self.old.setup }
-        ensures own { Continues worker (journal_of self.old.history) (journal_of self.new.history) }
-        ensures rows { StillFits self.old.cache self.new.cache }
-        ensures enough { count_by (may_be_removed dataset) self.old.cache.blocks ≤ self.old.spare → IsOk result }
-        ensures room { self.old.spare ≤ self.new.spare + count_by (may_be_removed dataset) self.old.cache.blocks }
-    {
-        let count = self.pool.removable(dataset);
-        self.reserve(count)?;
-        states_go_on();
-        self.pool.remove(worker, dataset, count);
-        self.pool.forget(dataset);
         Ok(())
     }
 

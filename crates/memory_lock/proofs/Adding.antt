@@ -4,7 +4,7 @@ use Rattle.std.specs.Prelude.{IfOk, Result, length}
 use Rattle.pool_ledger.specs.declared.entry.Entry.{Entry}
 use Rattle.pool_ledger.specs.declared.entry.Event.TheVariants.{Attempt}
 use Rattle.pool_ledger.specs.Sizes.{Sizes}
-use Rattle.pool_ledger.specs.History.{held}
+use Rattle.pool_ledger.specs.History.{History, CanGrow, held}
 use Rattle.pool_ledger.specs.Journal.{history_of, journal_of}
 use Rattle.pool_ledger.specs.Workers.{entries_of}
 use Rattle.pool_laws.specs.Growing.{entry_by}
@@ -12,7 +12,7 @@ use Rattle.memory_core.specs.declared.attempted.Attempted.{Attempted}
 use Rattle.memory_core.specs.declared.attempted.Attempted.TheVariants.{Wait}
 use Rattle.memory_core.specs.Attempts.{granted_in, KeepsFloor}
 use Rattle.memory_core.specs.Caches.{Memory}
-use Rattle.turn_lock.specs.Passes.{PassState}
+use Rattle.turn_lock.specs.Passes.{WorkerView}
 use Rattle.memory_lock.specs.Fitting.{own_in}
 use Rattle.memory_lock.specs.Workers.{AddsAttempt, AddsWaits, IsEviction, IsWait, SeesMore, own_entries, own_of}
 use Rattle.task_pool.proofs.GoingOn.{all_append}
@@ -30,11 +30,20 @@ module _ {E : Type 0} where
 
 -- ---- what a worker holds, by the state and by the worker
 
-pub held_as : (pass now : PassState) (number task again : ℕ) (locked : Memory) → pass ≡ now → number ≡ pass.number → again ≡ task
+pub held_as : (pass now : WorkerView) (number task again : ℕ) (locked : Memory) → pass ≡ now → number ≡ pass.number → again ≡ task
     → entries_of pass.number (journal_of locked.history) ≡ entries_of pass.number pass.seen → held (own_in number locked) again ≡ held (own_of now) task
 held_as pass now number task again locked is number_is again_is own =
     ap (λ (n : ℕ). held (own_in n locked) again) number_is ∙ ap (held (own_in pass.number locked)) again_is
-    ∙ ap (λ (es : List Entry). held (history_of es) task) own ∙ ap (λ (p : PassState). held (own_of p) task) is
+    ∙ ap (λ (es : List Entry). held (history_of es) task) own ∙ ap (λ (p : WorkerView). held (own_of p) task) is
+
+-- ---- that a worker may make the pools larger, by itself and by the state
+
+pub can_as : (sizes : Sizes) (pass now : WorkerView) (number bytes : ℕ) (locked : Memory) → pass ≡ now → number ≡ pass.number → entries_of pass.number (journal_of locked.history) ≡ entries_of pass.number pass.seen
+    → CanGrow sizes (own_of now) now.number bytes → CanGrow sizes (own_in number locked) number bytes
+can_as sizes pass now number bytes locked is number_is own can =
+    let same : own_in number locked ≡ own_of now = ap (λ (n : ℕ). own_in n locked) number_is ∙ ap history_of own ∙ ap own_of is in
+    let numbered : number ≡ now.number = number_is ∙ ap (λ (p : WorkerView). p.number) is in
+    subst (λ (n : ℕ). CanGrow sizes (own_in number locked) n bytes) (sym numbered) (subst (λ (h : History). CanGrow sizes h now.number bytes) (sym same) can)
 
 -- ---- waits
 
@@ -57,7 +66,7 @@ no_wait worker task asked before = ([], sym (append-nil before), tt)
 
 -- ---- waits of a worker that goes on
 
-pub waits_on : (before amid after : PassState) (task asked : ℕ) (got : Attempted) → SeesMore before amid → AddsWaits before.number task asked (own_entries before) (own_entries amid)
+pub waits_on : (before amid after : WorkerView) (task asked : ℕ) (got : Attempted) → SeesMore before amid → AddsWaits before.number task asked (own_entries before) (own_entries amid)
     → AddsAttempt amid.number task asked (granted_in got) (own_entries amid) (own_entries after) → got ≡ Wait → AddsWaits before.number task asked (own_entries before) (own_entries after)
 waits_on before amid after task asked got sees waits adds is =
     let same : AddsAttempt before.number task asked None (own_entries amid) (own_entries after) =

@@ -8,12 +8,12 @@ use Rattle.pool_ledger.specs.declared.entry.Entry.{Entry}
 use Rattle.pool_ledger.specs.declared.entry.Event.{Event}
 use Rattle.pool_ledger.specs.declared.entry.Event.TheVariants.{Begin, End}
 use Rattle.pool_ledger.specs.Sizes.{Sizes}
-use Rattle.pool_ledger.specs.History.{History, maximum, open_task, task_after}
+use Rattle.pool_ledger.specs.History.{History, CanGrow, grown_by, maximum, open_task, task_after, total}
 use Rattle.pool_ledger.specs.Journal.{history_of, journal_of}
 use Rattle.pool_ledger.specs.Legal.{IsPermitted}
 use Rattle.pool_ledger.specs.Workers.{entries_of}
 use Rattle.pool_laws.specs.Laws.{KeepsLaws}
-use Rattle.pool_laws.specs.Owners.{AreOwned, IsByOwner, OwnerTells, TellsWorker}
+use Rattle.pool_laws.specs.Owners.{AreOwned, IsByOwner, OwnerTells, TellsGrowths, TellsWorker}
 use Rattle.memory_core.specs.Caches.{Memory, RowsByName}
 use Rattle.memory_lock.specs.Fitting.{FitsBasis, OwnDecides, OwnerDecides, OwnTaskDecides, OwnEntriesDecide, TasksFitPool, own_in}
 
@@ -70,5 +70,16 @@ module _ (tells_worker : (journal : List Entry) (worker : ℕ) → TellsWorker (
       let part = law.tasks_fit task in
       record { holds = holds; most = omega (arith, holds, part, law.never_passes.exec_fits, law.never_passes.pools_add_up, pool) }
 
-  pub decide : OwnEntriesDecide
-  decide = record { worker = of_worker; task = of_task; own_task = of_own_task }
+  -- the pools grew by what the first worker's own entries say
+  of_growths : ((setup : Sizes) (journal : List Entry) → IsPermitted setup (history_of journal) → TellsGrowths (history_of journal) (history_of (entries_of 0 journal)))
+      → (sizes : Sizes) (owner : ℕ → Option ℕ) (given : RowsByName) (memory : Memory) (number bytes : ℕ) → FitsBasis sizes owner given memory → CanGrow sizes (own_in number memory) number bytes
+      → CanGrow sizes memory.history number bytes
+  of_growths tells_growths sizes owner given memory number bytes fits can =
+      let permitted = subst (IsPermitted sizes) (sym (twice_reversed memory.history)) fits.legal.permitted in
+      let tells = subst (λ (h : History). TellsGrowths h (own_in 0 memory)) (twice_reversed memory.history) (tells_growths sizes (journal_of memory.history) permitted) in
+      let mine = ap (λ (n : ℕ). total grown_by (own_in n memory)) can.first in
+      let fit = can.fits in
+      record { first = can.first; some = can.some; few = can.few; fits = omega (arith, fit, mine, tells) }
+
+  pub decide : ((setup : Sizes) (journal : List Entry) → IsPermitted setup (history_of journal) → TellsGrowths (history_of journal) (history_of (entries_of 0 journal))) → OwnEntriesDecide
+  decide tells_growths = record { worker = of_worker; task = of_task; own_task = of_own_task; growths = of_growths tells_growths }

@@ -1,7 +1,7 @@
 -- What a call added stands at the end of all that its worker has then seen, and that is legal.
 use Rattle.std.proofs.Common.{◌≡◌, ◌∙◌, ◌++◌, [], ℕ, List, Option, sym, ap, subst, append-nil}
 use Rattle.std.proofs.lemmas.List.{append_cancel_left}
-use Rattle.std.specs.Prelude.{IfOk, Result, Ok, Err}
+use Rattle.std.specs.Prelude.{IfOk, OnOk, Result, Ok, Err}
 use Rattle.pool_ledger.specs.declared.entry.Entry.{Entry}
 use Rattle.pool_ledger.specs.Sizes.{Sizes}
 use Rattle.pool_ledger.specs.History.{History}
@@ -16,7 +16,7 @@ use Rattle.memory_core.specs.declared.pinned.Pinned.{Pinned}
 use Rattle.memory_core.specs.declared.pinned.Pinned.TheVariants.{Hit, OnDisk as ReadBack, Miss}
 use Rattle.memory_core.specs.Attempts.{granted_in}
 use Rattle.memory_core.specs.Caches.{Memory, RowsByName}
-use Rattle.turn_lock.specs.Passes.{PassState}
+use Rattle.turn_lock.specs.Passes.{WorkerView}
 use Rattle.turn_lock.proofs.Entries.{entries_of-continues}
 use Rattle.memory_lock.specs.Fitting.{FitsBasis}
 use Rattle.memory_lock.specs.Workers.{AddsAttempt, AdmissionGrows, PinGrows}
@@ -25,7 +25,7 @@ use Rattle.memory_lock.proofs.Deciding.{twice_reversed}
 use Rattle.memory_lock.proofs.Turned.{IsTurn}
 
 -- what was given back is legal, and so what its worker has then seen
-pub seen_legal : (sizes : Sizes) (owner : ℕ → Option ℕ) (given : RowsByName) (memory : Memory) (worker : PassState) → FitsBasis sizes owner given memory → worker.seen ≡ journal_of memory.history
+pub seen_legal : (sizes : Sizes) (owner : ℕ → Option ℕ) (given : RowsByName) (memory : Memory) (worker : WorkerView) → FitsBasis sizes owner given memory → worker.seen ≡ journal_of memory.history
     → IsLegal sizes (history_of worker.seen)
 seen_legal sizes owner given memory worker fits seen = subst (IsLegal sizes) (sym (ap history_of seen ∙ twice_reversed memory.history)) fits.legal
 
@@ -53,7 +53,7 @@ pin_on Miss worker dataset part before after history more is = (stays_on worker 
 -- ---- what its worker has then seen
 
 -- what is said of the journal's end in words of the state is so in words of the worker
-behind : (P : ℕ → List Entry → List Entry → History → Type 0) (now given : PassState) (number : ℕ) (before : List Entry) (history : History) → IsTurn now given number before (journal_of history)
+behind : (P : ℕ → List Entry → List Entry → History → Type 0) (now given : WorkerView) (number : ℕ) (before : List Entry) (history : History) → IsTurn now given number before (journal_of history)
     → P number before (journal_of history) history → P now.number before given.seen (history_of given.seen)
 behind P now given number before history turn is =
     let seen : history ≡ history_of given.seen = sym (ap history_of turn.seen ∙ twice_reversed history) in
@@ -61,36 +61,41 @@ behind P now given number before history turn is =
     (subst (λ (es : List Entry). P now.number before es history) (sym turn.seen)
     (subst (λ (n : ℕ). P n before (journal_of history) history) turn.number_is is))
 
-pub ends : (added : ℕ → List Entry) (now given : PassState) (number : ℕ) (before after : List Entry) → IsTurn now given number before after → Continues number before after
+pub ends : (added : ℕ → List Entry) (now given : WorkerView) (number : ℕ) (before after : List Entry) → IsTurn now given number before after → Continues number before after
     → entries_of number after ≡ entries_of number before ++ added number → EndsWith given.seen (added now.number)
 ends added now given number before after turn more is =
     subst (λ (n : ℕ). EndsWith given.seen (added n)) turn.number_is (before, turn.seen ∙ goes_on number before after (added number) more is)
 
-pub ends_added : (now given : PassState) (number : ℕ) (before after : List Entry) → IsTurn now given number before after → Continues number before after → EndsWithAdded now given
+pub ends_added : (now given : WorkerView) (number : ℕ) (before after : List Entry) → IsTurn now given number before after → Continues number before after → EndsWithAdded now given
 ends_added now given number before after turn more =
     (more.0, turn.gave ∙ entries_of-continues number before after more ∙ ap (λ (es : List Entry). es ++ more.0) turn.had, (before, turn.seen ∙ sym more.1))
 
 module _ {E : Type 0} where
-  pub ends_with : {T : Type 0} (result : Result T E) (added : ℕ → T → List Entry) (now given : PassState) (number : ℕ) (before after : List Entry) → IsTurn now given number before after → Continues number before after
+  pub ends_with : {T : Type 0} (result : Result T E) (added : ℕ → T → List Entry) (now given : WorkerView) (number : ℕ) (before after : List Entry) → IsTurn now given number before after → Continues number before after
       → IfOk result (λ answer. entries_of number after ≡ entries_of number before ++ added number answer) → IfOk result (λ answer. EndsWith given.seen (added now.number answer))
   ends_with (Ok answer) added now given number before after turn more is = ends (λ n. added n answer) now given number before after turn more is
   ends_with (Err e) added now given number before after turn more is = tt
 
-  pub ends_attempt : (result : Result Attempted E) (task asked : ℕ) (now given : PassState) (number : ℕ) (before : List Entry) (history : History) → IsTurn now given number before (journal_of history) → Continues number before (journal_of history)
+  pub ends_so : {T : Type 0} (result : Result T E) (added : ℕ → List Entry) (now given : WorkerView) (number : ℕ) (before after : List Entry) → IsTurn now given number before after → Continues number before after
+      → OnOk result (entries_of number after ≡ entries_of number before ++ added number) → OnOk result (EndsWith given.seen (added now.number))
+  ends_so (Ok done) added now given number before after turn more is = ends added now given number before after turn more is
+  ends_so (Err e) added now given number before after turn more is = tt
+
+  pub ends_attempt : (result : Result Attempted E) (task asked : ℕ) (now given : WorkerView) (number : ℕ) (before : List Entry) (history : History) → IsTurn now given number before (journal_of history) → Continues number before (journal_of history)
       → IfOk result (λ got. AddsAttempt number task asked (granted_in got) (entries_of number before) (entries_of number (journal_of history)))
       → IfOk result (λ got. EndsWithAttempt now.number task asked (granted_in got) given.seen)
   ends_attempt (Ok got) task asked now given number before history turn more is =
       (before, behind (λ n had has h. AddsAttempt n task asked (granted_in got) had has) now given number before history turn (is.0, is.1, is.2, goes_on number before (journal_of history) _ more is.3))
   ends_attempt (Err e) task asked now given number before history turn more is = tt
 
-  pub ends_admission : (result : Result Answer E) (block : Block) (size : ℕ) (now given : PassState) (number : ℕ) (before : List Entry) (history : History) → IsTurn now given number before (journal_of history) → Continues number before (journal_of history)
+  pub ends_admission : (result : Result Answer E) (block : Block) (size : ℕ) (now given : WorkerView) (number : ℕ) (before : List Entry) (history : History) → IsTurn now given number before (journal_of history) → Continues number before (journal_of history)
       → IfOk result (λ answer. AdmissionGrows answer block size number (entries_of number before) (entries_of number (journal_of history)) history)
       → IfOk result (λ answer. EndsWithAdmission answer block size now.number given.seen)
   ends_admission (Ok answer) block size now given number before history turn more is =
       (before, behind (AdmissionGrows answer block size) now given number before history turn (admission_on answer block size number before (journal_of history) history more is))
   ends_admission (Err e) block size now given number before history turn more is = tt
 
-  pub ends_pin : (result : Result Pinned E) (dataset part : ℕ) (now given : PassState) (number : ℕ) (before : List Entry) (history : History) → IsTurn now given number before (journal_of history) → Continues number before (journal_of history)
+  pub ends_pin : (result : Result Pinned E) (dataset part : ℕ) (now given : WorkerView) (number : ℕ) (before : List Entry) (history : History) → IsTurn now given number before (journal_of history) → Continues number before (journal_of history)
       → IfOk result (λ pinned. PinGrows pinned number dataset part (entries_of number before) (entries_of number (journal_of history)) history)
       → IfOk result (λ pinned. EndsWithPin pinned now.number dataset part given.seen)
   ends_pin (Ok pinned) dataset part now given number before history turn more is =

@@ -6,7 +6,7 @@ use Rattle.std.proofs.lemmas.Bool.Decides.{nat_tests}
 use Rattle.std.proofs.lemmas.List.{reverse-append}
 use Rattle.pool_ledger.specs.declared.entry.Entry.{Entry}
 use Rattle.pool_ledger.specs.declared.entry.Event.{Event}
-use Rattle.pool_ledger.specs.declared.entry.Event.TheVariants.{Begin, Attempt, Release, End, Evict, Admit, Refused, Pin, Unpin, Remove}
+use Rattle.pool_ledger.specs.declared.entry.Event.TheVariants.{Begin, Attempt, Release, End, Evict, Admit, Refused, Pin, Unpin, Remove, Grow}
 use Rattle.pool_ledger.specs.declared.entry.Fate.{Fate}
 use Rattle.pool_ledger.specs.Sizes.{Sizes}
 use Rattle.pool_ledger.specs.History.{History, held, total, freed_by, granted_by, open_task, was_begun}
@@ -50,6 +50,7 @@ frees_at setup history worker task (Refused dataset part size borrowed evictions
 frees_at setup history worker task (Pin dataset part read) may was = omega (arith, was)
 frees_at setup history worker task (Unpin dataset part) may was = omega (arith, was)
 frees_at setup history worker task (Remove dataset part size) may was = omega (arith, was)
+frees_at setup history worker task (Grow bytes) may was = omega (arith, was)
 
 -- what is freed of a task was granted to it
 pub frees_granted : (setup : Sizes) (history : History) → IsPermitted setup history → (task : ℕ) → total (freed_by task) history ≤ total (granted_by task) history

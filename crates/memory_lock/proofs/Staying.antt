@@ -6,7 +6,7 @@ use Rattle.std.proofs.lemmas.Bool.{cases_Bool, eq-eqb}
 use Rattle.std.proofs.lemmas.List.{reverse-append}
 use Rattle.pool_ledger.specs.declared.entry.Entry.{Entry}
 use Rattle.pool_ledger.specs.declared.entry.Event.{Event}
-use Rattle.pool_ledger.specs.declared.entry.Event.TheVariants.{Attempt, Release, Admit, Refused as RefusedEvent, Pin}
+use Rattle.pool_ledger.specs.declared.entry.Event.TheVariants.{Attempt, Release, Admit, Refused as RefusedEvent, Pin, Grow}
 use Rattle.pool_ledger.specs.History.{History, open_task, task_after}
 use Rattle.pool_ledger.specs.Blocks.{Name, pin_after, worker_pin}
 use Rattle.pool_ledger.specs.Journal.{history_of}
@@ -138,6 +138,11 @@ module _ {E : Type 0} where
       → OnErr result (after ≡ before) → StaysSo worker before after
   through_release (Ok freed) worker task before after ok err = stays_with worker before after (entry_by worker (Release task freed) ∷ []) ok ((λ was. refl), tt) ((λ was. refl), tt)
   through_release (Err e) worker task before after ok err = unchanged worker before after err
+
+  pub through_growth : {T : Type 0} (result : Result T E) (worker bytes : ℕ) (before after : List Entry) → OnOk result (entries_of worker after ≡ entries_of worker before ++ entry_by worker (Grow bytes) ∷ [])
+      → OnErr result (after ≡ before) → StaysSo worker before after
+  through_growth (Ok done) worker bytes before after ok err = stays_with worker before after (entry_by worker (Grow bytes) ∷ []) ok ((λ was. refl), tt) ((λ was. refl), tt)
+  through_growth (Err e) worker bytes before after ok err = unchanged worker before after err
 
   pub through_admit : (result : Result Answer E) (block : Block) (size worker : ℕ) (before after : List Entry) (history : History)
       → IfOk result (λ answer. AdmissionGrows answer block size worker (entries_of worker before) (entries_of worker after) history) → OnErr result (after ≡ before) → StaysSo worker before after

@@ -9,7 +9,7 @@ use Rattle.pool_ledger.specs.Legal.{IsLegal}
 use Rattle.block_store.specs.declared.block.Block.{Block}
 use Rattle.memory_core.specs.declared.admission.Admission.{Admission as Answer}
 use Rattle.memory_core.specs.declared.pinned.Pinned.{Pinned}
-use Rattle.turn_lock.specs.Passes.{PassState}
+use Rattle.turn_lock.specs.Passes.{WorkerView}
 use Rattle.memory_lock.specs.Workers.{Adds, AddsAttempt, AdmissionGrows, PinGrows}
 
 -- the journal ends with these entries
@@ -29,7 +29,7 @@ abbrev pub EndsWithAdmission : Answer → Block → ℕ → ℕ → List Entry �
 EndsWithAdmission answer block size worker seen = (base : List Entry) × AdmissionGrows answer block size worker base seen (history_of seen)
 
 -- it ends with all that was added to the worker's own entries
-abbrev pub EndsWithAdded : PassState → PassState → Type 0
+abbrev pub EndsWithAdded : WorkerView → WorkerView → Type 0
 EndsWithAdded before after = (added : List Entry) × Adds before after added × EndsWith after.seen added
 
 -- the answer is the one that the rules give to a legal journal, which went on with the attempt's evictions and the attempt

@@ -3,7 +3,7 @@
 use Rattle.std.specs.Prelude.{ℕ, ◌≡◌, ◌≤◌, ◌^◌, Option, Some, List}
 use Rattle.pool_ledger.specs.declared.entry.Entry.{Entry}
 use Rattle.pool_ledger.specs.Sizes.{Sizes, IsInRange}
-use Rattle.pool_ledger.specs.History.{History, held, open_task, was_begun}
+use Rattle.pool_ledger.specs.History.{History, CanGrow, held, open_task, was_begun}
 use Rattle.pool_ledger.specs.Journal.{history_of, journal_of}
 use Rattle.pool_ledger.specs.Legal.{IsLegal}
 use Rattle.pool_ledger.specs.Workers.{entries_of}
@@ -59,3 +59,4 @@ pub record OwnEntriesDecide : Type 0 where
   pub worker : (sizes : Sizes) (owner : ℕ → Option ℕ) (given : RowsByName) (memory : Memory) (number : ℕ) → FitsBasis sizes owner given memory → OwnDecides memory number
   pub task : (sizes : Sizes) (owner : ℕ → Option ℕ) (given : RowsByName) (memory : Memory) (number task : ℕ) → FitsBasis sizes owner given memory → owner task ≡ Some number → OwnerDecides memory number task
   pub own_task : (sizes : Sizes) (owner : ℕ → Option ℕ) (given : RowsByName) (memory : Memory) (number task : ℕ) → FitsBasis sizes owner given memory → open_task (own_in number memory) number ≡ Some task → OwnTaskDecides memory number task
+  pub growths : (sizes : Sizes) (owner : ℕ → Option ℕ) (given : RowsByName) (memory : Memory) (number bytes : ℕ) → FitsBasis sizes owner given memory → CanGrow sizes (own_in number memory) number bytes → CanGrow sizes memory.history number bytes

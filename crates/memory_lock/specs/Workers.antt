@@ -16,7 +16,7 @@ use Rattle.memory_core.specs.declared.pinned.Pinned.{Pinned}
 use Rattle.memory_core.specs.declared.pinned.Pinned.TheVariants.{Hit, OnDisk as ReadBack, Miss}
 use Rattle.memory_core.specs.Caches.{AreGiven, RowsByName}
 use Rattle.memory_core.specs.Changes.{HasPinnedAlone}
-use Rattle.turn_lock.specs.Passes.{PassState}
+use Rattle.turn_lock.specs.Passes.{WorkerView}
 pub use Rattle.task_pool.specs.Workers.{IsEviction, IsFree, IsOpen, KeepsPin, KeepsTask, SeesMore, own_entries, own_of}
 
 -- Evictions
@@ -90,33 +90,33 @@ HandsRows given Miss dataset part = Unit {0}
 -- Workers
 
 -- the worker has this block pinned
-abbrev pub HasPin : PassState → ℕ → ℕ → Type 0
+abbrev pub HasPin : WorkerView → ℕ → ℕ → Type 0
 HasPin worker dataset part = worker_pin (own_of worker) worker.number ≡ Some (record { dataset = dataset; part = part })
 
 -- the worker has no block pinned
-abbrev pub HasNoPin : PassState → Type 0
+abbrev pub HasNoPin : WorkerView → Type 0
 HasNoPin worker = worker_pin (own_of worker) worker.number ≡ None
 
 -- its own entries are those before and these
-abbrev pub Adds : PassState → PassState → List Entry → Type 0
+abbrev pub Adds : WorkerView → WorkerView → List Entry → Type 0
 Adds before after added = own_entries after ≡ own_entries before ++ added
 
 -- whether the worker has the block pinned after a pin: a block in memory alone
-abbrev pub PinsFound : Pinned → ℕ → ℕ → PassState → Type 0
+abbrev pub PinsFound : Pinned → ℕ → ℕ → WorkerView → Type 0
 PinsFound (Hit block) dataset part after = HasPin after dataset part
 PinsFound (ReadBack block) dataset part after = HasNoPin after
 PinsFound Miss dataset part after = HasNoPin after
 
 -- what a pin adds, and whether the worker then has it
-abbrev pub AddsPin : Pinned → ℕ → ℕ → PassState → PassState → Type 0
+abbrev pub AddsPin : Pinned → ℕ → ℕ → WorkerView → WorkerView → Type 0
 AddsPin pinned dataset part before after =
     PinGrows pinned before.number dataset part (own_entries before) (own_entries after) (history_of after.seen) × PinsFound pinned dataset part after
 
 -- what the admission of a block of this size adds: the evictions that it took, and itself or its refusal
-abbrev pub AddsAdmission : Answer → Block → ℕ → PassState → PassState → Type 0
+abbrev pub AddsAdmission : Answer → Block → ℕ → WorkerView → WorkerView → Type 0
 AddsAdmission answer block size before after =
     AdmissionGrows answer block size before.number (own_entries before) (own_entries after) (history_of after.seen)
 
 -- what the removal of a dataset adds: its blocks went but for pinned ones
-abbrev pub AddsRemovals : ℕ → PassState → PassState → Type 0
+abbrev pub AddsRemovals : ℕ → WorkerView → WorkerView → Type 0
 AddsRemovals dataset before after = RemovalGrows dataset before.number (own_entries before) (own_entries after) (history_of after.seen)

@@ -4,11 +4,11 @@ ghost use Rattle.std.specs.Prelude.{◌≡◌, ◌<◌, ◌≤◌, ◌+◌, ◌^
 ghost use Rattle.std.specs.Arc.{arc_value};
 ghost use Rattle.row_page.specs.Spelling.{page_cost};
 ghost use Rattle.pool_ledger.specs.Blocks.{worker_pin};
-ghost use Rattle.pool_ledger.specs.History.{held, open_task, was_begun};
+ghost use Rattle.pool_ledger.specs.History.{CanGrow, held, open_task, was_begun};
 ghost use Rattle.pool_ledger.specs.Journal.{journal_of};
 ghost use Rattle.pool_ledger.specs.Sizes.{IsInRange};
 ghost use Rattle.pool_ledger.specs.Workers.{Continues, entries_of};
-ghost use Rattle.pool_ledger.specs.declared.entry.Event.TheVariants.{Begin, Release, End, Unpin};
+ghost use Rattle.pool_ledger.specs.declared.entry.Event.TheVariants.{Begin, Release, End, Unpin, Grow};
 ghost use Rattle.pool_laws.specs.Growing.{entry_by};
 ghost use Rattle.memory_core.specs.Attempts.{granted_in, KeepsFloor};
 ghost use Rattle.memory_core.specs.Caches.{AreGiven};
@@ -180,6 +180,24 @@ impl<K: Disk> Locked<K> {
         let freed = state.release(worker, task, bytes);
         let _legal = state.entries();
         freed
+    }
+
+    // A growth of both pools together by the worker, which is the first.
+    pub(crate) fn grow<B: Basis>(&mut self, worker: u32, bytes: u64) -> Result<(), AllocError>
+        requires fits { FitsBasis B.sizes B.owner B.rows self.old }
+        requires known { worker < B.sizes.workers }
+        requires can { CanGrow B.sizes (own_in worker self.old) worker bytes }
+        ensures fits { FitsBasis B.sizes B.owner B.rows self.new }
+        ensures own { Continues worker (journal_of self.old.history) (journal_of self.new.history) }
+        ensures ok { OnOk result (entries_of worker (journal_of self.new.history)
+            ≡ entries_of worker (journal_of self.old.history) ++ entry_by worker (Grow bytes) ∷ []) }
+        ensures err { OnErr result (journal_of self.new.history ≡ journal_of self.old.history) }
+    {
+        own_entries_decide();
+        let state = &mut self.inside.state;
+        let grown = state.grow(worker, bytes);
+        let _legal = state.entries();
+        grown
     }
 
     // The end of the worker's task.

@@ -40,10 +40,10 @@ impl<K: Disk, B: Basis> Manager<K, B> {
     ghost use Rattle.std.specs.Arc.{arc_value};
     ghost use Rattle.row_page.specs.Spelling.{page_cost};
     ghost use Rattle.pool_ledger.specs.Sizes.{floor_of};
-    ghost use Rattle.pool_ledger.specs.History.{held, was_begun};
+    ghost use Rattle.pool_ledger.specs.History.{grown_by, held, total, was_begun};
     ghost use Rattle.pool_ledger.specs.Journal.{history_of};
     ghost use Rattle.pool_ledger.specs.Legal.{IsLegal};
-    ghost use Rattle.pool_ledger.specs.declared.entry.Event.TheVariants.{Begin, Release, End, Unpin};
+    ghost use Rattle.pool_ledger.specs.declared.entry.Event.TheVariants.{Begin, Release, End, Unpin, Grow};
     ghost use Rattle.pool_laws.specs.Growing.{entry_by};
     ghost use Rattle.memory_core.specs.Attempts.{granted_in, KeepsFloor};
     ghost use Rattle.memory_core.specs.Caches.{AreGiven};
@@ -173,6 +173,37 @@ impl<K: Disk, B: Basis> Manager<K, B> {
         self.lock.give(&mut worker.pass, locked);
         self.count.raise(rt);
         freed
+    }
+
+    /// Makes both pools together larger, by 1 to 2^36 bytes, which execution gets, up to 2^41 in all, and raises
+    /// the count that waiting tasks watch. The worker is number 0: no other makes the pools larger, so its own
+    /// entries tell how large they are. After an `Err` nothing was added. It may wait for its turn.
+    pub fn grow<R: Wait>(
+        &self,
+        rt: &R,
+        worker: &mut Worker<B>,
+        bytes: u64,
+    ) -> Result<(), AllocError>
+        requires manager { worker.old.lock ≡ self.now }
+        requires first { worker.old.number ≡ 0 }
+        requires some { 1 ≤ bytes }
+        requires few { bytes ≤ 2 ^ 36 }
+        requires fits { B.sizes.maximum + total grown_by (own_of worker.old) + bytes ≤ 2 ^ 41 }
+        ensures ok { OnOk result (Adds worker.old worker.new (entry_by worker.old.number (Grow bytes) ∷ [])) }
+        ensures grows { OnOk result (total grown_by (own_of worker.new) ≡ total grown_by (own_of worker.old) + bytes) }
+        ensures err { OnErr result (own_entries worker.new ≡ own_entries worker.old) }
+        ensures task { KeepsTask worker.old worker.new }
+        ensures pin { KeepsPin worker.old worker.new }
+        ensures sees { SeesMore worker.old worker.new }
+        ensures legal { IsLegal B.sizes (history_of worker.new.seen) }
+        ensures last { OnOk result (EndsWith worker.new.seen (entry_by worker.old.number (Grow bytes) ∷ [])) }
+    {
+        let number = worker.pass.number();
+        let mut locked = self.lock.take(rt, &mut worker.pass);
+        let grown = locked.grow::<B>(number, bytes);
+        self.lock.give(&mut worker.pass, locked);
+        self.count.raise(rt);
+        grown
     }
 
     /// Ends the worker's task, which frees all that it holds, and answers how much that was. It takes no

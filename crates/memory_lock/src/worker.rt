@@ -14,9 +14,9 @@ pub struct Worker<B: Basis> {
 
 impl<B: Basis> Model for Worker<B> {
     ghost use Rattle.std.specs.Prelude.{◌≡◌, ◌<◌, None};
-    ghost use Rattle.turn_lock.specs.Passes.{PassState};
+    ghost use Rattle.turn_lock.specs.Passes.{WorkerView};
 
-    ghost Value = { PassState };
+    ghost Value = { WorkerView };
 
     ghost view = { λ worker. worker.pass };
 

@@ -7,7 +7,7 @@ use Rattle.std.proofs.lemmas.Bool.{eq-eqb, cond-false}
 use Rattle.std.proofs.lemmas.Bool.Decides.{nat_tests}
 use Rattle.pool_ledger.specs.declared.entry.Entry.{Entry}
 use Rattle.pool_ledger.specs.declared.entry.Event.{Event}
-use Rattle.pool_ledger.specs.declared.entry.Event.TheVariants.{Begin, Attempt, Release, End, Evict, Admit, Refused, Pin, Unpin, Remove}
+use Rattle.pool_ledger.specs.declared.entry.Event.TheVariants.{Begin, Attempt, Release, End, Evict, Admit, Refused, Pin, Unpin, Remove, Grow}
 use Rattle.pool_ledger.specs.Sizes.{Sizes}
 use Rattle.pool_ledger.specs.History.{History, is_active, active, begun, open_task, task_after}
 use Rattle.pool_ledger.specs.Recorded.{CanCome, IsRecorded}
@@ -116,6 +116,7 @@ active_is-more s h v (Refused dataset part size borrowed evictions) r known can 
 active_is-more s h v (Pin dataset part copy) r known can all before = active_stays s h v (Pin dataset part copy) r known can refl (λ u. refl) refl before
 active_is-more s h v (Unpin dataset part) r known can all before = active_stays s h v (Unpin dataset part) r known can refl (λ u. refl) refl before
 active_is-more s h v (Remove dataset part size) r known can all before = active_stays s h v (Remove dataset part size) r known can refl (λ u. refl) refl before
+active_is-more s h v (Grow bytes) r known can all before = active_stays s h v (Grow bytes) r known can refl (λ u. refl) refl before
 
 no_marks : (n : ℕ) → sum_by (worker_mark []) (below n) ≡ 0
 unfolding worker_mark task_mark

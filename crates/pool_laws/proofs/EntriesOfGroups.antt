@@ -4,7 +4,7 @@ use Rattle.std.specs.Prelude.{nat_eq, nat_le, reverse, unwrap_or}
 use Rattle.std.proofs.lemmas.Bool.{cases_Bool, cond-true, cond-false}
 use Rattle.std.proofs.lemmas.List.{append-nil, append_assoc, reverse-append}
 use Rattle.pool_ledger.specs.declared.entry.Event.{Event}
-use Rattle.pool_ledger.specs.declared.entry.Event.TheVariants.{Begin, Attempt, Release, End, Evict, Admit, Refused, Pin, Unpin, Remove}
+use Rattle.pool_ledger.specs.declared.entry.Event.TheVariants.{Begin, Attempt, Release, End, Evict, Admit, Refused, Pin, Unpin, Remove, Grow}
 use Rattle.pool_ledger.specs.Sizes.{Sizes, block_limit_of}
 use Rattle.pool_ledger.specs.History.{History, exec, execution_free, maximum}
 use Rattle.pool_ledger.specs.Blocks.{Resident, evictable, sizes, storage_free, victims}
@@ -130,6 +130,7 @@ event_comes s region base w gone (Pin d p false) legal known is = alone s base w
 event_comes s region base w gone (Pin d p true) legal known is = alone s base w gone (Pin d p true) legal known is.0 refl (legal.whole, is.1, is.3, is.2)
 event_comes s region base w gone (Unpin d p) legal known is = alone s base w gone (Unpin d p) legal known is.0 refl (legal.whole, is.1)
 event_comes s region base w gone (Remove d p size) legal known is = alone s base w gone (Remove d p size) legal known is.0 refl (legal.whole, is.1, is.2)
+event_comes s region base w gone (Grow bytes) legal known is = alone s base w gone (Grow bytes) legal known is.0 refl (legal.whole, is.1)
 
 legal_in : (s : Sizes) → s.region ≤ s.maximum → (groups : List Group) → AreGroups s groups → IsLegal s (history_in groups)
 legal_in s region [] are = record { permitted = tt; whole = refl }

@@ -7,7 +7,7 @@ use Rattle.std.proofs.lemmas.List.{append_assoc, map-append}
 use Rattle.std.proofs.lemmas.List.Elements.{All-nil, All-cons, All-head, All-tail, All-push, All-filter}
 use Rattle.std.proofs.lemmas.List.Sums.{sum_by-cons, sum_by-append}
 use Rattle.pool_ledger.specs.declared.entry.Event.{Event}
-use Rattle.pool_ledger.specs.declared.entry.Event.TheVariants.{Begin, Attempt, Release, End, Evict, Admit, Refused, Pin, Unpin, Remove}
+use Rattle.pool_ledger.specs.declared.entry.Event.TheVariants.{Begin, Attempt, Release, End, Evict, Admit, Refused, Pin, Unpin, Remove, Grow}
 use Rattle.pool_ledger.specs.declared.entry.Fate.TheVariants.{NoMemory}
 use Rattle.pool_ledger.specs.Sizes.{Sizes}
 use Rattle.pool_ledger.specs.History.{History}
@@ -184,6 +184,7 @@ module _ (s : Sizes) (region : s.region ≤ s.maximum) (h : History) (begun : Is
   event_is_legal v (Pin d p true) other may = alone v (Pin d p true) may.0 (refl, may.1, may.3, may.2)
   event_is_legal v (Unpin d p) other may = alone v (Unpin d p) may.0 (refl, may.1)
   event_is_legal v (Remove d p size) other may = alone v (Remove d p size) may.0 (refl, may.1, may.2)
+  event_is_legal v (Grow bytes) other may = alone v (Grow bytes) may.0 (refl, may.1)
 
   -- an event that is no eviction ends the group
   ends_group : (v : ℕ) (e : Event) → is_eviction e ≡ false → MayFollow s h (entry_of v e) → IsLegalByGroups s (entry_of v e ∷ h)
@@ -227,6 +228,7 @@ begun-more s region h v (Refused d p size borrowed evictions) perm may begun = n
 begun-more s region h v (Pin d p copy) perm may begun = none_begun s _ (ends_group s region h begun v (Pin d p copy) refl may) refl refl refl
 begun-more s region h v (Unpin d p) perm may begun = none_begun s _ (ends_group s region h begun v (Unpin d p) refl may) refl refl refl
 begun-more s region h v (Remove d p size) perm may begun = none_begun s _ (ends_group s region h begun v (Remove d p size) refl may) refl refl refl
+begun-more s region h v (Grow bytes) perm may begun = none_begun s _ (ends_group s region h begun v (Grow bytes) refl may) refl refl refl
 
 begun : (s : Sizes) → s.region ≤ s.maximum → (h : History) → IsPermitted s h → IsBegun s h
 begun s region [] perm = none_begun s [] ([], refl, tt) refl refl refl

@@ -108,4 +108,4 @@ pub short_grants_keep_floor : (s : Sizes) (h : History) → s.region ≤ s.maxim
 short_grants_keep_floor s h region sound task asked granted few is short =
     let grown = grows_well s h asked sound in
     let grants = share_some (moment s h task asked) granted is in
-    keeps_floor (moment s h task asked) s.workers granted (some_active s h task sound) few region (λ cut. omega (arith, cut, grown.enough, sound.exec_fits, sound.pool_fits, sound.stored_fits)) grants short
+    keeps_floor (moment s h task asked) (s.maximum - s.region) s.workers granted (some_active s h task sound) few (omega (arith, region)) (λ cut. omega (arith, cut, grown.enough, sound.exec_fits, sound.pool_fits, sound.stored_fits)) grants short

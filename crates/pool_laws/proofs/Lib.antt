@@ -1,4 +1,5 @@
 pub mod Settled
+pub mod Small
 pub mod Ends
 pub mod Active
 pub mod Shares

@@ -57,4 +57,5 @@ grows s h legal =
       };
       releases = λ w t freed known open_now fits. record { worker_known = known; own_turn = now.any_turn w; event = (legal.whole, open_now, fits) };
       ends = λ w t known open_now. record { worker_known = known; own_turn = now.any_turn w; event = (legal.whole, open_now, refl) };
+      grows = λ w bytes known can. record { worker_known = known; own_turn = now.any_turn w; event = (legal.whole, can) };
     }

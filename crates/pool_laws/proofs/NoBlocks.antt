@@ -2,7 +2,7 @@
 use Rattle.std.proofs.Common.{◌≡◌, ℕ, ◌+◌, ◌-◌, min, max, true, false, Option, Some, None, [], ◌∷◌, refl, ap, arith}
 use Rattle.std.specs.Prelude.{nat_eq, if◌then◌else◌}
 use Rattle.pool_ledger.specs.declared.entry.Event.{Event}
-use Rattle.pool_ledger.specs.declared.entry.Event.TheVariants.{Begin, Attempt, Release, End, Evict, Admit, Refused, Pin, Unpin, Remove}
+use Rattle.pool_ledger.specs.declared.entry.Event.TheVariants.{Begin, Attempt, Release, End, Evict, Admit, Refused, Pin, Unpin, Remove, Grow}
 use Rattle.pool_ledger.specs.Sizes.{Sizes}
 use Rattle.pool_ledger.specs.History.{History, storage_pool, execution_free}
 use Rattle.pool_ledger.specs.Blocks.{Resident, residents, residents_after, CachesNothing, sizes, stored, storage_free, victims}
@@ -27,6 +27,7 @@ no_block-more h v (Pin d p true) none before = before
 no_block-more h v (Pin d p false) none before = ap (residents_after (Pin d p false)) before
 no_block-more h v (Unpin d p) none before = before
 no_block-more h v (Remove d p size) none before = ap (residents_after (Remove d p size)) before
+no_block-more h v (Grow bytes) none before = before
 
 pub no_block : (h : History) → CachesNothing h → residents h ≡ []
 no_block [] none = refl

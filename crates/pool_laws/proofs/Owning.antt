@@ -7,14 +7,14 @@ use Rattle.std.proofs.lemmas.Grind.{reverse_onto}
 use Rattle.std.proofs.lemmas.List.Elements.{filter-append}
 use Rattle.pool_ledger.specs.declared.entry.Entry.{Entry}
 use Rattle.pool_ledger.specs.declared.entry.Event.{Event}
-use Rattle.pool_ledger.specs.declared.entry.Event.TheVariants.{Begin, Attempt, Release, End, Evict, Admit, Refused, Pin, Unpin, Remove}
+use Rattle.pool_ledger.specs.declared.entry.Event.TheVariants.{Begin, Attempt, Release, End, Evict, Admit, Refused, Pin, Unpin, Remove, Grow}
 use Rattle.pool_ledger.specs.Sizes.{Sizes}
-use Rattle.pool_ledger.specs.History.{History, total, granted_by, freed_by, held, begun, begun_after, is_active, active_after, open_task, task_after, was_begun}
+use Rattle.pool_ledger.specs.History.{History, total, grown_by, granted_by, freed_by, held, begun, begun_after, is_active, active_after, open_task, task_after, was_begun}
 use Rattle.pool_ledger.specs.Blocks.{worker_pin, pin_after}
 use Rattle.pool_ledger.specs.Journal.{history_of}
 use Rattle.pool_ledger.specs.Legal.{IsPermitted, MayCome}
 use Rattle.pool_ledger.specs.Workers.{entries_of}
-use Rattle.pool_laws.specs.Owners.{AreOwned, IsByOwner, OwnerTells, TellsWorker}
+use Rattle.pool_laws.specs.Owners.{AreOwned, IsByOwner, OwnerTells, TellsGrowths, TellsWorker}
 
 -- ---- a list and its reverse
 
@@ -142,6 +142,7 @@ skips task (Refused d p size borrowed evictions) other = record { grants = refl;
 skips task (Pin d p copy) other = record { grants = refl; frees = refl; begins = λ tasks. refl; stays = λ was holds. refl }
 skips task (Unpin d p) other = record { grants = refl; frees = refl; begins = λ tasks. refl; stays = λ was holds. refl }
 skips task (Remove d p size) other = record { grants = refl; frees = refl; begins = λ tasks. refl; stays = λ was holds. refl }
+skips task (Grow bytes) other = record { grants = refl; frees = refl; begins = λ tasks. refl; stays = λ was holds. refl }
 
 -- ---- what a task holds
 
@@ -204,3 +205,22 @@ pub tells_task : (setup : Sizes) (owner : ℕ → Option ℕ) (journal : List En
 tells_task setup owner journal worker task permitted owned its =
     let same = subst (IsSameOf task (history_of journal)) (own_journal worker journal) (same_of setup owner (history_of journal) worker task permitted owned its) in
     record { holds = rw (same.grants, same.frees) refl; active = same.active; begun = same.begins }
+
+-- ---- what the pools grew by
+
+-- only the first worker makes them larger
+grows_none : (setup : Sizes) (history : History) (by : ℕ) (event : Event) → by ≢ 0 → MayCome setup history by event → grown_by event ≡ 0
+grows_none setup history by (Grow bytes) other may = absurd (other may.1.first)
+grows_none setup history by _ other may = refl
+
+grown_told : (setup : Sizes) (history : History) → IsPermitted setup history → total grown_by history ≡ total grown_by (own 0 history)
+grown_told setup [] permitted = refl
+grown_told setup (entry ∷ before) permitted = elim (cases_eq entry.worker 0) [
+  | inl mine ↦ rw (own_here 0 entry before (eq-eqb entry.worker 0 mine)) (omega (arith, grown_told setup before permitted.0))
+  | inr other ↦
+      rw (own_past 0 entry before (ne_eqb entry.worker 0 other))
+      (omega (arith, grown_told setup before permitted.0, grows_none setup before entry.worker entry.event other permitted.1.event))
+]
+
+pub tells_growths : (setup : Sizes) (journal : List Entry) → IsPermitted setup (history_of journal) → TellsGrowths (history_of journal) (history_of (entries_of 0 journal))
+tells_growths setup journal permitted = grown_told setup (history_of journal) permitted ∙ ap (total grown_by) (own_journal 0 journal)

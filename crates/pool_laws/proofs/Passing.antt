@@ -3,7 +3,7 @@ use Rattle.std.proofs.Common.{◌≡◌, ℕ, ◌+◌, ◌-◌, ◌≤◌, ◌<�
 use Rattle.std.specs.Prelude.{nat_eq, nat_le, if◌then◌else◌}
 use Rattle.std.proofs.lemmas.Bool.{cases_Bool, and_parts, leb-true, false≢true, cond-true, cond-false}
 use Rattle.pool_ledger.specs.declared.entry.Event.{Event}
-use Rattle.pool_ledger.specs.declared.entry.Event.TheVariants.{Begin, Attempt, Release, End, Evict, Admit, Refused, Pin, Unpin, Remove}
+use Rattle.pool_ledger.specs.declared.entry.Event.TheVariants.{Begin, Attempt, Release, End, Evict, Admit, Refused, Pin, Unpin, Remove, Grow}
 use Rattle.pool_ledger.specs.Sizes.{Sizes, block_limit_of}
 use Rattle.pool_ledger.specs.History.{History, held, exec, maximum, execution_pool, storage_pool, execution_free}
 use Rattle.pool_ledger.specs.Blocks.{sizes, stored, storage_free, victims}
@@ -13,7 +13,7 @@ use Rattle.pool_ledger.specs.Recorded.{IsRecorded, IsLeaving}
 use Rattle.pool_ledger.proofs.After.{borrowed_fits}
 use Rattle.pool_ledger.proofs.Tasks.{entry_of, exec-Begin, exec-Attempt, exec-Release, exec-same}
 use Rattle.pool_ledger.proofs.Residents.{stored-without, stored-Admit, stored-Pin}
-use Rattle.pool_laws.proofs.Settled.{exec_settled, pool_settled, stored_settled, evicted_sizes, evicted_sizes-of, absent_settled}
+use Rattle.pool_laws.proofs.Settled.{exec_settled, maximum_settled, pool_settled, stored_settled, evicted_sizes, evicted_sizes-of, absent_settled}
 use Rattle.pool_laws.proofs.Shares.{share_some}
 use Rattle.pool_laws.proofs.Growths.{victims_within}
 
@@ -44,13 +44,14 @@ after_attempt s h task asked moved evictions got r never before right =
     let within : sizes grown.evicted ≤ stored g = victims_within g grown.need None in
     let gone : stored h + sizes grown.evicted ≡ stored g = omega (arith, stored_settled s h r, ap evicted_sizes right.evicts.blocks_are, evicted_sizes-of grown.evicted) in
     let pool = pool_settled s h in
+    let all = maximum_settled s h in
     let exec_is = exec_settled s h in
     let fits : exec g ≤ execution_pool s g + grown.moved = omega (arith, never.exec_fits, pool, exec_is) in
     let grants = granted_fits (moment s g task asked) got right.answers fits in
     record {
-      pool_fits = omega (arith, pool, right.moves, within, before, never.pool_fits);
+      pool_fits = omega (arith, pool, all, right.moves, within, before, never.pool_fits);
       exec_fits = omega (arith, pool, exec_is, right.moves, grants);
-      stored_fits = omega (arith, pool, right.moves, within, gone, before, never.pool_fits);
+      stored_fits = omega (arith, pool, all, right.moves, within, gone, before, never.pool_fits);
     }
 
 pub record AfterAdmission (s : Sizes) (h : History) (size borrowed : ℕ) (admitted : Bool) : Type 0 where
@@ -78,6 +79,7 @@ pub after_admission : (s : Sizes) (h : History) (d p size borrowed evictions : �
 after_admission s h d p size borrowed evictions admitted r never before right =
     let g = settled h in
     let pool = pool_settled s h in
+    let all = maximum_settled s h in
     let exec_is = exec_settled s h in
     elim (cases_Bool (is_tried s g size)) [
       | inl try ↦
@@ -91,7 +93,7 @@ after_admission s h d p size borrowed evictions admitted r never before right =
           let limits = and_parts (nat_le size (block_limit_of s)) (nat_le size (maximum s g - exec g)) try in
           record {
             exec_fits = omega (arith, borrowed_is, pool, exec_is, never.exec_fits);
-            stored_fits = λ yes_admitted. omega (arith, borrowed_is, gone, within, before, pool, never.pool_fits, leb-true size (storage_free s g + now.borrowed + sizes now.evicted) (sym admitted_is ∙ yes_admitted));
+            stored_fits = λ yes_admitted. omega (arith, borrowed_is, gone, within, before, pool, all, never.pool_fits, leb-true size (storage_free s g + now.borrowed + sizes now.evicted) (sym admitted_is ∙ yes_admitted));
             small = λ _. leb-true size (block_limit_of s) limits.0;
           }
       | inr skip ↦
@@ -170,6 +172,12 @@ holds-more s h v (Remove d p size) known held can =
     let exec_is = exec-same h (entry_of v e) refl (λ u. omega arith) in
     let never : Within s (entry_of v e ∷ h) = record { pool_fits = omega (arith, held.never.pool_fits); exec_fits = omega (arith, held.never.exec_fits, exec_is); stored_fits = omega (arith, held.never.stored_fits, stored-without s h d p size can.1 held.recorded leaves) } in
     record { recorded = (held.recorded, record { worker_known = known; event_fits = (can.1, leaves) }); never = never; before = never.stored_fits }
+holds-more s h v (Grow bytes) known held can =
+    let e = Grow bytes in
+    let exec_is = exec-same h (entry_of v e) refl (λ u. omega arith) in
+    let lent = borrowed_fits s h held.recorded in
+    let never : Within s (entry_of v e ∷ h) = record { pool_fits = omega (arith, held.never.pool_fits, lent); exec_fits = omega (arith, held.never.exec_fits, exec_is, lent); stored_fits = omega (arith, held.never.stored_fits, held.never.pool_fits, lent) } in
+    record { recorded = (held.recorded, record { worker_known = known; event_fits = can.1 }); never = never; before = never.stored_fits }
 
 pub holds : (s : Sizes) (h : History) → s.region ≤ s.maximum → IsPermitted s h → Holds s h
 holds s [] region p = record { recorded = tt; never = record { pool_fits = omega arith; exec_fits = omega arith; stored_fits = omega arith }; before = omega arith }

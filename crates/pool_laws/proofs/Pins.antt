@@ -84,6 +84,22 @@ pins_keep s h perm w d p known its =
     let one : pin_mark h d p w ≡ 1 = ap (name_mark d p) its ∙ rw (eq-eqb d d refl, eq-eqb p p refl) refl in
     lt-ltb (total (unpin_of d p) h) (total (pin_of d p) h) (omega (arith, pins_are_kept s h perm d p, mark_below h d p w s.workers known, one))
 
+-- a block has at most a pin of each worker
+few_marks : (h : History) (d p n : ℕ) → sum_by (pin_mark h d p) (below n) ≤ n
+few_marks h d p zero = omega arith
+few_marks h d p (suc n) = omega (arith, sum_by-cons (pin_mark h d p) n (below n), one_mark (worker_pin h n), few_marks h d p n)
+  where
+    at_most : (b : Bool) → cond {A = ℕ} b 1 0 ≤ 1
+    at_most true = omega arith
+    at_most false = omega arith
+
+    one_mark : (pin : Option Name) → name_mark d p pin ≤ 1
+    one_mark None = omega arith
+    one_mark (Some n) = at_most (nat_eq d n.dataset && nat_eq p n.part)
+
+pub pins_few : (s : Sizes) (h : History) (d p : ℕ) → IsPermitted s h → total (pin_of d p) h ≤ total (unpin_of d p) h + s.workers
+pins_few s h d p perm = omega (arith, pins_are_kept s h perm d p, few_marks h d p s.workers)
+
 -- Sizes
 
 -- no block is larger than this

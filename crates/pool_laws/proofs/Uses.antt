@@ -10,7 +10,7 @@ use Rattle.std.proofs.lemmas.List.Quantifiers.{all_pairs_push}
 use Rattle.std.proofs.lemmas.List.Sums.{length-filter}
 use Rattle.std.proofs.lemmas.Bool.{cases_Bool, or_parts, and_parts, not-true, eqb-true, eq-eqb, cond-true, cond-false, false≢true}
 use Rattle.pool_ledger.specs.declared.entry.Event.{Event}
-use Rattle.pool_ledger.specs.declared.entry.Event.TheVariants.{Begin, Attempt, Release, End, Evict, Admit, Refused, Pin, Unpin, Remove}
+use Rattle.pool_ledger.specs.declared.entry.Event.TheVariants.{Begin, Attempt, Release, End, Evict, Admit, Refused, Pin, Unpin, Remove, Grow}
 use Rattle.pool_ledger.specs.Sizes.{Sizes}
 use Rattle.pool_ledger.specs.History.{History}
 use Rattle.pool_ledger.specs.Blocks.{Resident, is_block, without, only, residents, is_resident}
@@ -102,6 +102,7 @@ order-more s h v (Refused d p size borrowed evictions) r can before = before
 order-more s h v (Pin d p true) r can before = before
 order-more s h v (Pin d p false) r can before = order-last h v d p (different s h r) before
 order-more s h v (Unpin d p) r can before = before
+order-more s h v (Grow bytes) r can before = before
 
 in_order : (s : Sizes) (h : History) → IsRecorded s h → StandInOrder h (residents h)
 in_order s [] r = λ i j d ahead below. absurd (omega arith)
@@ -199,6 +200,7 @@ kept-more h v (Pin d' p' true) d p before = before
 kept-more h v (Pin d' p' false) d p before =
     list_any-append (is_block d p) (without d' p' (residents h)) (only d' p' (residents h)) ∙ any-both (is_block d p) (is_block d' p') (residents h) ∙ before
 kept-more h v (Unpin d' p') d p before = before
+kept-more h v (Grow bytes) d p before = before
 
 resident_is_kept : (h : History) (d p : ℕ) → is_resident h d p ≡ is_kept h d p
 resident_is_kept [] d p = refl

@@ -3,9 +3,9 @@
 use Rattle.std.specs.Prelude.{ℕ, ◌≡◌, ◌≤◌, ◌<◌, ◌^◌, true, false, Some, None, [], ◌∷◌}
 use Rattle.pool_ledger.specs.declared.entry.Entry.{Entry}
 use Rattle.pool_ledger.specs.declared.entry.Event.{Event}
-use Rattle.pool_ledger.specs.declared.entry.Event.TheVariants.{Begin, Attempt, Release, End}
+use Rattle.pool_ledger.specs.declared.entry.Event.TheVariants.{Begin, Attempt, Release, End, Grow}
 use Rattle.pool_ledger.specs.Sizes.{Sizes}
-use Rattle.pool_ledger.specs.History.{History, held, was_begun, open_task}
+use Rattle.pool_ledger.specs.History.{History, CanGrow, held, was_begun, open_task}
 use Rattle.pool_ledger.specs.Answers.{growth, answer}
 use Rattle.pool_ledger.specs.Legal.{is_eviction, settled, is_own_turn, MayFollow, IsLegal}
 
@@ -51,6 +51,10 @@ MayEnd setup history =
     (worker task : ℕ) → worker < setup.workers → open_task history worker ≡ Some task
     → MayFollow setup history (entry_by worker (End task (held history task)))
 
+-- the first worker may make the pools larger
+abbrev pub MayGrow : Sizes → History → Type 0
+MayGrow setup history = (worker bytes : ℕ) → worker < setup.workers → CanGrow setup history worker bytes → MayFollow setup history (entry_by worker (Grow bytes))
+
 -- all of these
 pub record Grows (setup : Sizes) (history : History) : Type 0 where
   pub whole : IsWhole history
@@ -59,3 +63,4 @@ pub record Grows (setup : Sizes) (history : History) : Type 0 where
   pub attempts : MayAttempt setup history
   pub releases : MayRelease setup history
   pub ends : MayEnd setup history
+  pub grows : MayGrow setup history

@@ -3,7 +3,7 @@
 use Rattle.std.specs.Prelude.{ℕ, ◌≡◌, Option, Some, [], ◌∷◌}
 use Rattle.pool_ledger.specs.declared.entry.Event.{Event}
 use Rattle.pool_ledger.specs.declared.entry.Event.TheVariants.{Begin}
-use Rattle.pool_ledger.specs.History.{History, held, is_active, open_task, was_begun}
+use Rattle.pool_ledger.specs.History.{History, grown_by, held, is_active, open_task, total, was_begun}
 use Rattle.pool_ledger.specs.Blocks.{worker_pin}
 
 -- a begin is by the task's owner
@@ -27,3 +27,7 @@ pub record OwnerTells (history own : History) (task : ℕ) : Type 0 where
   pub holds : held history task ≡ held own task
   pub active : is_active history task ≡ is_active own task
   pub begun : was_begun history task ≡ was_begun own task
+
+-- a history and the first worker's own entries of it tell the same of what the pools grew by, in bytes
+abbrev pub TellsGrowths : History → History → Type 0
+TellsGrowths history own = total grown_by history ≡ total grown_by own

@@ -94,8 +94,8 @@ slice_get-set_other : {X : Type 0} (xs : List X) (i j : ℕ) (x : X) → j ≢ i
 slice_get-set_other xs i j x other = grind (arith, common_steps, gets)
 
 -- the kept values after an entry
-pub AreSums-more : (s : Sizes) (h : History) (seats : List (Option Holding)) (x y p a : ℕ) (e : Entry) (kept : Kept) → AreSums s h seats x y p a → CanFollow s h e → AreKept s (e ∷ h) e.worker kept → AreSums s (e ∷ h) (slice_set seats e.worker kept.seat) kept.exec kept.stored kept.pool kept.active
-AreSums-more s h seats x y p a e kept sums can after = record {
+pub AreSums-more : (s : Sizes) (h : History) (seats : List (Option Holding)) (x y m p a : ℕ) (e : Entry) (kept : Kept) → AreSums s h seats x y m p a → CanFollow s h e → AreKept s (e ∷ h) e.worker kept → AreSums s (e ∷ h) (slice_set seats e.worker kept.seat) kept.exec kept.stored kept.max kept.pool kept.active
+AreSums-more s h seats x y m p a e kept sums can after = record {
   recorded = (sums.recorded, can);
   range = sums.range;
   seat = λ w below. elim (cases_eq w e.worker) [
@@ -106,13 +106,14 @@ AreSums-more s h seats x y p a e kept sums can after = record {
   exec_fits = after.exec_fits;
   stored_is = after.stored_is;
   stored_fits = after.stored_fits;
+  max_is = after.max_is;
   pool_is = after.pool_is;
   pool_fits = after.pool_fits;
   active_is = after.active_is;
 }
 
 -- What a walk over the seats finds
-module _ (s : Sizes) (h : History) (seats : List (Option Holding)) (x y p a : ℕ) (sums : AreSums s h seats x y p a) where
+module _ (s : Sizes) (h : History) (seats : List (Option Holding)) (x y m p a : ℕ) (sums : AreSums s h seats x y m p a) where
   read_seat : (k : ℕ) → k < 16 → get_or seats k None ≡ seat_of h k
   read_seat k below = get_or_from_slice_get seats k (seat_of h k) None (sums.seat k below)
 

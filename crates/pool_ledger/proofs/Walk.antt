@@ -10,7 +10,7 @@ use Rattle.pool_ledger.specs.History.{History, granted_by, freed_by, held, is_ac
 use Rattle.pool_ledger.specs.Journal.{after}
 use Rattle.pool_ledger.specs.Recorded.{CanCome, IsRecorded}
 use Rattle.pool_ledger.proofs.Tasks.{entry_of, freed_fits}
-use Rattle.pool_ledger.proofs.Bounds.{held_within, exec_within}
+use Rattle.pool_ledger.proofs.Bounds.{held_within, exec_within, maximum_within}
 use Rattle.pool_ledger.proofs.Prefixes.{recorded_after, after-more}
 
 -- what an event does to what a task holds
@@ -28,7 +28,7 @@ frees_fit-more s h v (Release task freed) can t = of_task (held h) task t freed 
 frees_fit-more s h v (End task freed) can t = of_task (held h) task t freed can.holds
 frees_fit-more s h v _ can t = omega arith
 
-grants_fit-more : (s : Sizes) (h : History) (v : ℕ) (e : Event) (t : ℕ) → held h t ≤ maximum s h → held (entry_of v e ∷ h) t ≤ maximum s h → held (entry_of v e ∷ h) t ≡ held h t + granted_by t e - freed_by t e → held h t + granted_by t e ≤ maximum s h
+grants_fit-more : (s : Sizes) (h : History) (v : ℕ) (e : Event) (t : ℕ) → held h t ≤ maximum s h → held (entry_of v e ∷ h) t ≤ maximum s (entry_of v e ∷ h) → held (entry_of v e ∷ h) t ≡ held h t + granted_by t e - freed_by t e → held h t + granted_by t e ≤ maximum s h
 grants_fit-more s h v (Attempt task asked moved evictions got) t before now is = omega (arith, now, is)
 grants_fit-more s h v _ t before now is = omega (arith, before)
 
@@ -48,8 +48,8 @@ module _ (s : Sizes) (n : ℕ) (journal : List Entry) (any : Entry) (t : ℕ) (b
       let g = after n journal in
       let e = get_or journal n any in
       let before : held g t ≤ maximum s g = omega (arith, held_within s g next.0 t, exec_within s g next.0) in
-      let now : held (e ∷ g) t ≤ maximum s g = omega (arith, held_within s (e ∷ g) next t, exec_within s (e ∷ g) next) in
-      omega (arith, grants_fit-more s g e.worker e.event t before now (held-more s g e next.0 t), range.maximum_small)
+      let now : held (e ∷ g) t ≤ maximum s (e ∷ g) = omega (arith, held_within s (e ∷ g) next t, exec_within s (e ∷ g) next) in
+      omega (arith, grants_fit-more s g e.worker e.event t before now (held-more s g e next.0 t), maximum_within s g range.maximum_small next.0)
 
   pub held_at : held (after (n + 1) journal) t ≡ held (after n journal) t + granted_by t (get_or journal n any).event - freed_by t (get_or journal n any).event
   held_at = ap (λ g. held g t) (after-more n journal any below) ∙ held-more s (after n journal) (get_or journal n any) next.0 t

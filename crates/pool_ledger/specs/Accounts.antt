@@ -20,7 +20,7 @@ seat_of history worker =
     option_map (λ task. record { task = task; held = held history task; active = is_active history task }) (open_task history worker)
 
 -- the kept values are the sums over the history, in bytes, and the number of active tasks
-pub record AreSums (setup : Sizes) (history : History) (seats : List (Option Holding)) (total kept_stored pool running : ℕ) : Type 0 where
+pub record AreSums (setup : Sizes) (history : History) (seats : List (Option Holding)) (total kept_stored all pool running : ℕ) : Type 0 where
   pub recorded : IsRecorded setup history
   pub range : IsInRange setup.maximum setup.region setup.workers
   pub seat : (worker : ℕ) → worker < 16 → slice_get seats worker ≡ Some (seat_of history worker)
@@ -28,6 +28,7 @@ pub record AreSums (setup : Sizes) (history : History) (seats : List (Option Hol
   pub exec_fits : total ≤ maximum setup history
   pub stored_is : kept_stored ≡ stored history
   pub stored_fits : kept_stored ≤ maximum setup history
+  pub max_is : all ≡ maximum setup history
   pub pool_is : pool ≡ execution_pool setup history
   pub pool_fits : pool ≤ maximum setup history
   pub active_is : running ≡ active history

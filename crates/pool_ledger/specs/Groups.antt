@@ -3,10 +3,10 @@
 use Rattle.std.specs.Prelude.{ℕ, ◌≡◌, ◌≤◌, ◌<◌, ◌^◌, true, false, ⊤, Option, Some, None, List, [], ◌∷◌, ◌++◌, map, reverse, length}
 use Rattle.pool_ledger.specs.declared.entry.Entry.{Entry}
 use Rattle.pool_ledger.specs.declared.entry.Event.{Event}
-use Rattle.pool_ledger.specs.declared.entry.Event.TheVariants.{Begin, Attempt, Release, End, Evict, Admit, Refused, Pin, Unpin, Remove}
+use Rattle.pool_ledger.specs.declared.entry.Event.TheVariants.{Begin, Attempt, Release, End, Evict, Admit, Refused, Pin, Unpin, Remove, Grow}
 use Rattle.pool_ledger.specs.declared.entry.Fate.{Fate}
 use Rattle.pool_ledger.specs.Sizes.{Sizes}
-use Rattle.pool_ledger.specs.History.{History, total, held, was_begun, open_task}
+use Rattle.pool_ledger.specs.History.{History, CanGrow, total, held, was_begun, open_task}
 use Rattle.pool_ledger.specs.Blocks.{Resident, is_resident, worker_pin, leaves_copy}
 use Rattle.pool_ledger.specs.Answers.{growth, answer, admission}
 use Rattle.pool_ledger.specs.Legal.{MayLeave, SuitsLevel}
@@ -81,6 +81,7 @@ EventIsLegal setup before worker gone (Unpin dataset part) =
     (gone ≡ []) × (worker_pin before worker ≡ Some (record { dataset = dataset; part = part }))
 EventIsLegal setup before worker gone (Remove dataset part size) =
     (gone ≡ []) × (block : Resident) × MayLeave before dataset part size block
+EventIsLegal setup before worker gone (Grow bytes) = (gone ≡ []) × CanGrow setup before worker bytes
 -- an eviction is no event of its own
 EventIsLegal setup before worker gone (Evict dataset part size fate) = ⊥
 

@@ -1,10 +1,10 @@
 -- What a history says of tasks and of the pools' sizes, in bytes.
 -- After Spark: ExecutionMemoryPool (what tasks hold, active tasks), UnifiedMemoryManager (the pools' sizes). Begin and End are this project's own.
-use Rattle.std.specs.Prelude.{ℕ, ◌+◌, ◌-◌, ◌==◌, Bool, true, false, not, ◌&&◌, if◌then◌else◌, Option, Some, None, unwrap_or, List, [], ◌∷◌, sum_by, count_by}
+use Rattle.std.specs.Prelude.{ℕ, ◌+◌, ◌-◌, ◌≡◌, ◌≤◌, ◌^◌, ◌==◌, Bool, true, false, not, ◌&&◌, if◌then◌else◌, Option, Some, None, unwrap_or, List, [], ◌∷◌, sum_by, count_by}
 use Rattle.std.specs.List.{list_any}
 use Rattle.pool_ledger.specs.declared.entry.Entry.{Entry}
 use Rattle.pool_ledger.specs.declared.entry.Event.{Event}
-use Rattle.pool_ledger.specs.declared.entry.Event.TheVariants.{Begin, Attempt, Release, End, Admit, Refused}
+use Rattle.pool_ledger.specs.declared.entry.Event.TheVariants.{Begin, Attempt, Release, End, Admit, Refused, Grow}
 use Rattle.pool_ledger.specs.Sizes.{Sizes}
 
 -- the entries of a journal, the newest first: what follows an entry is what came before it
@@ -111,9 +111,21 @@ borrowed_by (Admit dataset part size level borrowed evictions) = borrowed
 borrowed_by (Refused dataset part size borrowed evictions) = borrowed
 borrowed_by _ = 0
 
+-- the bytes that a growth adds to both pools together
+abbrev pub grown_by : Event → ℕ
+grown_by (Grow bytes) = bytes
+grown_by _ = 0
+
 -- the bytes of both pools together
 abbrev pub maximum : Sizes → History → ℕ
-maximum setup history = setup.maximum
+maximum setup history = setup.maximum + total grown_by history
+
+-- the first worker may make the pools so much larger: by 2^36 bytes at most, and to 2^41 at most
+pub record CanGrow (setup : Sizes) (history : History) (worker bytes : ℕ) : Type 0 where
+  pub first : worker ≡ 0
+  pub some : 1 ≤ bytes
+  pub few : bytes ≤ 2 ^ 36
+  pub fits : maximum setup history + bytes ≤ 2 ^ 41
 
 -- the bytes of the execution pool
 abbrev pub execution_pool : Sizes → History → ℕ

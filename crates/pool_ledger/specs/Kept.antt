@@ -14,6 +14,7 @@ pub record AreKept (setup : Sizes) (history : History) (worker : ℕ) (kept : Ke
   pub exec_fits : kept.exec ≤ maximum setup history
   pub stored_is : kept.stored ≡ stored history
   pub stored_fits : kept.stored ≤ maximum setup history
+  pub max_is : kept.max ≡ maximum setup history
   pub pool_is : kept.pool ≡ execution_pool setup history
   pub pool_fits : kept.pool ≤ maximum setup history
   pub active_is : kept.active ≡ active history

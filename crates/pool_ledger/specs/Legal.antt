@@ -3,13 +3,13 @@
 use Rattle.std.specs.Prelude.{ℕ, ◌≡◌, ◌≤◌, ◌<◌, ◌^◌, ◌==◌, Bool, true, false, not, ◌||◌, if◌then◌else◌, Option, Some, None, List, [], ◌∷◌, ◌++◌, map, length}
 use Rattle.pool_ledger.specs.declared.entry.Entry.{Entry}
 use Rattle.pool_ledger.specs.declared.entry.Event.{Event}
-use Rattle.pool_ledger.specs.declared.entry.Event.TheVariants.{Begin, Attempt, Release, End, Evict, Admit, Refused, Pin, Unpin, Remove}
+use Rattle.pool_ledger.specs.declared.entry.Event.TheVariants.{Begin, Attempt, Release, End, Evict, Admit, Refused, Pin, Unpin, Remove, Grow}
 use Rattle.pool_ledger.specs.declared.entry.Fate.{Fate}
 use Rattle.pool_ledger.specs.declared.entry.Fate.TheVariants.{Disk, Gone, NoMemory}
 use Rattle.pool_ledger.specs.declared.entry.Level.{Level}
 use Rattle.pool_ledger.specs.declared.entry.Level.TheVariants.{Memory, Disk as OnDisk}
 use Rattle.pool_ledger.specs.Sizes.{Sizes}
-use Rattle.pool_ledger.specs.History.{History, total, held, was_begun, open_task}
+use Rattle.pool_ledger.specs.History.{History, CanGrow, total, held, was_begun, open_task}
 use Rattle.pool_ledger.specs.Blocks.{Resident, resident_at, is_resident, is_pinned, worker_pin, leaves_copy}
 use Rattle.pool_ledger.specs.Answers.{growth, answer, admission}
 
@@ -106,6 +106,7 @@ MayCome setup history worker (Unpin dataset part) =
     (pending history ≡ []) × (worker_pin history worker ≡ Some (record { dataset = dataset; part = part }))
 MayCome setup history worker (Remove dataset part size) =
     (pending history ≡ []) × (block : Resident) × MayLeave history dataset part size block
+MayCome setup history worker (Grow bytes) = (pending history ≡ []) × CanGrow setup history worker bytes
 
 -- an entry may follow a history
 pub record MayFollow (setup : Sizes) (history : History) (entry : Entry) : Type 0 where

@@ -3,9 +3,9 @@
 use Rattle.std.specs.Prelude.{ℕ, ◌≡◌, ◌+◌, ◌≤◌, ◌<◌, false, not, Option, Some, None, unwrap_or, [], ◌∷◌}
 use Rattle.pool_ledger.specs.declared.entry.Entry.{Entry}
 use Rattle.pool_ledger.specs.declared.entry.Event.{Event}
-use Rattle.pool_ledger.specs.declared.entry.Event.TheVariants.{Begin, Attempt, Release, End, Evict, Admit, Refused, Pin, Unpin, Remove}
+use Rattle.pool_ledger.specs.declared.entry.Event.TheVariants.{Begin, Attempt, Release, End, Evict, Admit, Refused, Pin, Unpin, Remove, Grow}
 use Rattle.pool_ledger.specs.Sizes.{Sizes}
-use Rattle.pool_ledger.specs.History.{History, held, exec, was_begun, open_task, maximum, execution_pool}
+use Rattle.pool_ledger.specs.History.{History, CanGrow, held, exec, was_begun, open_task, maximum, execution_pool}
 use Rattle.pool_ledger.specs.Blocks.{Resident, resident_at, is_resident, stored}
 
 -- the worker has no task, and the task was never begun
@@ -47,6 +47,7 @@ CanCome setup history worker (Refused dataset part size borrowed evictions) = bo
 CanCome setup history worker (Pin dataset part copy) = is_resident history dataset part ≡ not copy
 CanCome setup history worker (Unpin dataset part) = Unit {0}
 CanCome setup history worker (Remove dataset part size) = (block : Resident) × IsLeaving history dataset part size block
+CanCome setup history worker (Grow bytes) = CanGrow setup history worker bytes
 
 -- the entry can be recorded next
 pub record CanFollow (setup : Sizes) (history : History) (entry : Entry) : Type 0 where

@@ -85,6 +85,12 @@ pub enum Event {
         part: u32,
         size: u64,
     },
+    /// Both pools together got so many bytes more, 1 to 2^36, all of them execution's; they have 2^41 at most. The worker
+    /// is number 0, whose own entries so tell the bytes of both pools. The region, the floor and the block limit stay those
+    /// of the setup. This project's own.
+    Grow {
+        bytes: u64,
+    },
 }
 
 /// One entry of the journal: an event, and the number of the worker that caused it.

@@ -83,7 +83,8 @@ impl Holding {
             | Event::Refused { .. }
             | Event::Pin { .. }
             | Event::Unpin { .. }
-            | Event::Remove { .. } => self,
+            | Event::Remove { .. }
+            | Event::Grow { .. } => self,
         }
     }
 

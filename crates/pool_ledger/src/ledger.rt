@@ -23,6 +23,7 @@ pub struct Ledger {
     seats: [Option<Holding>; 16],
     exec: u64,
     stored: u64,
+    max: u64,
     pool: u64,
     active: u64,
 }
@@ -35,7 +36,7 @@ impl Model for Ledger {
 
     ghost view = { λ l. record { setup = l.setup; history = reverse l.entries.items; spare = l.spare } };
 
-    ghost invariant = { λ l. AreSums l.setup (reverse l.entries.items) l.seats l.exec l.stored l.pool l.active
+    ghost invariant = { λ l. AreSums l.setup (reverse l.entries.items) l.seats l.exec l.stored l.max l.pool l.active
         × (vec_len l.entries + l.spare ≤ vec_capacity l.entries) };
 }
 
@@ -53,6 +54,7 @@ impl Ledger {
             seats: [None; 16],
             exec: 0,
             stored: 0,
+            max: setup.max(),
             pool: setup.max() - setup.region(),
             active: 0,
         }
@@ -69,7 +71,7 @@ impl Ledger {
     pub fn max(&self) -> u64
         ensures { result ≡ maximum self.now.setup self.now.history }
     {
-        self.setup.max()
+        self.max
     }
 
     /// The bytes that all tasks hold.
@@ -97,7 +99,7 @@ impl Ledger {
     pub fn storage_pool(&self) -> u64
         ensures { result ≡ storage_pool self.now.setup self.now.history }
     {
-        self.setup.max() - self.pool
+        self.max - self.pool
     }
 
     /// The number of active tasks.
@@ -169,8 +171,8 @@ impl Ledger {
     }
 
     /// Adds an entry that can come next, for which there is room: its task or block is as it has to be,
-    /// what is freed is held, what is borrowed is in the execution pool, and no sum passes the setup's
-    /// `max`. That the entry is one that the rules of the pool give isn't asked for.
+    /// what is freed is held, what is borrowed is in the execution pool, a growth is one that may be, and no
+    /// sum passes the bytes of both pools. That the entry is one that the rules of the pool give isn't asked for.
     pub fn push(&mut self, entry: Entry)
         requires spare { 1 ≤ self.old.spare }
         requires next { CanFollow self.old.setup self.old.history entry }
@@ -230,6 +232,7 @@ impl Ledger {
             seat: self.seats[worker as usize],
             exec: self.exec,
             stored: self.stored,
+            max: self.max,
             pool: self.pool,
             active: self.active,
         }
@@ -278,6 +281,7 @@ impl Ledger {
                 .with_pool(kept.pool - borrowed),
             (Event::Refused { borrowed, .. }, _) => kept.with_pool(kept.pool - borrowed),
             (Event::Pin { .. }, _) => kept,
+            (Event::Grow { bytes }, _) => kept.grown(bytes),
             _ => kept,
         }
     }
@@ -294,6 +298,7 @@ impl Ledger {
         self.seats[entry.worker as usize] = kept.seat;
         self.exec = kept.exec;
         self.stored = kept.stored;
+        self.max = kept.max;
         self.pool = kept.pool;
         self.active = kept.active;
         self.spare -= 1;
@@ -307,6 +312,7 @@ struct Kept {
     seat: Option<Holding>,
     exec: u64,
     stored: u64,
+    max: u64,
     pool: u64,
     active: u64,
 }
@@ -331,6 +337,19 @@ impl Kept {
         ensures { result ≡ record self { pool = pool } }
     {
         Kept { pool, ..self }
+    }
+
+    // The same sums, with so many bytes more in both pools together and in the execution pool.
+    fn grown(self, bytes: u64) -> Kept
+        requires max { self.max + bytes < 2 ^ 64 }
+        requires pool { self.pool + bytes < 2 ^ 64 }
+        ensures { result ≡ record self { max = self.max + bytes; pool = self.pool + bytes } }
+    {
+        Kept {
+            max: self.max + bytes,
+            pool: self.pool + bytes,
+            ..self
+        }
     }
 }
 

@@ -1,4 +1,4 @@
-//! The memory pool's setup, its ten events, its journal, and the running sums over the journal.
+//! The memory pool's setup, its eleven events, its journal, and the running sums over the journal.
 #![tactic(auto)]
 
 mod entry;

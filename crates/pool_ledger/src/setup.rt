@@ -86,7 +86,7 @@ impl Setup {
         })
     }
 
-    /// The bytes of both pools together.
+    /// The bytes of both pools together, before they grow.
     pub fn max(&self) -> u64
         ensures value { result ≡ self.now.maximum }
         ensures range { IsInRange self.now.maximum self.now.region self.now.workers }

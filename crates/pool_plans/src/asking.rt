@@ -12,7 +12,7 @@ use crate::choice::{freed_by, ledger_keeps_laws};
 use eviction::Candidate;
 use execution_pool::{Share, ShareAt, growth, share};
 use pool_ledger::Ledger;
-use storage_pool::{Shrink, shrink_plan};
+use storage_pool::shrink_plan;
 
 /// What an ask moves from storage, in bytes, for how many evictions, and the bytes that it is granted;
 /// none is a wait.
@@ -26,21 +26,53 @@ pub struct AttemptPlan {
     pub got: Option<u64>,
 }
 
-/// The bytes that blocks have to give for an ask; 0 where none has to go, and then `plan_attempt` looks at
-/// no list.
-pub fn need_of_attempt(ledger: &Ledger, asked: u64) -> u64
-    requires permitted { IsPermitted ledger.now.setup ledger.now.history }
-    ensures { result ≡ (growth ledger.now.setup ledger.now.history asked).need }
-{
-    shrink_of(ledger, asked).need
+/// What storage gives for an ask, in bytes.
+#[derive(Clone, Copy, Debug, PartialEq, Eq)]
+pub struct Room {
+    /// The bytes that are free, and so move at once.
+    pub unused: u64,
+    /// The bytes that blocks have to give; 0 where none has to go, and then `plan_attempt` looks at no list.
+    pub need: u64,
 }
 
-/// The plan for an ask of a worker's open task, with the blocks in memory in use order. The list is looked
-/// at only where blocks have to go.
+/// What storage gives for an ask: free bytes first, and only the rest from blocks.
+pub fn room_for_attempt(ledger: &Ledger, asked: u64) -> Room
+    requires permitted { IsPermitted ledger.now.setup ledger.now.history }
+    ensures unused { result.unused ≡ (growth ledger.now.setup ledger.now.history asked).unused }
+    ensures need { result.need ≡ (growth ledger.now.setup ledger.now.history asked).need }
+{
+    ledger_keeps_laws(ledger);
+    let storage = ledger.storage_pool();
+    let storage_free = storage - ledger.stored();
+    let execution_free = ledger.execution_pool() - ledger.exec();
+    let target = growth(
+        asked,
+        execution_free,
+        storage,
+        storage_free,
+        ledger.setup().region(),
+    );
+    let shrink = shrink_plan(target, storage_free);
+    Room {
+        unused: shrink.unused,
+        need: shrink.need,
+    }
+}
+
+/// The plan for an ask of a worker's open task, from what storage gives for it and from the blocks in memory
+/// in use order. The list is looked at only where blocks have to go.
 ///
 /// After Spark's `UnifiedMemoryManager.acquireExecutionMemory` and `ExecutionMemoryPool.acquireMemory`.
-pub fn plan_attempt(ledger: &Ledger, list: &[Candidate], task: u32, asked: u64) -> AttemptPlan
+pub fn plan_attempt(
+    ledger: &Ledger,
+    room: Room,
+    list: &[Candidate],
+    task: u32,
+    asked: u64,
+) -> AttemptPlan
     requires permitted { IsPermitted ledger.now.setup ledger.now.history }
+    requires unused { room.unused ≡ (growth ledger.now.setup ledger.now.history asked).unused }
+    requires need { room.need ≡ (growth ledger.now.setup ledger.now.history asked).need }
     requires listed { 0 < (growth ledger.now.setup ledger.now.history asked).need → list.now ≡ listed ledger.now.history }
     requires its_task { (worker : ℕ) × (open_task ledger.now.history worker ≡ Some task) }
     requires few_asked { asked ≤ 2 ^ 50 }
@@ -54,9 +86,8 @@ pub fn plan_attempt(ledger: &Ledger, list: &[Candidate], task: u32, asked: u64) 
     ensures few { result.evictions ≤ length (evictable ledger.now.history None) }
 {
     ledger_keeps_laws(ledger);
-    let shrink = shrink_of(ledger, asked);
-    let freed = freed_by(ledger, list, shrink.need, None);
-    let moved = shrink.unused + freed.bytes;
+    let freed = freed_by(ledger, list, room.need, None);
+    let moved = room.unused + freed.bytes;
     // The task counts as active from its first ask on, whatever the answer is.
     let newcomers = if ledger.is_active(task) { 0 } else { 1 };
     let got = bytes_of(share(ShareAt {
@@ -74,26 +105,6 @@ pub fn plan_attempt(ledger: &Ledger, list: &[Candidate], task: u32, asked: u64) 
         evictions: freed.count,
         got,
     }
-}
-
-// What storage gives for an ask: free bytes, and bytes that blocks have to give.
-fn shrink_of(ledger: &Ledger, asked: u64) -> Shrink
-    requires permitted { IsPermitted ledger.now.setup ledger.now.history }
-    ensures unused { result.unused ≡ (growth ledger.now.setup ledger.now.history asked).unused }
-    ensures need { result.need ≡ (growth ledger.now.setup ledger.now.history asked).need }
-{
-    ledger_keeps_laws(ledger);
-    let storage = ledger.storage_pool();
-    let storage_free = storage - ledger.stored();
-    let execution_free = ledger.execution_pool() - ledger.exec();
-    let target = growth(
-        asked,
-        execution_free,
-        storage,
-        storage_free,
-        ledger.setup().region(),
-    );
-    shrink_plan(target, storage_free)
 }
 
 // What is granted, if it is no wait.

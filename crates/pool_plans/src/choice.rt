@@ -1,29 +1,17 @@
 //! Which blocks of a list go.
 
 ghost use Rattle.std.specs.Prelude.{◌≡◌, ◌≤◌, ◌<◌, ◌^◌, ◌==◌, [], if◌then◌else◌, length, take, unwrap_or};
-ghost use Rattle.std.specs.List.{find};
+ghost use Rattle.pool_ledger.specs.History.{maximum};
 ghost use Rattle.pool_ledger.specs.Blocks.{evictable, sizes, stored, victims};
 ghost use Rattle.pool_ledger.specs.Legal.{IsPermitted};
 ghost use Rattle.pool_ledger.specs.Sizes.{IsInRange};
 ghost use Rattle.pool_laws.specs.Laws.{KeepsLaws};
-ghost use Rattle.eviction.specs.Victims.{is_evictable, evictable as going, sizes as bytes_of};
+ghost use Rattle.eviction.specs.Victims.{evictable as going, sizes as bytes_of};
 ghost use Rattle.pool_plans.specs.Listed.{listed};
 
 use eviction::{Candidate, victims};
-use pool_laws::permitted_histories_keep_laws;
+use pool_laws::{permitted_histories_keep_laws, sums_stay_small};
 use pool_ledger::Ledger;
-
-/// The first block of the list that may go: the next victim, amid the evictions of one ask or block.
-pub fn first_to_go(list: &[Candidate], except: Option<u32>) -> Option<Candidate>
-    ensures { result ≡ find (is_evictable except) list.now }
-{
-    for block in list {
-        if block.may_go(except) {
-            return Some(*block);
-        }
-    }
-    None
-}
 
 // The blocks that go: how many, and their bytes.
 #[derive(Clone, Copy)]
@@ -74,7 +62,9 @@ pub(crate) fn ledger_keeps_laws(ledger: &Ledger)
     requires { IsPermitted ledger.now.setup ledger.now.history }
     ensures laws { KeepsLaws ledger.now.setup ledger.now.history }
     ensures range { IsInRange ledger.now.setup.maximum ledger.now.setup.region ledger.now.setup.workers }
+    ensures small { maximum ledger.now.setup ledger.now.history ≤ 2 ^ 41 }
 {
     permitted_histories_keep_laws();
+    sums_stay_small();
     let _range = ledger.setup().max();
 }

@@ -6,5 +6,4 @@ mod asking;
 mod choice;
 
 pub use admitting::{AdmissionPlan, need_of_admission, plan_admission};
-pub use asking::{AttemptPlan, need_of_attempt, plan_attempt};
-pub use choice::first_to_go;
+pub use asking::{AttemptPlan, Room, plan_attempt, room_for_attempt};

@@ -11,7 +11,7 @@ use Rattle.pool_laws.specs.Growing.{entry_by}
 use Rattle.block_store.specs.declared.block.Block.{Block}
 use Rattle.memory_core.specs.declared.admission.Admission.{Admission as Answer}
 use Rattle.memory_core.specs.declared.admission.Admission.TheVariants.{Admitted, Refused, Resident as AlreadyResident}
-use Rattle.turn_lock.specs.Passes.{PassState}
+use Rattle.turn_lock.specs.Passes.{WorkerView}
 use Rattle.memory_lock.specs.Workers.{Adds, AddsAdmission, AddsGrant, AddsRemovals, AddsWaits, AreEvictions, AreRemovals, IsEviction, own_entries, own_of}
 use Rattle.memory_lock.proofs.Adding.{IsWaiting}
 use Rattle.memory_lock.proofs.Staying.{all_imply, all_then}
@@ -52,21 +52,21 @@ pub begun_grant : (worker task asked got : ℕ) (before after : List Entry) → 
 begun_grant worker task asked got before after grant =
     begun_behind worker _ grant.0 after grant.2.0 (λ tasks. refl) grant.2.2 grant.2.3 ∙ begun_waits worker task asked before grant.0 grant.1
 
-pub begun_admit : (answer : Answer) (block : Block) (size : ℕ) (before after : PassState) → AddsAdmission answer block size before after → begun (own_of after) ≡ begun (own_of before)
+pub begun_admit : (answer : Answer) (block : Block) (size : ℕ) (before after : WorkerView) → AddsAdmission answer block size before after → begun (own_of after) ≡ begun (own_of before)
 begun_admit Admitted block size before after adds = begun_behind before.number _ _ _ adds.0 (λ tasks. refl) adds.2 adds.3
 begun_admit Refused block size before after adds = begun_behind before.number _ _ _ adds.0 (λ tasks. refl) adds.2 adds.3
 begun_admit AlreadyResident block size before after adds = ap (λ (es : List Entry). begun (history_of es)) adds.0
 
-pub begun_same : (before after : PassState) → own_entries after ≡ own_entries before → begun (own_of after) ≡ begun (own_of before)
+pub begun_same : (before after : WorkerView) → own_entries after ≡ own_entries before → begun (own_of after) ≡ begun (own_of before)
 begun_same before after same = ap (λ (es : List Entry). begun (history_of es)) same
 
-begun_added : (before after : PassState) (added : List Entry) → AllByRecursion LeavesBegun added → Adds before after added → begun (own_of after) ≡ begun (own_of before)
+begun_added : (before after : WorkerView) (added : List Entry) → AllByRecursion LeavesBegun added → Adds before after added → begun (own_of after) ≡ begun (own_of before)
 begun_added before after added all adds = ap (λ (es : List Entry). begun (history_of es)) adds ∙ begun_all (own_entries before) added all
 
-pub begun_one : (before after : PassState) (entry : Entry) → LeavesBegun entry → Adds before after (entry ∷ []) → begun (own_of after) ≡ begun (own_of before)
+pub begun_one : (before after : WorkerView) (entry : Entry) → LeavesBegun entry → Adds before after (entry ∷ []) → begun (own_of after) ≡ begun (own_of before)
 begun_one before after entry leaves adds = begun_added before after (entry ∷ []) (leaves, tt) adds
 
-pub begun_begins : (before after : PassState) (worker task : ℕ) → Adds before after (entry_by worker (Begin task) ∷ []) → begun (own_of after) ≡ task ∷ begun (own_of before)
+pub begun_begins : (before after : WorkerView) (worker task : ℕ) → Adds before after (entry_by worker (Begin task) ∷ []) → begun (own_of after) ≡ task ∷ begun (own_of before)
 begun_begins before after worker task adds =
     ap (λ (es : List Entry). begun (history_of es)) adds ∙ ap begun (reverse-append (own_entries before) (entry_by worker (Begin task) ∷ []))
 
@@ -74,5 +74,5 @@ removals_leave : (worker dataset from : ℕ) (gone : List Entry) → AreRemovals
 removals_leave worker dataset from [] are = tt
 removals_leave worker dataset from (entry ∷ more) are = (subst LeavesBegun (sym are.2) (λ tasks. refl), removals_leave worker dataset (are.0 + 1) more are.4)
 
-pub begun_removals : (before after : PassState) (dataset : ℕ) → AddsRemovals dataset before after → begun (own_of after) ≡ begun (own_of before)
+pub begun_removals : (before after : WorkerView) (dataset : ℕ) → AddsRemovals dataset before after → begun (own_of after) ≡ begun (own_of before)
 begun_removals before after dataset adds = begun_added before after adds.0 (removals_leave before.number dataset 0 adds.0 adds.1) adds.2

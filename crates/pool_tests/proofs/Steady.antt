@@ -4,21 +4,21 @@ use Rattle.std.specs.Prelude.{◌==◌, IfOk, OnOk, OnErr, None, Result, Ok, Err
 use Rattle.std.specs.List.{list_any}
 use Rattle.std.proofs.lemmas.Bool.{ne_eqb}
 use Rattle.pool_ledger.specs.declared.entry.Entry.{Entry}
-use Rattle.pool_ledger.specs.declared.entry.Event.TheVariants.{Begin, Release}
-use Rattle.pool_ledger.specs.History.{begun, open_task, was_begun}
+use Rattle.pool_ledger.specs.declared.entry.Event.TheVariants.{Begin, Grow, Release}
+use Rattle.pool_ledger.specs.History.{begun, grown_by, open_task, total, was_begun}
 use Rattle.pool_ledger.specs.Blocks.{worker_pin}
 use Rattle.pool_ledger.specs.Workers.{entries_of}
 use Rattle.pool_ledger.specs.Journal.{history_of}
 use Rattle.pool_laws.specs.Growing.{entry_by}
 use Rattle.block_store.specs.declared.block.Block.{Block}
 use Rattle.memory_core.specs.declared.admission.Admission.{Admission as Answer}
-use Rattle.turn_lock.specs.Passes.{LockId, PassState}
+use Rattle.turn_lock.specs.Passes.{LockId, WorkerView}
 use Rattle.memory_lock.specs.Crew.{IsWorker}
 use Rattle.memory_lock.specs.Workers.{Adds, AddsAdmission, AddsGrant, AddsRemovals, AddsWaits, HasNoPin, IsOpen, KeepsPin, SeesMore, own_entries, own_of}
 use Rattle.pool_tests.specs.Seats.{IsIdle, IsPlaying, IsSteady, at_rest}
 use Rattle.pool_tests.proofs.Beginning.{begun_admit, begun_begins, begun_grant, begun_one, begun_removals, begun_same, begun_waits, LeavesBegun}
 
-pub worker_on : (lock : LockId) (count number : ℕ) (before after : PassState) → IsWorker lock count number (at_rest before) → SeesMore before after → IsWorker lock count number (at_rest after)
+pub worker_on : (lock : LockId) (count number : ℕ) (before after : WorkerView) → IsWorker lock count number (at_rest before) → SeesMore before after → IsWorker lock count number (at_rest after)
 worker_on lock count number before after was sees = record {
   lock_is = sees.lock_is ∙ was.lock_is;
   number_is = sees.number_is ∙ was.number_is;
@@ -28,7 +28,7 @@ worker_on lock count number before after was sees = record {
   free = refl;
 }
 
-module _ (lock : LockId) (count number next : ℕ) (before after : PassState) (was : IsSteady lock count number next before) (sees : SeesMore before after) where
+module _ (lock : LockId) (count number next : ℕ) (before after : WorkerView) (was : IsSteady lock count number next before) (sees : SeesMore before after) where
   -- what a call leaves, where it begins no task
   steady_on : HasNoPin after → begun (own_of after) ≡ begun (own_of before) → IsSteady lock count number next after
   steady_on no_pin same = record {
@@ -61,6 +61,12 @@ module _ (lock : LockId) (count number next : ℕ) (before after : PassState) (w
   removed_on (Ok done) dataset pin ok err = steady_on (pin ∙ was.no_pin) (begun_removals before after dataset ok)
   removed_on (Err fault) dataset pin ok err = steady_on (pin ∙ was.no_pin) (begun_same before after err)
 
+  pub grown_on : {T E : Type 0} (result : Result T E) (bytes : ℕ) → KeepsPin before after
+      → OnOk result (Adds before after (entry_by before.number (Grow bytes) ∷ []))
+      → OnErr result (own_entries after ≡ own_entries before) → IsSteady lock count number next after
+  grown_on (Ok done) bytes pin ok err = steady_on (pin ∙ was.no_pin) (begun_one before after (entry_by before.number (Grow bytes)) (λ tasks. refl) ok)
+  grown_on (Err fault) bytes pin ok err = steady_on (pin ∙ was.no_pin) (begun_same before after err)
+
   pub same_on : own_entries after ≡ own_entries before → HasNoPin after → IsSteady lock count number next after
   same_on same no_pin = steady_on no_pin (begun_same before after same)
 
@@ -87,7 +93,7 @@ module _ (lock : LockId) (count number next : ℕ) (before after : PassState) (w
   begins_on (Err fault) pin is adds opened = tt
 
 -- a pin that is given back
-pub given_back : (lock : LockId) (count number next : ℕ) (before amid after : PassState) (pinned unpinned : Entry) → IsSteady lock count number next before → SeesMore before amid → LeavesBegun pinned → Adds before amid (pinned ∷ [])
+pub given_back : (lock : LockId) (count number next : ℕ) (before amid after : WorkerView) (pinned unpinned : Entry) → IsSteady lock count number next before → SeesMore before amid → LeavesBegun pinned → Adds before amid (pinned ∷ [])
     → SeesMore amid after → LeavesBegun unpinned → Adds amid after (unpinned ∷ []) → HasNoPin after → IsSteady lock count number next after
 given_back lock count number next before amid after pinned unpinned was sees leaves adds more leaves_more adds_more no_pin = record {
   its = worker_on lock count number amid after (worker_on lock count number before amid was.its sees) more;
@@ -96,7 +102,7 @@ given_back lock count number next before amid after pinned unpinned was sees lea
 }
 
 -- a worker that rests
-resting : (lock : LockId) (count number : ℕ) (worker : PassState) → IsWorker lock count number worker → IsWorker lock count number (at_rest worker)
+resting : (lock : LockId) (count number : ℕ) (worker : WorkerView) → IsWorker lock count number worker → IsWorker lock count number (at_rest worker)
 resting lock count number worker its = record {
   lock_is = its.lock_is;
   number_is = its.number_is;
@@ -106,7 +112,7 @@ resting lock count number worker its = record {
   free = refl;
 }
 
-pub rested : (lock : LockId) (count number : ℕ) (worker : PassState) → worker.base ≡ None → IsWorker lock count number (at_rest worker) → IsWorker lock count number worker
+pub rested : (lock : LockId) (count number : ℕ) (worker : WorkerView) → worker.base ≡ None → IsWorker lock count number (at_rest worker) → IsWorker lock count number worker
 rested lock count number worker rests its = record {
   lock_is = its.lock_is;
   number_is = its.number_is;
@@ -117,7 +123,7 @@ rested lock count number worker rests its = record {
 }
 
 -- a worker that is new
-pub new_is_idle : (lock : LockId) (count number : ℕ) (worker : PassState) → IsWorker lock count number worker → worker.seen ≡ [] → IsIdle lock count number number worker
+pub new_is_idle : (lock : LockId) (count number : ℕ) (worker : WorkerView) → IsWorker lock count number worker → worker.seen ≡ [] → IsIdle lock count number number worker
 new_is_idle lock count number worker its new =
     let none : own_entries worker ≡ [] = ap (λ (es : List Entry). entries_of worker.number es) new in
     record {
@@ -128,3 +134,6 @@ new_is_idle lock count number worker its new =
       };
       no_task = ap (λ (es : List Entry). open_task (history_of es) worker.number) none;
     }
+
+pub new_has_grown_none : (worker : WorkerView) → worker.seen ≡ [] → total grown_by (own_of worker) ≡ 0
+new_has_grown_none worker new = ap (λ (es : List Entry). total grown_by (history_of (entries_of worker.number es))) new

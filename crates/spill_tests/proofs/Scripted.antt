@@ -18,7 +18,7 @@ use Rattle.pool_ledger.specs.History.{held}
 use Rattle.pool_ledger.specs.Journal.{history_of}
 use Rattle.pool_ledger.specs.Workers.{entries_of}
 use Rattle.pool_laws.specs.Growing.{entry_by}
-use Rattle.turn_lock.specs.Passes.{LockId, PassState}
+use Rattle.turn_lock.specs.Passes.{LockId, WorkerView}
 use Rattle.memory_lock.specs.Crew.{IsWorker}
 use Rattle.memory_lock.specs.Workers.{Adds}
 use Rattle.task_pool.specs.Workers.{SeesMore, own_of}
@@ -234,12 +234,12 @@ orders_begun picks kinds states states' places begins i within kind is =
         absurd (omega (arith, differ))
 
 -- a task that its worker began as the first holds nothing
-pub begun_holds : (task other number : ℕ) (before after : PassState) → before.seen ≡ [] → Adds before after (entry_by number (Begin task) ∷ []) → held (own_of after) other ≡ 0
+pub begun_holds : (task other number : ℕ) (before after : WorkerView) → before.seen ≡ [] → Adds before after (entry_by number (Begin task) ∷ []) → held (own_of after) other ≡ 0
 begun_holds task other number before after new adds =
     ap (λ (entries : List Entry). held (history_of entries) other) (adds ∙ ap (λ (seen : List Entry). entries_of before.number seen ++ (entry_by number (Begin task) ∷ [])) new)
 
 -- a worker that has seen more is the worker of its number
-pub worker_on : (lock : LockId) (count number : ℕ) (before after : PassState) → IsWorker lock count number before → SeesMore before after → after.base ≡ None → IsWorker lock count number after
+pub worker_on : (lock : LockId) (count number : ℕ) (before after : WorkerView) → IsWorker lock count number before → SeesMore before after → after.base ≡ None → IsWorker lock count number after
 worker_on lock count number before after was sees free = record {
   lock_is = sees.lock_is ∙ was.lock_is;
   number_is = sees.number_is ∙ was.number_is;

@@ -5,7 +5,7 @@ use Rattle.std.specs.List.{AllByRecursion}
 use Rattle.pool_ledger.specs.declared.entry.Entry.{Entry}
 use Rattle.pool_ledger.specs.declared.entry.Event.TheVariants.{Attempt}
 use Rattle.pool_laws.specs.Growing.{entry_by}
-use Rattle.turn_lock.specs.Passes.{PassState}
+use Rattle.turn_lock.specs.Passes.{WorkerView}
 use Rattle.memory_lock.specs.Workers.{AddsGrant, IsWait}
 use Rattle.task_pool.specs.Asks.{FirstAsks, first_asked}
 use Rattle.task_pool.specs.Workers.{IsEviction, own_entries}
@@ -23,7 +23,7 @@ behind_waits worker task asked (entry ∷ waits) more all is =
       | inr eviction ↦ let one = eviction.4 in rw one (behind_waits worker task asked waits more all.1 is)
     ]
 
-grant_asks : (task asked got : ℕ) (before after : PassState) → AddsGrant before.number task asked got (own_entries before) (own_entries after) → FirstAsks asked before after
+grant_asks : (task asked got : ℕ) (before after : WorkerView) → AddsGrant before.number task asked got (own_entries before) (own_entries after) → FirstAsks asked before after
 grant_asks task asked got before after adds =
     let last = adds.2 in
     let behind = last.0 ++ entry_by before.number (Attempt task asked last.1 (length last.0) (Some got)) ∷ [] in (
@@ -33,6 +33,6 @@ grant_asks task asked got before after adds =
     )
 
 module _ {E : Type 0} where
-  pub acquire_asks : (result : Result ℕ E) (task asked : ℕ) (before after : PassState) → IfOk result (λ got. AddsGrant before.number task asked got (own_entries before) (own_entries after)) → OnOk result (FirstAsks asked before after)
+  pub acquire_asks : (result : Result ℕ E) (task asked : ℕ) (before after : WorkerView) → IfOk result (λ got. AddsGrant before.number task asked got (own_entries before) (own_entries after)) → OnOk result (FirstAsks asked before after)
   acquire_asks (Ok got) task asked before after adds = grant_asks task asked got before after adds
   acquire_asks (Err e) task asked before after adds = tt

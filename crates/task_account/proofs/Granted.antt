@@ -9,7 +9,7 @@ use Rattle.pool_ledger.specs.declared.entry.Event.TheVariants.{Attempt}
 use Rattle.pool_ledger.specs.History.{History, held, total}
 use Rattle.pool_ledger.specs.Journal.{history_of}
 use Rattle.pool_laws.specs.Growing.{entry_by}
-use Rattle.turn_lock.specs.Passes.{PassState}
+use Rattle.turn_lock.specs.Passes.{WorkerView}
 use Rattle.memory_lock.specs.Workers.{AddsAttempt, AddsGrant, AddsWaits, IsWait}
 use Rattle.task_pool.specs.Accounts.{Grants}
 use Rattle.memory_lock.proofs.Staying.{all_imply}
@@ -74,7 +74,7 @@ short_counts task asked moved evictions got less =
     let short : nat_lt got asked ≡ true = grind arith in rw (itself task, short) refl
 
 -- the grant of an acquire
-pub granted_is : (floor task asked got : ℕ) (before after : PassState) → AddsGrant before.number task asked got (own_entries before) (own_entries after) → got ≤ asked
+pub granted_is : (floor task asked got : ℕ) (before after : WorkerView) → AddsGrant before.number task asked got (own_entries before) (own_entries after) → got ≤ asked
     → held (own_of after) task ≡ held (own_of before) task + got → held (own_of after) task ≤ 2 ^ 50 → (got < asked → floor ≤ held (own_of after) task) → Grants (held_by floor task before) (held_by floor task after) asked got
 granted_is floor task asked got before after adds few grows small floored =
     let worker = before.number in
@@ -102,7 +102,7 @@ granted_is floor task asked got before after adds few grows small floored =
     }
 
 module _ {E : Type 0} where
-  pub acquire_grants : (result : Result ℕ E) (floor task asked : ℕ) (before after : PassState)
+  pub acquire_grants : (result : Result ℕ E) (floor task asked : ℕ) (before after : WorkerView)
       → IfOk result (λ got. AddsGrant before.number task asked got (own_entries before) (own_entries after)) → IfOk result (λ got. got ≤ asked)
       → IfOk result (λ got. held (own_of after) task ≡ held (own_of before) task + got) → IfOk result (λ _. held (own_of after) task ≤ 2 ^ 41)
       → IfOk result (λ got. got < asked → floor ≤ held (own_of after) task) → IfOk result (λ got. Grants (held_by floor task before) (held_by floor task after) asked got)

@@ -4,7 +4,7 @@ use Rattle.std.proofs.lemmas.List.{reverse-append}
 use Rattle.pool_ledger.specs.declared.entry.Entry.{Entry}
 use Rattle.pool_ledger.specs.History.{History, held}
 use Rattle.pool_ledger.specs.Journal.{history_of}
-use Rattle.turn_lock.specs.Passes.{PassState}
+use Rattle.turn_lock.specs.Passes.{WorkerView}
 use Rattle.task_pool.specs.Asks.{AddsAsks}
 use Rattle.task_pool.specs.Workers.{own_entries, own_of}
 use Rattle.task_account.specs.Attempts.{most_held}
@@ -21,6 +21,6 @@ pub peak_grows : (task : ℕ) (own added : List Entry) → most_held (history_of
 peak_grows task own added =
     subst (λ (h : History). most_held (history_of own) task ≤ most_held h task) (sym (reverse-append own added)) (most_grows task (history_of added) (history_of own))
 
-pub added_peak : (task : ℕ) (before after : PassState) → AddsAsks before.number task (own_entries before) (own_entries after) → most_held (own_of before) task ≤ most_held (own_of after) task
+pub added_peak : (task : ℕ) (before after : WorkerView) → AddsAsks before.number task (own_entries before) (own_entries after) → most_held (own_of before) task ≤ most_held (own_of after) task
 added_peak task before after adds =
     subst (λ (es : List Entry). most_held (own_of before) task ≤ most_held (history_of es) task) (sym adds.1) (peak_grows task (own_entries before) adds.0)

@@ -4,7 +4,7 @@ use Rattle.std.specs.Prelude.{ℕ, ◌==◌, ◌&&◌, nat_lt, if◌then◌else�
 use Rattle.pool_ledger.specs.declared.entry.Event.{Event}
 use Rattle.pool_ledger.specs.declared.entry.Event.TheVariants.{Attempt}
 use Rattle.pool_ledger.specs.History.{History, held, total}
-use Rattle.turn_lock.specs.Passes.{PassState}
+use Rattle.turn_lock.specs.Passes.{WorkerView}
 use Rattle.task_pool.specs.Workers.{own_of}
 use Rattle.task_pool.specs.Accounts.{Held}
 
@@ -38,7 +38,7 @@ most_held [] task = 0
 most_held (entry ∷ before) task = max (most_held before task) (held (entry ∷ before) task)
 
 -- what a worker knows of its task, in a pool with this floor
-abbrev pub held_by : ℕ → ℕ → PassState → Held
+abbrev pub held_by : ℕ → ℕ → WorkerView → Held
 held_by floor task worker = record {
   held = held (own_of worker) task;
   peak = most_held (own_of worker) task;

@@ -2,13 +2,13 @@
 -- This project's own.
 use Rattle.std.specs.Prelude.{ℕ}
 use Rattle.pool_ledger.specs.Sizes.{Sizes, floor_of}
-use Rattle.turn_lock.specs.Passes.{LockId, PassState}
+use Rattle.turn_lock.specs.Passes.{LockId, WorkerView}
 use Rattle.task_pool.specs.Pools.{PoolState}
 use Rattle.task_account.specs.declared.account.Account.{Account}
 use Rattle.task_account.specs.Attempts.{held_by}
 
 -- a worker with its task, in a pool of these sizes; `lent` is the name under which the worker is lent
-abbrev pub pool_at : Sizes → LockId → ℕ → PassState → ℕ → PoolState
+abbrev pub pool_at : Sizes → LockId → ℕ → WorkerView → ℕ → PoolState
 pool_at sizes lock task worker lent = record {
   lock = lock;
   task = task;

@@ -4,8 +4,8 @@ use Rattle.std.proofs.lemmas.List.{append-nil}
 use Rattle.std.specs.List.{AllByRecursion}
 use Rattle.pool_ledger.specs.declared.entry.Entry.{Entry}
 use Rattle.pool_ledger.specs.declared.entry.Event.{Event}
-use Rattle.pool_ledger.specs.declared.entry.Event.TheVariants.{Admit, Attempt, Begin, End, Evict, Pin, Refused, Release, Remove, Unpin}
-use Rattle.turn_lock.specs.Passes.{PassState}
+use Rattle.pool_ledger.specs.declared.entry.Event.TheVariants.{Admit, Attempt, Begin, End, Evict, Grow, Pin, Refused, Release, Remove, Unpin}
+use Rattle.turn_lock.specs.Passes.{WorkerView}
 use Rattle.task_pool.specs.Asks.{AddsAsks, FirstAsks, IsOfTask, first_asked, first_ask_of}
 use Rattle.task_pool.specs.Workers.{SeesMore, own_entries}
 use Rattle.task_pool.specs.Pools.{Goes, IsAtWork, PoolState}
@@ -21,10 +21,10 @@ then_asks worker task before amid after first last = (
   all_append (IsOfTask worker task) first.0 last.0 first.2 last.2,
 )
 
-pub sees_itself : (worker : PassState) → SeesMore worker worker
+pub sees_itself : (worker : WorkerView) → SeesMore worker worker
 sees_itself worker = record { lock_is = refl; number_is = refl; speaks_is = refl; spare_is = refl; begins = ([], append-nil worker.seen) }
 
-pub sees_more : (before amid after : PassState) → SeesMore before amid → SeesMore amid after → SeesMore before after
+pub sees_more : (before amid after : WorkerView) → SeesMore before amid → SeesMore amid after → SeesMore before after
 sees_more before amid after one two = record {
   lock_is = two.lock_is ∙ one.lock_is;
   number_is = two.number_is ∙ one.number_is;
@@ -77,6 +77,7 @@ first_more (Refused dataset part size borrowed evictions) asked one two so is = 
 first_more (Pin dataset part read) asked one two so is = so is
 first_more (Unpin dataset part) asked one two so is = so is
 first_more (Remove dataset part size) asked one two so is = so is
+first_more (Grow bytes) asked one two so is = so is
 
 stays_first : (added more : List Entry) (asked : ℕ) → first_asked added ≡ Some asked → first_asked (added ++ more) ≡ Some asked
 stays_first [] more asked is = grind (arith, is)

@@ -6,7 +6,7 @@ use Rattle.pool_ledger.specs.declared.entry.Entry.{Entry}
 use Rattle.pool_ledger.specs.declared.entry.Event.{Event}
 use Rattle.pool_ledger.specs.declared.entry.Event.TheVariants.{Attempt, Release}
 use Rattle.pool_laws.specs.Growing.{entry_by}
-use Rattle.turn_lock.specs.Passes.{PassState}
+use Rattle.turn_lock.specs.Passes.{WorkerView}
 use Rattle.task_pool.specs.Workers.{IsEviction, own_entries}
 
 -- the entry is an attempt of the worker's task
@@ -36,5 +36,5 @@ first_asked [] = None
 first_asked (entry ∷ more) = first_ask_of entry.event (first_asked more)
 
 -- attempts were added, of which the first asks so many bytes
-abbrev pub FirstAsks : ℕ → PassState → PassState → Type 0
+abbrev pub FirstAsks : ℕ → WorkerView → WorkerView → Type 0
 FirstAsks asked before after = (added : List Entry) × (own_entries after ≡ own_entries before ++ added) × (first_asked added ≡ Some asked)

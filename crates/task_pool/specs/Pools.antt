@@ -1,7 +1,7 @@
 -- A task with its worker and its pool, and how a call goes on with them.
 -- This project's own.
 use Rattle.std.specs.Prelude.{ℕ, ◌≡◌, ◌≤◌}
-use Rattle.turn_lock.specs.Passes.{LockId, PassState}
+use Rattle.turn_lock.specs.Passes.{LockId, WorkerView}
 use Rattle.task_pool.specs.Accounts.{Held}
 use Rattle.task_pool.specs.Asks.{AddsAsks}
 use Rattle.task_pool.specs.Workers.{IsOpen, KeepsPin, KeepsTask, SeesMore, own_entries}
@@ -10,7 +10,7 @@ use Rattle.task_pool.specs.Workers.{IsOpen, KeepsPin, KeepsTask, SeesMore, own_e
 pub record PoolState : Type 0 where
   pub lock : LockId
   pub task : ℕ
-  pub worker : PassState
+  pub worker : WorkerView
   pub account : Held
   pub lent : ℕ
 

@@ -4,7 +4,7 @@ use Rattle.std.specs.Prelude.{All, slice_get}
 use Rattle.spill_disk.specs.Files.{Files}
 use Rattle.consumer_trait.specs.States.{State}
 use Rattle.memory_core.specs.Caches.{RowsByName}
-use Rattle.turn_lock.specs.Passes.{LockId, PassState}
+use Rattle.turn_lock.specs.Passes.{LockId, WorkerView}
 use Rattle.pool_ledger.specs.History.{was_begun}
 use Rattle.memory_lock.specs.Workers.{own_of}
 use Rattle.task_runner.specs.AllWorkers.{files_of}
@@ -23,7 +23,7 @@ place_is [] place any within = absurd (omega (arith, within))
 place_is (x ∷ xs) zero any within = refl
 place_is (x ∷ xs) (suc place) any within = place_is xs place any (omega (arith, within))
 
-pub all_may : {D C : Type 0} (state : C → State) (files : D → Option Files) (lock : LockId) (owner : ℕ → Option ℕ) (count : ℕ) (given : RowsByName) (pass : PassView) (workers : List PassState) (posts : List (Post D C))
+pub all_may : {D C : Type 0} (state : C → State) (files : D → Option Files) (lock : LockId) (owner : ℕ → Option ℕ) (count : ℕ) (given : RowsByName) (pass : PassView) (workers : List WorkerView) (posts : List (Post D C))
     → length workers ≡ count → count ≤ length posts → length posts < 2 ^ 32 → IsPass pass → MayDoAll lock owner pass workers → SaysAll (λ place. files_of files (slice_get posts place)) given pass count
     → All (λ post. HasConsumers (map state post.consumers.items)) posts → AllMayRun state files lock owner count given pass workers posts
 all_may {D = D} {C = C} state files lock owner count given pass workers posts size most few_posts is may says consumers place worker post within =

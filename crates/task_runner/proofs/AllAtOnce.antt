@@ -7,7 +7,7 @@ use Rattle.pool_ledger.specs.Sizes.{Sizes}
 use Rattle.spill_disk.specs.Files.{Files}
 use Rattle.run_file.specs.declared.run.Run.{Run}
 use Rattle.memory_core.specs.Caches.{RowsByName}
-use Rattle.turn_lock.specs.Passes.{PassState}
+use Rattle.turn_lock.specs.Passes.{WorkerView}
 use Rattle.memory_lock.specs.Workers.{IsFree, own_of}
 use Rattle.consumer_trait.specs.States.{State}
 use Rattle.worker_threads.specs.Places.{AtEachPlace, AtPlace}
@@ -25,8 +25,8 @@ use Rattle.task_runner.proofs.Idle.{leaves_same}
 
 -- ---- where nobody was called
 
-pub reached_idle : {D C : Type 0} (state : C → State) (files : D → Option Files) (faults : D → ℕ) (workers : ℕ) (pass : PassView) (olds : List PassState) (posts : List (Post D C))
-    → ((w : ℕ) (any : PassState) → w < workers → IsFree (get_or olds w any)) → Reached state files faults workers workers pass olds olds posts posts
+pub reached_idle : {D C : Type 0} (state : C → State) (files : D → Option Files) (faults : D → ℕ) (workers : ℕ) (pass : PassView) (olds : List WorkerView) (posts : List (Post D C))
+    → ((w : ℕ) (any : WorkerView) → w < workers → IsFree (get_or olds w any)) → Reached state files faults workers workers pass olds olds posts posts
 reached_idle state files faults workers pass olds posts free = record {
   each = λ w any below. leaves_same state files faults workers w pass (get_or olds w any) (slice_get posts w) (free w any below);
   still = λ w any above. refl;
@@ -37,7 +37,7 @@ reached_idle state files faults workers pass olds posts free = record {
 -- ---- the same pass
 
 pub ran_alike : {D C : Type 0} (state : C → State) (files : D → Option Files) (faults : D → ℕ) (sizes : Sizes) (count : ℕ) (given : RowsByName) (inner pass : PassView) → inner ≡ pass
-    → (olds news : List PassState) (posts posts' : List (Post D C)) (told : List (Result (Vec (Option Run)) WorkFault))
+    → (olds news : List WorkerView) (posts posts' : List (Post D C)) (told : List (Result (Vec (Option Run)) WorkFault))
     → AtEachPlace (Ran state files faults sizes count given inner) 0 olds news posts posts' told → AtEachPlace (Ran state files faults sizes count given pass) 0 olds news posts posts' told
 ran_alike state files faults sizes count given inner pass same olds news posts posts' told ran =
     subst (λ (view : PassView). AtEachPlace (Ran state files faults sizes count given view) 0 olds news posts posts' told) same ran
@@ -50,12 +50,12 @@ value_at (y ∷ xs) zero x d is = let same : Some y ≡ Some x = is in let inner
 value_at (y ∷ xs) (suc n) x d is = value_at xs n x d is
 
 -- what holds of the worker and the post of a place holds of them in their lists
-at_lists : {D C : Type 0} (P : PassState → PassState → Option (Post D C) → Option (Post D C) → Type 0) (olds news : List PassState) (posts posts' : List (Post D C)) (n : ℕ) (any w w' : PassState) (p p' : Post D C)
+at_lists : {D C : Type 0} (P : WorkerView → WorkerView → Option (Post D C) → Option (Post D C) → Type 0) (olds news : List WorkerView) (posts posts' : List (Post D C)) (n : ℕ) (any w w' : WorkerView) (p p' : Post D C)
     → slice_get olds n ≡ Some w → slice_get news n ≡ Some w' → slice_get posts n ≡ Some p → slice_get posts' n ≡ Some p' → P w w' (Some p) (Some p')
     → P (get_or olds n any) (get_or news n any) (slice_get posts n) (slice_get posts' n)
 at_lists {D = D} {C = C} P olds news posts posts' n any w w' p p' old new post post' holds =
-    subst (λ (s : PassState). P s (get_or news n any) (slice_get posts n) (slice_get posts' n)) (sym (value_at olds n w any old))
-    (subst (λ (s : PassState). P w s (slice_get posts n) (slice_get posts' n)) (sym (value_at news n w' any new))
+    subst (λ (s : WorkerView). P s (get_or news n any) (slice_get posts n) (slice_get posts' n)) (sym (value_at olds n w any old))
+    (subst (λ (s : WorkerView). P w s (slice_get posts n) (slice_get posts' n)) (sym (value_at news n w' any new))
     (subst (λ (o : Option (Post D C)). P w w' o (slice_get posts' n)) (sym post)
     (subst (λ (o : Option (Post D C)). P w w' (Some p) o) (sym post') holds)))
 
@@ -68,7 +68,7 @@ here : {W P A : Type 0} (R : ℕ → W → W → P → P → A → Type 0) (ws w
 here R ws ws' ps ps' told all k within =
     subst (λ (j : ℕ). AtPlace R j (slice_get ws k) (slice_get ws' k) (slice_get ps k) (slice_get ps' k) (slice_get told k)) (from_zero k) (all.each k within)
 
-module _ {D C : Type 0} (state : C → State) (files : D → Option Files) (faults : D → ℕ) (sizes : Sizes) (count : ℕ) (given : RowsByName) (pass : PassView) (olds news : List PassState) (posts posts' : List (Post D C))
+module _ {D C : Type 0} (state : C → State) (files : D → Option Files) (faults : D → ℕ) (sizes : Sizes) (count : ℕ) (given : RowsByName) (pass : PassView) (olds news : List WorkerView) (posts posts' : List (Post D C))
     (told : List (Result (Vec (Option Run)) WorkFault)) (size : length olds ≡ count)
     (ran : AtEachPlace (Ran state files faults sizes count given pass) 0 olds news posts posts' told) where
   -- ---- what they left
@@ -87,17 +87,17 @@ module _ {D C : Type 0} (state : C → State) (files : D → Option Files) (faul
   }
 
   -- each rests
-  pub rests_at_once : (w : ℕ) (any : PassState) → w < count → (get_or news w any).base ≡ None
+  pub rests_at_once : (w : ℕ) (any : WorkerView) → w < count → (get_or news w any).base ≡ None
   rests_at_once w any below =
       let at = here (Ran state files faults sizes count given pass) olds news posts posts' told ran w (omega (arith, below, size)) in
-      ap (λ (s : PassState). s.base) (value_at news w at.one_after any at.one_left) ∙ at.did.rests
+      ap (λ (s : WorkerView). s.base) (value_at news w at.one_after any at.one_left) ∙ at.did.rests
 
   -- ---- what they answered
 
   is_told : (k : ℕ) (one other : Result (Vec (Option Run)) WorkFault) → slice_get told k ≡ Some one → slice_get told k ≡ Some other → one ≡ other
   is_told k one other first second = let both : Some one ≡ Some other = sym first ∙ second in let same : one ≡ other = cc in same
 
-  finishes_of : (place : ℕ) (before after : PassState) (post post' : Option (Post D C)) (answer : Result (Vec (Option Run)) WorkFault) (answers : Vec (Option Run)) → answer ≡ Ok answers
+  finishes_of : (place : ℕ) (before after : WorkerView) (post post' : Option (Post D C)) (answer : Result (Vec (Option Run)) WorkFault) (answers : Vec (Option Run)) → answer ≡ Ok answers
       → IfOk answer (λ answers. Finishes state files count place given pass before after post post' answers.items) → Finishes state files count place given pass before after post post' answers.items
   finishes_of place before after post post' answer answers is done = rw is at done
 
@@ -139,7 +139,7 @@ module _ {D C : Type 0} (state : C → State) (files : D → Option Files) (faul
       ]
 
   pub room_at_once : {T : Type 0} (result : Result T WorkFault) → TellsFirstFault told result
-      → IfNoRoom result (λ asked held floor. (worker task : ℕ) × (worker < count) × ((any : PassState) → ShowsNoRoom sizes (own_of (get_or news worker any)) task asked held floor))
+      → IfNoRoom result (λ asked held floor. (worker task : ℕ) × (worker < count) × ((any : WorkerView) → ShowsNoRoom sizes (own_of (get_or news worker any)) task asked held floor))
   room_at_once (Ok all) tells = tt
   room_at_once (Err (DiskFault post)) tells = tt
   room_at_once (Err (Damaged damage)) tells = tt
@@ -157,7 +157,7 @@ module _ {D C : Type 0} (state : C → State) (files : D → Option Files) (faul
               first.place,
               shows.0,
               omega (arith, within, answered, size),
-              λ any. subst (λ (w : PassState). ShowsNoRoom sizes (own_of w) shows.0 asked held floor) (sym (value_at news first.place at.one_after any at.one_left)) shows.1,
+              λ any. subst (λ (w : WorkerView). ShowsNoRoom sizes (own_of w) shows.0 asked held floor) (sym (value_at news first.place at.one_after any at.one_left)) shows.1,
             )
       ]
 

@@ -14,7 +14,7 @@ use Rattle.task_memory.specs.RunLists.{runs_at}
 use Rattle.run_file.specs.Shelved.{IsNotThere}
 use Rattle.task_memory.proofs.Places.{less_or_not}
 use Rattle.task_memory.proofs.Sameness.{same_at_self}
-use Rattle.turn_lock.specs.Passes.{PassState}
+use Rattle.turn_lock.specs.Passes.{WorkerView}
 use Rattle.consumer_trait.specs.States.{State}
 use Rattle.task_runner.specs.AllWorkers.{Finished, Reached, answers_of, files_of, states_of}
 use Rattle.task_runner.specs.Consumers.{KeepsConsumers}
@@ -49,7 +49,7 @@ made_new before (Some run) made = made.fresh
 
 -- ---- the runs that all workers answered, a list for each query
 
-module _ {D C : Type 0} (state : C → State) (files : D → Option Files) (workers : ℕ) (given : RowsByName) (pass : PassView) (olds news : List PassState) (posts posts' : List (Post D C)) (all : List (List (Option Run))) (any : PassState)
+module _ {D C : Type 0} (state : C → State) (files : D → Option Files) (workers : ℕ) (given : RowsByName) (pass : PassView) (olds news : List WorkerView) (posts posts' : List (Post D C)) (all : List (List (Option Run))) (any : WorkerView)
     (some : 1 ≤ workers) (done : Finished state files workers workers given pass olds news posts posts' all) where
   abbrev n : ℕ
   n = queries_of pass
@@ -222,7 +222,7 @@ keeps_same before after file same = subst (λ (files : Option Files). KeepsFile 
     itself None = tt
     itself (Some files) = λ there. refl
 
-pub keeps_all : {D C : Type 0} (state : C → State) (files : D → Option Files) (faults : D → ℕ) (workers n : ℕ) (pass : PassView) (olds news : List PassState) (posts posts' : List (Post D C)) (any : PassState)
+pub keeps_all : {D C : Type 0} (state : C → State) (files : D → Option Files) (faults : D → ℕ) (workers n : ℕ) (pass : PassView) (olds news : List WorkerView) (posts posts' : List (Post D C)) (any : WorkerView)
     → Reached state files faults workers n pass olds news posts posts' → (disk file : ℕ) → KeepsFile (files_of files (slice_get posts disk)) (files_of files (slice_get posts' disk)) file
 keeps_all {D = D} {C = C} state files faults workers n pass olds news posts posts' any so_far disk file =
     elim (cases_lt disk n) [
@@ -230,7 +230,7 @@ keeps_all {D = D} {C = C} state files faults workers n pass olds news posts post
       | inr high ↦ keeps_same (files_of files (slice_get posts disk)) (files_of files (slice_get posts' disk)) file (ap (λ (p : Option (Post D C)). files_of files p) (so_far.others disk high))
     ]
 
-pub consumers_kept : {D C : Type 0} (state : C → State) (files : D → Option Files) (faults : D → ℕ) (workers n : ℕ) (pass : PassView) (olds news : List PassState) (posts posts' : List (Post D C)) (any : PassState)
+pub consumers_kept : {D C : Type 0} (state : C → State) (files : D → Option Files) (faults : D → ℕ) (workers n : ℕ) (pass : PassView) (olds news : List WorkerView) (posts posts' : List (Post D C)) (any : WorkerView)
     → Reached state files faults workers n pass olds news posts posts' → (w : ℕ) → KeepsConsumers (states_of state (slice_get posts w)) (states_of state (slice_get posts' w))
 consumers_kept {D = D} {C = C} state files faults workers n pass olds news posts posts' any so_far w =
     elim (cases_lt w n) [

@@ -6,7 +6,7 @@ use Rattle.spill_disk.specs.Files.{Files}
 use Rattle.run_file.specs.declared.run.Run.{Run}
 use Rattle.memory_core.specs.Caches.{RowsByName}
 use Rattle.task_memory.specs.Disks.{LeavesDisk}
-use Rattle.turn_lock.specs.Passes.{PassState}
+use Rattle.turn_lock.specs.Passes.{WorkerView}
 use Rattle.memory_lock.specs.Workers.{IsFree, KeepsPin, SeesMore, own_of}
 use Rattle.consumer_trait.specs.States.{State}
 use Rattle.task_runner.specs.Blocks.{TellsTask}
@@ -44,7 +44,7 @@ faults_of faults post = option_map_or faults (option_map (λ post. post.disk) po
 -- ---- one worker
 
 -- what the worker at a place leaves, whether it did all of its tasks or not
-pub record Leaves {D C : Type 0} (state : C → State) (files : D → Option Files) (faults : D → ℕ) (workers place : ℕ) (pass : PassView) (before after : PassState) (post post' : Option (Post D C)) : Type 0 where
+pub record Leaves {D C : Type 0} (state : C → State) (files : D → Option Files) (faults : D → ℕ) (workers place : ℕ) (pass : PassView) (before after : WorkerView) (post post' : Option (Post D C)) : Type 0 where
   pub may_work : DoesSome pass.first workers place (parts_of pass) before after
   pub free : IsFree after
   pub pin : KeepsPin before after
@@ -53,7 +53,7 @@ pub record Leaves {D C : Type 0} (state : C → State) (files : D → Option Fil
   pub disk : LeavesDisk (files_of files post) (files_of files post') (faults_of faults post) (faults_of faults post')
 
 -- the worker at a place did all of its tasks, with these answers
-pub record Finishes {D C : Type 0} (state : C → State) (files : D → Option Files) (workers place : ℕ) (given : RowsByName) (pass : PassView) (before after : PassState) (post post' : Option (Post D C)) (answers : List (Option Run)) : Type 0 where
+pub record Finishes {D C : Type 0} (state : C → State) (files : D → Option Files) (workers place : ℕ) (given : RowsByName) (pass : PassView) (before after : WorkerView) (post post' : Option (Post D C)) (answers : List (Option Run)) : Type 0 where
   pub tasks : ℕ
   pub count : IsCount workers place (parts_of pass) tasks
   pub many : length answers ≡ tasks * queries_of pass
@@ -69,10 +69,10 @@ pub record Finishes {D C : Type 0} (state : C → State) (files : D → Option F
 -- ---- all workers
 
 -- the workers at the places below `n` left their posts and entries; the others are as they were
-pub record Reached {D C : Type 0} (state : C → State) (files : D → Option Files) (faults : D → ℕ) (workers n : ℕ) (pass : PassView) (olds news : List PassState) (posts posts' : List (Post D C)) : Type 0 where
-  pub each : (w : ℕ) (any : PassState) → w < n
+pub record Reached {D C : Type 0} (state : C → State) (files : D → Option Files) (faults : D → ℕ) (workers n : ℕ) (pass : PassView) (olds news : List WorkerView) (posts posts' : List (Post D C)) : Type 0 where
+  pub each : (w : ℕ) (any : WorkerView) → w < n
       → Leaves state files faults workers w pass (slice_index_or olds w any) (slice_index_or news w any) (slice_get posts w) (slice_get posts' w)
-  pub still : (w : ℕ) (any : PassState) → n ≤ w → slice_index_or news w any ≡ slice_index_or olds w any
+  pub still : (w : ℕ) (any : WorkerView) → n ≤ w → slice_index_or news w any ≡ slice_index_or olds w any
   pub others : (place : ℕ) → n ≤ place → slice_get posts' place ≡ slice_get posts place
   pub count : length posts' ≡ length posts
 
@@ -81,7 +81,7 @@ abbrev pub answers_of : List (List (Option Run)) → ℕ → List (Option Run)
 answers_of all worker = slice_index_or all worker []
 
 -- the workers at the places below `n` did all of their tasks, with these answers, a list for each worker
-pub record Finished {D C : Type 0} (state : C → State) (files : D → Option Files) (workers n : ℕ) (given : RowsByName) (pass : PassView) (olds news : List PassState) (posts posts' : List (Post D C)) (all : List (List (Option Run))) : Type 0 where
+pub record Finished {D C : Type 0} (state : C → State) (files : D → Option Files) (workers n : ℕ) (given : RowsByName) (pass : PassView) (olds news : List WorkerView) (posts posts' : List (Post D C)) (all : List (List (Option Run))) : Type 0 where
   pub count : length all ≡ n
-  pub each : (w : ℕ) (any : PassState) → w < n
+  pub each : (w : ℕ) (any : WorkerView) → w < n
       → Finishes state files workers w given pass (slice_index_or olds w any) (slice_index_or news w any) (slice_get posts w) (slice_get posts' w) (answers_of all w)

@@ -8,7 +8,7 @@ use Rattle.pool_ledger.specs.Sizes.{Sizes}
 use Rattle.spill_disk.specs.Files.{Files}
 use Rattle.run_file.specs.declared.run.Run.{Run}
 use Rattle.memory_core.specs.Caches.{RowsByName}
-use Rattle.turn_lock.specs.Passes.{LockId, PassState}
+use Rattle.turn_lock.specs.Passes.{LockId, WorkerView}
 use Rattle.memory_lock.specs.Workers.{HasNoPin, IsFree, own_of}
 use Rattle.task_runner.specs.AllWorkers.{Finishes, Leaves, answers_of}
 use Rattle.task_runner.specs.Answers.{HasCauseAmong, NamesPost}
@@ -26,7 +26,7 @@ use Rattle.task_runner.specs.declared.work_fault.WorkFault.TheVariants.{NoMemory
 
 -- the worker of this place may do its tasks at this post: it has no task and no pin, owns those of its partitions, and began none of
 -- them
-pub record MayRun {D C : Type 0} (state : C → State) (files : D → Option Files) (lock : LockId) (owner : ℕ → Option ℕ) (workers : ℕ) (given : RowsByName) (pass : PassView) (place : ℕ) (worker : PassState) (post : Post D C) : Type 0 where
+pub record MayRun {D C : Type 0} (state : C → State) (files : D → Option Files) (lock : LockId) (owner : ℕ → Option ℕ) (workers : ℕ) (given : RowsByName) (pass : PassView) (place : ℕ) (worker : WorkerView) (post : Post D C) : Type 0 where
   pub lock_is : worker.lock ≡ lock
   pub known : place < workers
   pub narrow : place < 2 ^ 32
@@ -41,7 +41,7 @@ pub record MayRun {D C : Type 0} (state : C → State) (files : D → Option Fil
   pub pass_is : IsPass pass
 
 -- what the worker of this place leaves there, and what it answers
-pub record Ran {D C : Type 0} (state : C → State) (files : D → Option Files) (faults : D → ℕ) (sizes : Sizes) (workers : ℕ) (given : RowsByName) (pass : PassView) (place : ℕ) (before after : PassState) (post post' : Post D C) (answer : Result (Vec (Option Run)) WorkFault) : Type 0 where
+pub record Ran {D C : Type 0} (state : C → State) (files : D → Option Files) (faults : D → ℕ) (sizes : Sizes) (workers : ℕ) (given : RowsByName) (pass : PassView) (place : ℕ) (before after : WorkerView) (post post' : Post D C) (answer : Result (Vec (Option Run)) WorkFault) : Type 0 where
   pub finishes : IfOk answer (λ answers. Finishes state files workers place given pass before after (Some post) (Some post') answers.items)
   pub leaves : Leaves state files faults workers place pass before after (Some post) (Some post')
   pub sound : (rows : ℕ → List (List (List ℕ))) → HoldsOwn (files post.disk) given pass workers place rows → IfSound (λ _. ⊤) answer
@@ -53,24 +53,24 @@ pub record Ran {D C : Type 0} (state : C → State) (files : D → Option Files)
 -- ---- all of them
 
 -- the worker of a partition: of `n` workers the one at the place `part % n`
-abbrev pub worker_for : List PassState → ℕ → PassState → PassState
+abbrev pub worker_for : List WorkerView → ℕ → WorkerView → WorkerView
 worker_for workers part any = slice_index_or workers (part % length workers) any
 
 -- the workers are of this lock and rest, have no task and no pin, own those of their partitions, and began none of them
-pub record MayDoAll (lock : LockId) (owner : ℕ → Option ℕ) (pass : PassView) (workers : List PassState) : Type 0 where
-  pub locks : (place : ℕ) (any : PassState) → place < length workers → (slice_index_or workers place any).lock ≡ lock
-  pub rests : (place : ℕ) (any : PassState) → place < length workers → (slice_index_or workers place any).base ≡ None
-  pub free : (place : ℕ) (any : PassState) → place < length workers → IsFree (slice_index_or workers place any)
-  pub unpinned : (place : ℕ) (any : PassState) → place < length workers → HasNoPin (slice_index_or workers place any)
-  pub owns : (part : ℕ) (any : PassState) → part < parts_of pass
+pub record MayDoAll (lock : LockId) (owner : ℕ → Option ℕ) (pass : PassView) (workers : List WorkerView) : Type 0 where
+  pub locks : (place : ℕ) (any : WorkerView) → place < length workers → (slice_index_or workers place any).lock ≡ lock
+  pub rests : (place : ℕ) (any : WorkerView) → place < length workers → (slice_index_or workers place any).base ≡ None
+  pub free : (place : ℕ) (any : WorkerView) → place < length workers → IsFree (slice_index_or workers place any)
+  pub unpinned : (place : ℕ) (any : WorkerView) → place < length workers → HasNoPin (slice_index_or workers place any)
+  pub owns : (part : ℕ) (any : WorkerView) → part < parts_of pass
       → owner (task_for pass part) ≡ Some (worker_for workers part any).number
-  pub fresh : (part : ℕ) (any : PassState) → part < parts_of pass
+  pub fresh : (part : ℕ) (any : WorkerView) → part < parts_of pass
       → was_begun (own_of (worker_for workers part any)) (task_for pass part) ≡ false
 
 -- the worker of each place may do its tasks there
-abbrev pub AllMayRun : {D C : Type 0} → (C → State) → (D → Option Files) → LockId → (ℕ → Option ℕ) → ℕ → RowsByName → PassView → List PassState → List (Post D C) → Type 0
+abbrev pub AllMayRun : {D C : Type 0} → (C → State) → (D → Option Files) → LockId → (ℕ → Option ℕ) → ℕ → RowsByName → PassView → List WorkerView → List (Post D C) → Type 0
 AllMayRun {D = D} {C = C} state files lock owner count given pass workers posts =
-    (place : ℕ) (worker : PassState) (post : Post D C) → place < length workers
+    (place : ℕ) (worker : WorkerView) (post : Post D C) → place < length workers
     → MayRun state files lock owner count given pass place (slice_index_or workers place worker) (slice_index_or posts place post)
 
 -- each worker answered its list of these

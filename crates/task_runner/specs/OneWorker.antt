@@ -4,7 +4,7 @@ use Rattle.std.specs.Prelude.{◌≡◌, ℕ, ◌*◌, ◌<◌, List, ◌++◌, 
 use Rattle.spill_disk.specs.Files.{Files}
 use Rattle.run_file.specs.declared.run.Run.{Run}
 use Rattle.memory_core.specs.Caches.{RowsByName}
-use Rattle.turn_lock.specs.Passes.{PassState}
+use Rattle.turn_lock.specs.Passes.{WorkerView}
 use Rattle.memory_lock.specs.Workers.{IsFree, KeepsPin, SeesMore, own_of}
 use Rattle.consumer_trait.specs.States.{State}
 use Rattle.task_memory.specs.Disks.{LeavesDisk}
@@ -20,13 +20,13 @@ use Rattle.task_runner.specs.Works.{Works}
 
 -- a worker, the consumers of its post, and the files and the count of faults of its post's disk
 pub record WorkerScene : Type 0 where
-  pub worker : PassState
+  pub worker : WorkerView
   pub states : List State
   pub files : Option Files
   pub faults : ℕ
 
 -- these together
-abbrev pub scene_by : PassState → List State → Option Files → ℕ → WorkerScene
+abbrev pub scene_by : WorkerView → List State → Option Files → ℕ → WorkerScene
 scene_by worker states files faults = record { worker = worker; states = states; files = files; faults = faults }
 
 -- what holds after tasks, whether or not they were all done

@@ -4,7 +4,7 @@ ghost use Rattle.std.specs.Prelude.{◌≡◌, ◌≤◌, ◌<◌, ◌^◌, All,
 ghost use Rattle.memory_lock.specs.Workers.{own_of};
 ghost use Rattle.run_file.specs.Shelved.{faults_on, files_on};
 ghost use Rattle.spill_disk.specs.Shelves.{disk_at};
-ghost use Rattle.turn_lock.specs.Passes.{PassState};
+ghost use Rattle.turn_lock.specs.Passes.{WorkerView};
 ghost use Rattle.task_runner.specs.AllWorkers.{Finished, Reached};
 ghost use Rattle.task_runner.specs.Answers.{HasCauseAmong, NamesSomePost};
 ghost use Rattle.task_runner.specs.AtOnce.{MayDoAll};
@@ -61,11 +61,11 @@ pub(crate) fn run_each<
         (length workers.old.items) rows →
         IfSound (λ _. ⊤) result }
     ensures no_room { IfNoRoom result (λ asked held floor. (worker task : ℕ) × (worker < length workers.old.items)
-        × ((any : PassState) → ShowsNoRoom B.sizes (own_of (slice_index_or workers.new.items worker any)) task
+        × ((any : WorkerView) → ShowsNoRoom B.sizes (own_of (slice_index_or workers.new.items worker any)) task
         asked held floor)) }
     ensures names { NamesSomePost (length workers.old.items) result }
     ensures workers { length workers.new.items ≡ length workers.old.items }
-    ensures rests { (place : ℕ) (any : PassState) → place < length workers.old.items
+    ensures rests { (place : ℕ) (any : WorkerView) → place < length workers.old.items
         → (slice_index_or workers.new.items place any).base ≡ None }
     ensures cause { HasCauseAmong (faults_on (disk_at (λ post. post.disk)) D.faults posts.old)
         (faults_on (disk_at (λ post. post.disk)) D.faults posts.new) result }

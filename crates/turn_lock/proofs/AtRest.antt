@@ -5,7 +5,7 @@ use Rattle.atomic_table.specs.Seated.{TableId}
 use Rattle.atomic_table.specs.Table.{Me}
 use Rattle.atomic_table.specs.declared.badge.Badge.{Badge}
 use Rattle.turn_lock.specs.declared.view.View.{View}
-use Rattle.turn_lock.specs.Passes.{PassState}
+use Rattle.turn_lock.specs.Passes.{WorkerView}
 use Rattle.turn_lock.specs.Views.{state_of, view_at, view_of, emptied_view, joined_view, settled_view, IsAtRest}
 
 -- the one view
@@ -33,7 +33,7 @@ rests_joined n s s' now l l' vs us a b v now_is rest vs_is spare us_is v_is =
     (Contains-append_left a.speaks b.speaks n k.4)
 
 -- the view of a pass that was taken apart
-pub seat_of : (views : List View) (a : View) (p : PassState) → views ≡ a ∷ [] → views ≡ view_at p ∷ [] → a ≡ view_at p
+pub seat_of : (views : List View) (a : View) (p : WorkerView) → views ≡ a ∷ [] → views ≡ view_at p ∷ [] → a ≡ view_at p
 seat_of views a p is state = ap view_of (sym is ∙ state)
 
 -- the views of a badge that was taken out of its place
@@ -46,11 +46,11 @@ module _ {T : Type 0} where
   view_in me v slots is = ap (λ (m : Me (Option T) View). m.0) is
 
 -- what a pass that was taken apart might give away
-pub spare_of : (v : View) (p : PassState) (spare : ℕ) → v ≡ view_at p → spare ≡ p.spare → v.spare ≡ spare
+pub spare_of : (v : View) (p : WorkerView) (spare : ℕ) → v ≡ view_at p → spare ≡ p.spare → v.spare ≡ spare
 spare_of v p spare is same = ap (λ (u : View). u.spare) is ∙ sym same
 
 -- it may still give away a number
-pub spare_left : (views : List View) (a : View) (p : PassState) (lock : TableId) → views ≡ a ∷ [] → state_of lock (view_of views) ≡ p → p.spare < 2 ^ 32 → a.spare < 2 ^ 32
+pub spare_left : (views : List View) (a : View) (p : WorkerView) (lock : TableId) → views ≡ a ∷ [] → state_of lock (view_of views) ≡ p → p.spare < 2 ^ 32 → a.spare < 2 ^ 32
 spare_left views a p lock is state left =
-    let same : a.spare ≡ p.spare = ap (λ (vs : List View). (view_of vs).spare) (sym is) ∙ ap (λ (s : PassState). s.spare) state in
+    let same : a.spare ≡ p.spare = ap (λ (vs : List View). (view_of vs).spare) (sym is) ∙ ap (λ (s : WorkerView). s.spare) state in
     omega arith

@@ -8,7 +8,7 @@ use Rattle.atomic_table.specs.Table.{State, opening, Final, Seen}
 use Rattle.pool_ledger.specs.declared.entry.Entry.{Entry}
 use Rattle.turn_lock.specs.declared.view.Stage.TheVariants.{Idle}
 use Rattle.turn_lock.specs.declared.view.View.{View}
-use Rattle.turn_lock.specs.Passes.{PassState, CoversAll}
+use Rattle.turn_lock.specs.Passes.{WorkerView, CoversAll}
 use Rattle.turn_lock.specs.Views.{first_view, stage_of, view_at}
 use Rattle.turn_lock.specs.Turns.{IsOut, Stands, IsInTurn}
 use Rattle.turn_lock.proofs.Parts.{none_in, part_self, part_whole}
@@ -86,7 +86,7 @@ module _ {T : Type 0} (history : T → List Entry) (fact : T → Type 0) where
       (home.value, f.4 0 (Some home.value) home.at, end_of home.value r.past v.seen home.history_is past_seen home.meets)
 
   -- what is read from the slot of a lock that a pass closes
-  pub closes : (id : ℕ) (v : View) (p : PassState) (ws : List ℕ) (xs : List (Option T)) (found : Option T) → v ≡ view_at p → p.base ≡ None → CoversAll p.speaks p.spare → Final (Seen (IsInTurn history fact) id v) ws xs → get_elem? xs 0 ≡ some found
+  pub closes : (id : ℕ) (v : View) (p : WorkerView) (ws : List ℕ) (xs : List (Option T)) (found : Option T) → v ≡ view_at p → p.base ≡ None → CoversAll p.speaks p.spare → Final (Seen (IsInTurn history fact) id v) ws xs → get_elem? xs 0 ≡ some found
       → (x : T) × (found ≡ Some x) × IsEnd p.seen x
   closes id v p ws xs found is free covers f at =
       let e = ends id v ws xs (ap (λ (u : View). u.stage) is ∙ ap stage_of free) (subst (λ (u : View). CoversAll u.speaks u.spare) (sym is) covers) f in

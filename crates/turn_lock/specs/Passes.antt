@@ -15,7 +15,7 @@ abbrev pub lock_id_coded : Coded LockId
 lock_id_coded = table_id_coded
 
 -- what contracts see of a pass
-pub record PassState : Type 0 where
+pub record WorkerView : Type 0 where
   -- the lock that it is a pass of
   pub lock : LockId
   -- the worker that its entries are by
@@ -34,25 +34,25 @@ abbrev pub CoversAll : List ℕ → ℕ → Type 0
 CoversAll speaks spare = (number : ℕ) → number < 2 ^ 32 → Contains speaks number ⊎ (spare ≤ number)
 
 -- the first pass of a lock
-abbrev pub first_pass : LockId → PassState
+abbrev pub first_pass : LockId → WorkerView
 first_pass lock = record { lock = lock; number = 0; speaks = 0 ∷ []; spare = 1; seen = []; base = None }
 
 -- the pass, with no number left to give away
-abbrev pub without_spare : PassState → PassState
+abbrev pub without_spare : WorkerView → WorkerView
 without_spare pass = record pass { spare = 2 ^ 32 }
 
 -- the pass that the lowest number goes to, with all the rest
-abbrev pub split_from : PassState → PassState
+abbrev pub split_from : WorkerView → WorkerView
 split_from pass = record { lock = pass.lock; number = pass.spare; speaks = pass.spare ∷ []; spare = pass.spare + 1; seen = pass.seen; base = None }
 
 -- the pass with another joined in: it speaks for the numbers of both, and may give away what both might
-abbrev pub joined_with : PassState → PassState → PassState
+abbrev pub joined_with : WorkerView → WorkerView → WorkerView
 joined_with pass other = record { lock = pass.lock; number = pass.number; speaks = pass.speaks ++ other.speaks; spare = min pass.spare other.spare; seen = longer pass.seen other.seen; base = pass.base }
 
 -- the pass with the turn, after it took a value with this history
-abbrev pub holding : List Entry → PassState → PassState
+abbrev pub holding : List Entry → WorkerView → WorkerView
 holding base pass = record pass { base = Some base }
 
 -- the pass without the turn, after it gave back a value with this history
-abbrev pub resting : List Entry → PassState → PassState
+abbrev pub resting : List Entry → WorkerView → WorkerView
 resting seen pass = record pass { seen = seen; base = None }

@@ -6,7 +6,7 @@ use Rattle.turn_lock.specs.declared.view.Stage.{Stage}
 use Rattle.turn_lock.specs.declared.view.Stage.TheVariants.{Idle, Open, Taken}
 use Rattle.turn_lock.specs.declared.view.View.{View}
 use Rattle.turn_lock.specs.Parts.{longer}
-use Rattle.turn_lock.specs.Passes.{LockId, PassState}
+use Rattle.turn_lock.specs.Passes.{LockId, WorkerView}
 
 -- Between two calls
 
@@ -31,11 +31,11 @@ view_of [] = spent_view
 view_of (view ∷ others) = view
 
 -- what contracts see of a view of this lock
-abbrev pub state_of : LockId → View → PassState
+abbrev pub state_of : LockId → View → WorkerView
 state_of lock view = record { lock = lock; number = view.number; speaks = view.speaks; spare = view.spare; seen = view.seen; base = base_of view.stage }
 
 -- the view of a pass between two calls
-abbrev pub view_at : PassState → View
+abbrev pub view_at : WorkerView → View
 view_at pass = record { number = pass.number; speaks = pass.speaks; spare = pass.spare; seen = pass.seen; joined = []; told = []; stage = stage_of pass.base }
 
 -- a pass between two calls: its one view is that of its state, and its two numbers are the view's

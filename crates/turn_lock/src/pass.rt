@@ -19,10 +19,10 @@ pub struct Pass<B> {
 }
 
 impl<B> Model for Pass<B> {
-    ghost use Rattle.turn_lock.specs.Passes.{PassState};
+    ghost use Rattle.turn_lock.specs.Passes.{WorkerView};
     ghost use Rattle.turn_lock.specs.Views.{state_of, view_of, IsAtRest};
 
-    ghost Value = { PassState };
+    ghost Value = { WorkerView };
 
     ghost view = { λ pass. state_of pass.badge.table_id (view_of pass.badge.views) };
 

@@ -4,6 +4,7 @@ mod cut_journals;
 mod drawn_journals;
 mod drawn_words;
 mod fields;
+mod growing_journals;
 mod journal_lines;
 mod listed_words;
 mod told_journals;

@@ -27,7 +27,7 @@ const TABLE: &str = "0 |city,count,sum_price\nBergen,1,4\nOslo,2,8\n";
 
 // The journal of a run on the cities by one worker.
 const JOURNAL: &[u8] =
-    b"memory journal 1,455501414,227750707,1\nbegin,0,0\nattempt,0,0,1024,0,0,1024\nattempt,0,0,16384,0,0,16384\nattempt,0,0,16,0,0,16\nrelease,0,0,16400\nrelease,0,0,1024\nend,0,0,0\nbegin,0,1\nend,0,1,0\n";
+    b"memory journal 2,455501414,227750707,1\nbegin,0,0\nattempt,0,0,1024,0,0,1024\nattempt,0,0,16384,0,0,16384\nattempt,0,0,16,0,0,16\nrelease,0,0,16400\nrelease,0,0,1024\nend,0,0,0\nbegin,0,1\nend,0,1,0\n";
 
 // Whether a call has this answer and a whole journal, or else writes no byte of one.
 fn ends_with<X: Threads + Wait + Sync>(

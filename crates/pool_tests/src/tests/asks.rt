@@ -116,3 +116,23 @@ ask:0:600=600 release:0:200=200 ask:1:100=100 ask:2:100=100 ask:0:1=0 ask:1:100=
 
 1000 0 16 2 an ask past the fair share is cut to it
 ask:0:200=200 ask:1:900=500 ask:0:400=300 begin:2 ask:2:400=wait end:1=500 ask:2:400=400";
+
+// Scripts of growths with their answers, by hand. `grow:0:N` makes the pools N bytes larger, at most 2^36 at a time and 2^41
+// in all.
+pub const GROWTHS: &str = "\
+600 500 16 1 a growth of one byte
+ask:0:600=600 ask:0:1=0 grow:0:1 ask:0:1=1 ask:0:1=0 end:0=601
+
+600 500 16 2 shares are of what the pools have grown to
+ask:0:600=600 ask:1:300=wait grow:0:400 ask:1:300=300 ask:1:300=100 ask:0:1=0 grow:0:1000 \
+    ask:0:500=400 end:0=1000 ask:1:2000=1600
+
+600 500 16 1 a growth before the first ask, and one between two tasks
+grow:0:400 ask:0:1001=1000 end:0=1000 grow:0:24 begin:0 ask:0:1025=1024
+
+1099511627776 500 16 1 sixteen growths of 2^36 make 2^41
+grow:0:68719476736 grow:0:68719476736 grow:0:68719476736 grow:0:68719476736 \
+    grow:0:68719476736 grow:0:68719476736 grow:0:68719476736 grow:0:68719476736 \
+    grow:0:68719476736 grow:0:68719476736 grow:0:68719476736 grow:0:68719476736 \
+    grow:0:68719476736 grow:0:68719476736 grow:0:68719476736 grow:0:68719476736 \
+    ask:0:1125899906842624=2199023255552";

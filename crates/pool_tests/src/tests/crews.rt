@@ -2,8 +2,8 @@
 ghost use Rattle.std.specs.Prelude.{◌≡◌, ◌%◌, [], ℕ, Some, None, IfOk};
 ghost use Rattle.memory_lock.specs.Crew.{AreNew, AreWorkers, IsWorker};
 
-use crate::tests::playing::play;
 use crate::tests::signs::Board;
+use crate::tests::thread::play;
 use memory_lock::{Basis, Manager, Worker};
 use pool_ledger::{Journal, Setup};
 use spill_disk::MemoryDisk;

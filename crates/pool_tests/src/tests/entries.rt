@@ -101,6 +101,7 @@ pub fn put_entry(text: &mut String, entry: Entry, with_moved: bool) -> Result<()
             put(text, " release", &[worker, u64::from(task), freed])
         }
         Event::End { task, freed } => put(text, " end", &[worker, u64::from(task), freed]),
+        Event::Grow { bytes } => put(text, " grow", &[worker, bytes]),
         Event::Attempt {
             task,
             asked,

@@ -5,12 +5,13 @@ ghost use Rattle.pool_ledger.specs.History.{open_task, was_begun};
 ghost use Rattle.pool_ledger.specs.Journal.{history_of};
 
 use crate::tests::entries::put_entries;
-use crate::tests::pages::{page_of, put_blocks};
+use crate::tests::made_blocks::{block_of, is_made};
+use crate::tests::pages::put_blocks;
 use crate::tests::replay::blocks_after;
 use crate::tests::words::{bytes, cut, number, put_after};
 use block_store::Block;
 use memory_core::{Admission, Attempted, MemoryState, Pinned};
-use pool_ledger::{Entry, Event, Level, Setup};
+use pool_ledger::{Entry, Event, Setup};
 use spill_disk::{Disk, MemoryDisk};
 use std::alloc::Global;
 use std::string::String;
@@ -129,6 +130,7 @@ impl Game {
             "pin" => self.pin(alloc, worker, rest),
             "unpin" => self.unpin(worker),
             "remove" => self.remove(worker, number(rest)?),
+            "grow" => self.grow(worker, bytes(rest)?),
             _ => Err("an unknown step".into()),
         }
     }
@@ -222,6 +224,17 @@ impl Game {
         Ok(Answer::Nothing)
     }
 
+    fn grow(&mut self, worker: u32, bytes: u64) -> Result<Answer, Fail> {
+        if worker >= self.workers || worker != 0 || bytes < 1 || bytes > 1 << 36 {
+            return Err("a growth that can't come".into());
+        }
+        if self.state.max() > (1 << 41) - bytes {
+            return Err("a growth past what a pool may have".into());
+        }
+        self.state.grow(worker, bytes)?;
+        Ok(Answer::Nothing)
+    }
+
     // What is left.
     fn close(self, alloc: Global) -> Result<String, Fail> {
         let blocks = blocks_text(alloc, self.state.entries())?;
@@ -300,49 +313,6 @@ fn storage_pool(region: u64, entries: &[Entry]) -> u64 {
         }
     }
     bytes
-}
-
-// A block of a name, a size and a level.
-fn block_of(alloc: Global, words: &str) -> Result<Arc<Block, Global>, Fail> {
-    let (name, rest) = cut(words, ':');
-    let (size, level) = cut(rest, ':');
-    let (dataset, part) = cut(name, '.');
-    let level = match level {
-        "disk" => Level::Disk,
-        "memory" => Level::Memory,
-        _ => return Err("an unknown level".into()),
-    };
-    block(alloc, number(dataset)?, number(part)?, level, bytes(size)?)
-}
-
-// A block of this size: one row of one field, whose bytes tell the block's name.
-fn block(
-    alloc: Global,
-    dataset: u32,
-    part: u32,
-    level: Level,
-    size: u64,
-) -> Result<Arc<Block, Global>, Fail> {
-    // 64 for the page, 32 for the row, and 4 for the field's length.
-    let length = size.checked_sub(100).ok_or("a block without a row")?;
-    if length > 1 << 20 {
-        return Err("a long field".into());
-    }
-    let name = dataset.wrapping_mul(16).wrapping_add(part);
-    let field = vec![in alloc; (name % 256) as u8; length as usize]?;
-    let block = Block {
-        dataset,
-        part,
-        level,
-        page: page_of(alloc, &field)?,
-    };
-    Ok(Arc::new(alloc, block)?)
-}
-
-// Whether the block has the rows that one of its name and size is made with.
-fn is_made(alloc: Global, made: &Block) -> Result<bool, Fail> {
-    let other = block(alloc, made.dataset, made.part, made.level, made.size())?;
-    Ok(made.page.bytes() == other.page.bytes())
 }
 
 // The worker's open task, found by a walk.

@@ -240,6 +240,39 @@ fn a_release_lets_a_waiting_acquire_go_on(rt: HostRuntime) -> Result<(), Fail> {
     )
 }
 
+// Worker 1 is told to wait while worker 2 holds 900 of 1,000 bytes, and goes on once worker 0 makes the pools 100 bytes larger:
+// the others end only behind that.
+#[test]
+fn a_growth_lets_a_waiting_acquire_go_on(rt: HostRuntime) -> Result<(), Fail> {
+    let grower = "await:probed grow:100 await:granted;";
+    let asker =
+        "task acquire:1 release:1 raise:ready await:taken acquire:200 raise:granted release:200";
+    let holder = "task await:ready acquire:900 raise:taken probe raise:probed await:granted";
+    let wanted = "release,1,1,1 attempt,2,2,900,0,0,900 attempt,1,1,200,0,0,wait grow,0,100 \
+        attempt,1,1,200,0,0,200 end,2,2,900";
+    let own = "\n begin,1,1 attempt,1,1,1,0,0,1 release,1,1,1 attempt,1,1,200,0,0,200 \
+        release,1,1,200 end,1,1,0";
+    let found = waited(&rt, rt.alloc(), &[grower, asker, holder], wanted);
+    finds(
+        &rt,
+        found,
+        own,
+        "nothing is missing, and what the asker has",
+    )
+}
+
+// A growth of 2^36 bytes, the most at a time, and one of 24.
+#[test]
+fn one_worker_makes_its_pool_larger(rt: HostRuntime) -> Result<(), Fail> {
+    let script = "grow:68719476736 grow:24; task acquire:4294967295 acquire:1024";
+    let wanted = "0 files\n grow,0,68719476736 grow,0,24 begin,0,0 \
+        attempt,0,0,4294967295,0,0,4294967295 attempt,0,0,1024,0,0,1024 end,0,0,4294968319\n \
+        grow,0,68719476736 grow,0,24 begin,0,0 attempt,0,0,4294967295,0,0,4294967295 \
+        attempt,0,0,1024,0,0,1024 end,0,0,4294968319";
+    let found = alone(&rt, rt.alloc(), 1000, script, true);
+    finds(&rt, found, wanted, "its answers")
+}
+
 // Block (1, 0) has 250 bytes and block (2, 0) has 200. The pin makes (1, 0) the one that was used last, so (2, 0) goes.
 #[test]
 fn one_worker_keeps_blocks(rt: HostRuntime) -> Result<(), Fail> {

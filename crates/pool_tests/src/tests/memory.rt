@@ -1,5 +1,5 @@
 // Tasks that share a pool with blocks, by scripts of what their workers call.
-use crate::tests::asks::ASKS;
+use crate::tests::asks::{ASKS, GROWTHS};
 use crate::tests::copies::{COPIES, CROWDS, REMOVALS, WAITS};
 use crate::tests::faults::{FAULTS, SCRIPT};
 use crate::tests::game::{Told, play_script};
@@ -13,13 +13,12 @@ use std::test::*;
 
 #[test]
 fn scripts_of_many_tasks_have_their_answers(rt: HostRuntime) -> Result<(), Fail> {
-    let mut count = 0u32;
-    for script in ASKS.split("\n\n") {
-        check_answers(&rt, rt.alloc(), script)?;
-        count = count.wrapping_add(1);
-    }
-    counts(&rt, count, 34);
-    Ok(())
+    check_asks(&rt, rt.alloc(), ASKS, 34)
+}
+
+#[test]
+fn pools_grow_between_asks(rt: HostRuntime) -> Result<(), Fail> {
+    check_asks(&rt, rt.alloc(), GROWTHS, 4)
 }
 
 #[test]
@@ -84,6 +83,35 @@ journal begin,0,0 begin,1,1 attempt,0,0,500,200,0,500 attempt,1,1,200,100,0,wait
 blocks
 files 0 0
 storage 0";
+    check(&rt, rt.alloc(), script)
+}
+
+// A growth goes to execution, whose pool then has 1,000 bytes: 500 of them are free, and 500 are each task's share.
+#[test]
+fn a_growth_is_written_down(rt: HostRuntime) -> Result<(), Fail> {
+    let script = "\
+600 500 2 2 the journal by hand
+ask:0:500=500 ask:1:200=wait grow:0:400 ask:1:200=200 ask:0:50=0
+journal begin,0,0 begin,1,1 attempt,0,0,500,200,0,500 attempt,1,1,200,100,0,wait grow,0,400 \
+    attempt,1,1,200,0,0,200 attempt,0,0,50,0,0,0
+blocks
+files 0 0
+storage 0";
+    check(&rt, rt.alloc(), script)
+}
+
+// Storage has 450 bytes, all of them used, before and after the growth, so the third block borrows all that it has. Of the
+// 550 bytes of execution that leaves 430.
+#[test]
+fn a_pool_grows_beside_blocks(rt: HostRuntime) -> Result<(), Fail> {
+    let script = "\
+600 500 1 1 the journal by hand
+admit:0:1.0:250:disk=in admit:0:2.0:200:memory=in grow:0:400 admit:0:3.0:120:memory=in ask:0:430=430
+journal begin,0,0 admit,0,1,0,250,disk,0,0 admit,0,2,0,200,memory,150,0 grow,0,400 \
+    admit,0,3,0,120,memory,120,0 attempt,0,0,430,0,0,430
+blocks 1.0:250 2.0:200 3.0:120
+files 0 0
+storage 570";
     check(&rt, rt.alloc(), script)
 }
 
@@ -188,6 +216,17 @@ fn check_all(rt: &impl Abort, alloc: Global, table: &str, scripts: u32) -> Resul
     let mut count = 0u32;
     for script in table.split("\n\n") {
         check(rt, alloc, script)?;
+        count = count.wrapping_add(1);
+    }
+    counts(rt, count, scripts);
+    Ok(())
+}
+
+// The same of scripts that have answers alone.
+fn check_asks(rt: &impl Abort, alloc: Global, table: &str, scripts: u32) -> Result<(), Fail> {
+    let mut count = 0u32;
+    for script in table.split("\n\n") {
+        check_answers(rt, alloc, script)?;
         count = count.wrapping_add(1);
     }
     counts(rt, count, scripts);

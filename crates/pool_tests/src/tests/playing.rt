@@ -1,10 +1,10 @@
-// A worker's thread, which plays a script.
+// The parts of a worker's script.
 //
-// A script has parts with a `|` between them, each of which is a list of steps: within a task, if its first word is `task`.
+// Parts stand with a `|` between them, each of which is a list of steps: within a task, if its first word is `task`.
 // The worker's first task has its number. `acquire:N` asks for N bytes and `release:N` gives back so many; `probe` asks for a
 // byte more, and gives it back, until another task counts. `keep:D.P:L:B:N` and `look:D.P:L:B:N` are of a block, `remove:D` of
 // a dataset, and `raise:S` and `await:S` of a sign.
-ghost use Rattle.std.specs.Prelude.{◌≡◌, ◌+◌, ◌%◌, [], ℕ, Some, None, IfOk};
+ghost use Rattle.std.specs.Prelude.{◌≡◌, ◌+◌, ◌%◌, ℕ, Some, None, IfOk};
 ghost use Rattle.memory_lock.specs.Crew.{IsWorker};
 ghost use Rattle.memory_lock.specs.Workers.{KeepsTask};
 ghost use Rattle.pool_tests.specs.Seats.{IsIdle, IsPlaying, IsSteady, at_rest};
@@ -12,11 +12,9 @@ ghost use Rattle.pool_tests.specs.Seats.{IsIdle, IsPlaying, IsSteady, at_rest};
 use crate::tests::entries::put_entry;
 use crate::tests::kept_blocks::{block_of, kept_word, look_word};
 use crate::tests::seats::{Seat, acquire, admit, pin, release, remove};
-use crate::tests::signs::Board;
 use crate::tests::words::{cut, number_or_zero};
-use memory_lock::{Basis, Manager, Task, Worker};
+use memory_lock::{Basis, Task, Worker};
 use pool_ledger::{Entry, Event};
-use spill_disk::MemoryDisk;
 use std::alloc::{AllocError, Global};
 use std::string::String;
 use std::sync::Wait;
@@ -338,7 +336,7 @@ fn play_part<B: Basis, R: Wait>(
     Ok(seat.next)
 }
 
-fn play_parts<B: Basis, R: Wait>(
+pub fn play_parts<B: Basis, R: Wait>(
     seat: &Seat<'_, B, R>,
     worker: &mut Worker<B>,
     script: &str,
@@ -354,38 +352,4 @@ fn play_parts<B: Basis, R: Wait>(
         next = play_part(&seat_at(seat, next), worker, part, notes)?;
     }
     Ok(())
-}
-
-/// The thread of a new worker, which plays the script of its number and leaves what it noted on the board.
-pub fn play<B: Basis, R: Wait>(
-    rt: &R,
-    alloc: Global,
-    manager: &Manager<MemoryDisk, B>,
-    mut worker: Worker<B>,
-    scripts: &[&str],
-    board: &Board,
-) -> Worker<B>
-    requires worker { IsWorker manager.now B.sizes.workers worker.number worker }
-    requires new { worker.seen ≡ [] }
-    requires owner { (task : ℕ) → B.owner task ≡ Some (task % B.sizes.workers) }
-    requires rows { (dataset part : ℕ) → B.rows dataset part ≡ None }
-    ensures { IsWorker manager.now B.sizes.workers worker.number result }
-{
-    let number = worker.number();
-    let seat = Seat {
-        rt,
-        alloc,
-        manager,
-        board,
-        count: manager.setup().workers(),
-        number,
-        next: number,
-    };
-    let script = scripts.get(number as usize).unwrap_or(&"");
-    let mut notes = String::new(alloc);
-    let played = play_parts(&seat, &mut worker, script, &mut notes);
-    board.end(rt, number, played.ok().map(|_| notes));
-    // For the proof: that it rests is known with its number.
-    let _number = worker.number();
-    worker
 }

@@ -1,8 +1,9 @@
 // A worker's seat, and the calls that it makes there.
 ghost use Rattle.std.specs.Prelude.{◌≡◌, ◌≤◌, ◌^◌, ℕ, Some, None, IfOk};
+ghost use Rattle.pool_ledger.specs.History.{grown_by, total};
 ghost use Rattle.memory_lock.specs.Endings.{IsLastAnswer};
-ghost use Rattle.memory_lock.specs.Workers.{KeepsTask};
-ghost use Rattle.pool_tests.specs.Seats.{IsPlaying, IsSteady};
+ghost use Rattle.memory_lock.specs.Workers.{KeepsTask, own_of};
+ghost use Rattle.pool_tests.specs.Seats.{IsIdle, IsPlaying, IsSteady};
 
 use crate::tests::signs::Board;
 use block_store::Block;
@@ -99,4 +100,24 @@ pub fn remove<B: Basis, R: Wait>(
     ensures task { KeepsTask worker.old worker.new }
 {
     seat.manager.remove(seat.rt, worker, dataset)
+}
+
+/// Makes the pools larger, if they may be. What it answers is by how much the worker has then made them so.
+pub fn grow<B: Basis, R: Wait>(
+    seat: &Seat<'_, B, R>,
+    worker: &mut Worker<B>,
+    bytes: u64,
+    grown: u64,
+) -> Result<u64, AllocError>
+    requires idle { IsIdle seat.now.manager.now seat.now.count seat.now.number seat.now.next worker.old }
+    requires grown { total grown_by (own_of worker.old) ≡ grown }
+    ensures idle { IsIdle seat.now.manager.now seat.now.count seat.now.number seat.now.next worker.new }
+    ensures grown { IfOk result (λ sum. total grown_by (own_of worker.new) ≡ sum) }
+{
+    let left = (1 << 41) - seat.manager.setup().max();
+    if seat.number != 0 || bytes < 1 || bytes > 1 << 36 || bytes > left || grown > left - bytes {
+        return Err(AllocError);
+    }
+    seat.manager.grow(seat.rt, worker, bytes)?;
+    Ok(grown + bytes)
 }

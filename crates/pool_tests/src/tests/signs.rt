@@ -45,8 +45,10 @@ impl Sign {
 pub struct Board {
     // Worker 1 has made its first attempt, and holds nothing.
     ready: Sign,
-    // Worker 0 holds what it asked for.
+    // Another worker holds what it asked for.
     taken: Sign,
+    // That worker has seen that worker 1 counts, which so was told to wait.
+    probed: Sign,
     // Worker 1 was granted what it waited for.
     pub granted: Sign,
     // What each worker noted, once it has come to its script's end, at its number.
@@ -58,6 +60,7 @@ impl Board {
         Board {
             ready: Sign::new(),
             taken: Sign::new(),
+            probed: Sign::new(),
             granted: Sign::new(),
             notes: [
                 Mutex::new(None),
@@ -72,6 +75,7 @@ impl Board {
         match name {
             "ready" => &self.ready,
             "taken" => &self.taken,
+            "probed" => &self.probed,
             _ => &self.granted,
         }
     }
@@ -83,6 +87,7 @@ impl Board {
         }
         self.ready.raise(rt);
         self.taken.raise(rt);
+        self.probed.raise(rt);
         self.granted.raise(rt);
     }
 

@@ -44,6 +44,7 @@ fn play_step<K: Disk>(
             text.push('=')?;
             put_blocks(text, "/", store.list())
         }
+        "first" => put_first(store, rest, text),
         "room" => put_after(text, "=", store.room()),
         "reserve" => {
             let is_there = store.reserve(bytes(rest)?).is_ok();
@@ -54,6 +55,19 @@ fn play_step<K: Disk>(
             Ok(())
         }
         _ => play_block(store, alloc, kind, rest, text),
+    }
+}
+
+// Tells the first block that may go, of another dataset where one is named.
+fn put_first<K: Disk>(store: &Store<K>, dataset: &str, text: &mut String) -> Result<(), Fail> {
+    let except = if dataset.is_empty() {
+        None
+    } else {
+        Some(number(dataset)?)
+    };
+    match store.first_that_may_go(except) {
+        Some(block) => put_blocks(text, "=", &[block]),
+        None => Ok(text.push_str("=none")?),
     }
 }
 
@@ -72,7 +86,7 @@ fn play_block<K: Disk>(
     match kind {
         "put" => put(store, block_of(alloc, dataset, part, rest)?),
         "evict" => Ok(text.push_str(evict(store, dataset, part)?)?),
-        "pin" => put_block(text, store.pin(dataset, part)?),
+        "pin" => put_block(text, pin(store, dataset, part)?),
         "unpin" => unpin(store, dataset, part),
         "remove" => remove(store, dataset, part),
         "has" => {
@@ -120,6 +134,23 @@ fn evict<K: Disk>(store: &mut Store<K>, dataset: u32, part: u32) -> Result<&'sta
         Fate::Gone => "=gone",
         Fate::NoMemory => "=nomem",
     })
+}
+
+// Pins a block, and hands it out; none where it isn't in memory.
+pub fn pin<K: Disk>(
+    store: &mut Store<K>,
+    dataset: u32,
+    part: u32,
+) -> Result<Option<Arc<Block, Global>>, Fail> {
+    let lent = store.lend(dataset, part)?;
+    match store.pins(dataset, part) {
+        None => Ok(lent),
+        Some(u64::MAX) => Err("it has too many pins".into()),
+        Some(_) => {
+            store.pin(dataset, part);
+            Ok(lent)
+        }
+    }
 }
 
 pub fn unpin<K: Disk>(store: &mut Store<K>, dataset: u32, part: u32) -> Result<(), Fail> {

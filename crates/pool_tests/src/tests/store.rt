@@ -3,9 +3,10 @@
 // `put:D.P:L:F` stores a block of level L with one row of the field F, `evict:D.P=A` tells what became of the block, and
 // `has:D.P=A` whether it has a copy. `pin:D.P=A`, `copy:D.P=A` and `back:D.P=A`, which puts the copy that it reads into
 // memory, tell the block: its name, size, level, number of rows, and field. `pins:D.P=N` and `room=N` tell numbers,
-// `reserve:N=A` whether there is memory, and `list=A` the blocks, the least recently used first, each behind a `/`. Last stand how many files
-// were made, and what bytes the first three have.
-use crate::tests::steps::{block_of, play, put, unpin};
+// `reserve:N=A` whether there is memory, and `list=A` the blocks, the least recently used first, each behind a `/`.
+// `first=A` is the first of them that may go, and `first:D=A` the first that isn't of dataset D. Last stand how many
+// files were made, and what bytes the first three have.
+use crate::tests::steps::{block_of, pin, play, put, unpin};
 use crate::tests::words::{counts, cut, put_after, reads};
 use block_store::Store;
 use eviction::Candidate;
@@ -30,6 +31,14 @@ fn blocks_stand_in_use_order_with_their_pins(rt: HostRuntime) -> Result<(), Fail
         list=/1.1:106/2.0:105/1.0:105:pinned unpin:1.0 list=/1.1:106/2.0:105/1.0:105 pins:1.1=0 \
         remove:1.1 list=/2.0:105/1.0:105 files=0:0,0,0";
     check(&rt, alloc, "", THREE, script)
+}
+
+#[test]
+fn the_first_that_may_go_is_free_and_not_excepted(rt: HostRuntime) -> Result<(), Fail> {
+    let script = "first=1.0:105 first:1=2.0:105 pin:1.0=1.0,105,disk,1,first first=1.1:106 \
+        pin:1.1=1.1,106,disk,1,second first=2.0:105 first:2=none evict:2.0=gone first=none \
+        unpin:1.0 first=1.0:105 first:1=none files=0:0,0,0";
+    check(&rt, rt.alloc(), "", THREE, script)
 }
 
 #[test]
@@ -142,7 +151,7 @@ fn use_parts<K: Disk>(store: &mut Store<K>, by: u32, count: u32) -> Result<(), F
 }
 
 fn use_part<K: Disk>(store: &mut Store<K>, part: u32) -> Result<(), Fail> {
-    if store.pin(1, part)?.is_none() {
+    if pin(store, 1, part)?.is_none() {
         return Err("it isn't in memory".into());
     }
     unpin(store, 1, part)

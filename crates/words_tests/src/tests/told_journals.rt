@@ -3,10 +3,15 @@ use audit_program::audit_call;
 use byte_io::{MemorySink, MemorySource};
 use std::alloc::{AllocError, Global};
 
-// The text of a row: its first word, and a line feed for each slash.
+// The text of a row: its first words, and a line feed for each slash.
 pub fn text_of(alloc: Global, row: &str) -> Result<Vec<u8>, AllocError> {
+    text_behind(alloc, b"memory journal 1,", row)
+}
+
+// The same of a row behind other words.
+pub fn text_behind(alloc: Global, words: &[u8], row: &str) -> Result<Vec<u8>, AllocError> {
     let mut text = Vec::new(alloc);
-    text.extend_from_slice(b"memory journal 1,")?;
+    text.extend_from_slice(words)?;
     for byte in row.as_bytes() {
         if *byte == b'/' {
             text.push(b'\n')?;

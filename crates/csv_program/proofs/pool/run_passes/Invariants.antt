@@ -1,6 +1,6 @@
 use Rattle.std.proofs.Common.{◌≡◌, ℕ, ◌+◌, ◌*◌, ◌<◌, List, length}
 use Rattle.std.specs.Prelude.{All, IfSome, slice_index_or}
-use Rattle.turn_lock.specs.Passes.{PassState}
+use Rattle.turn_lock.specs.Passes.{WorkerView}
 use Rattle.job_plan.specs.Plans.{kept_in}
 use Rattle.task_runner.specs.Pass.{states_at}
 use Rattle.csv_program.specs.Cached.{EachTells, GoesBehind}
@@ -29,6 +29,6 @@ invariant-loop-number g l = record {
       → EachCharges (states_at g.C.Consumer.state l.initial.posts.items) l.plan (length l.parts) rows g.B.Basis.sizes.workers l.number l.workers.items;
   told : EachTells l.plan g.B.Basis.sizes.workers (length l.parts) l.number l.workers.items;
   removes : EachRemoves (free_from l.plan (length l.parts)) g.B.Basis.sizes.workers (l.number * (length l.parts + 1)) l.workers.items;
-  gone : (any : PassState) → GoesBehind l.plan (length l.parts) l.number (slice_index_or l.workers.items 0 any).seen;
+  gone : (any : WorkerView) → GoesBehind l.plan (length l.parts) l.number (slice_index_or l.workers.items 0 any).seen;
   begun : EachBegins g.B.Basis.owner g.B.Basis.sizes.workers (l.number * (length l.parts + 1)) l.workers.items;
 }

@@ -1,7 +1,7 @@
 use Rattle.std.proofs.Common.{◌≡◌, ◌+◌, ◌*◌, ◌<◌, ◌≤◌, ℕ, List, length, refl, sym, ap, subst, arith}
 use Rattle.std.specs.Prelude.{OnOk, slice_index_or}
 use Rattle.pool_ledger.specs.Sizes.{Sizes}
-use Rattle.turn_lock.specs.Passes.{PassState}
+use Rattle.turn_lock.specs.Passes.{WorkerView}
 use Rattle.memory_lock.specs.Crew.{new_worker}
 use Rattle.memory_lock.specs.Workers.{own_of}
 use Rattle.job_plan.specs.Plans.{passes_in}
@@ -72,7 +72,7 @@ returns-clause-gone g c =
     let any = new_worker c.in-Ok.manager 0 0 in
     let size : c.args.asked.now.pool.workers ≡ g.B.Basis.sizes.workers = ap (λ (s : Sizes). s.workers) c.requires.basis in
     let some : 1 ≤ g.B.Basis.sizes.workers = let range = c.max-range.ensures.range in omega (arith, size, range.some_worker) in
-    on_ok_more c.run_passes-answers.result ((other : PassState) → GoesBehind plan partitions passes (slice_index_or workers 0 other).seen) (GoesBehind plan partitions passes c.close-journal.result.0)
+    on_ok_more c.run_passes-answers.result ((other : WorkerView) → GoesBehind plan partitions passes (slice_index_or workers 0 other).seen) (GoesBehind plan partitions passes c.close-journal.result.0)
     (λ goes. journal_goes plan partitions passes g.B.Basis.sizes.workers c.in-Ok.manager workers any c.close-journal.result.0 some c.run_passes-answers.ensures.workers.workers_are c.close-journal.ensures.whole (goes any))
     c.run_passes-answers.ensures.gone
 
@@ -141,7 +141,7 @@ returns-clause-all g c =
 pub returns-clause-no_room : goal.returns-clause-no_room
 returns-clause-no_room g c =
     room_more
-    (λ asked held floor. (worker task : ℕ) × (worker < g.B.Basis.sizes.workers) × ((any : PassState) → ShowsNoRoom g.B.Basis.sizes (own_of (slice_index_or c.run_passes-answers.new.workers.items worker any)) task asked held floor))
+    (λ asked held floor. (worker task : ℕ) × (worker < g.B.Basis.sizes.workers) × ((any : WorkerView) → ShowsNoRoom g.B.Basis.sizes (own_of (slice_index_or c.run_passes-answers.new.workers.items worker any)) task asked held floor))
     (λ asked held floor. ShowsShort c.args.asked.now.pool c.close-journal.result.0 asked held floor)
     c.run_passes-answers.result
     (shows_short g.B.Basis.sizes c.args.asked.now.pool c.in-Ok.manager g.B.Basis.sizes.workers c.run_passes-answers.new.workers.items c.close-journal.result.0 c.requires.basis c.run_passes-answers.ensures.workers.workers_are c.close-journal.ensures.whole)

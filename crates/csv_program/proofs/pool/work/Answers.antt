@@ -3,7 +3,7 @@ use Rattle.std.specs.Prelude.{All, IfSome, slice_index_or}
 use Rattle.std.specs.Global.{Vec}
 use Rattle.std.proofs.lemmas.Bool.{eqb-true}
 use Rattle.std.proofs.lemmas.Result.{IfOk-weaker}
-use Rattle.turn_lock.specs.Passes.{PassState}
+use Rattle.turn_lock.specs.Passes.{WorkerView}
 use Rattle.memory_lock.specs.Workers.{own_of}
 use Rattle.run_file.specs.declared.run.Run.{Run}
 use Rattle.consumer_trait.specs.States.{State}
@@ -206,7 +206,7 @@ returns-clause-begun g c =
     let size : length c.args.workers.now.items ≡ g.B.Basis.sizes.workers = c.requires.workers.workers_are.0 in
     let works_by = rw size at c.in-Ok.ensures.works in
     on_ok_more c.finish-2.result
-    ((any : PassState) → Works (task_for c.args.pass.now (parts_of c.args.pass.now)) (slice_index_or c.run_workers.new.workers.items 0 any) (slice_index_or c.finish-2.new.workers.items 0 any))
+    ((any : WorkerView) → Works (task_for c.args.pass.now (parts_of c.args.pass.now)) (slice_index_or c.run_workers.new.workers.items 0 any) (slice_index_or c.finish-2.new.workers.items 0 any))
     (EachBegins g.B.Basis.owner g.B.Basis.sizes.workers (c.args.pass.now.first + parts_of c.args.pass.now + 1) c.finish-2.new.workers.items)
     (λ works.
     begun_pass g.B.Basis.owner c.args.executor.now.manager.now g.B.Basis.sizes.workers (parts_of c.args.pass.now) c.args.pass.now.first c.args.workers.now.items c.run_workers.new.workers.items c.finish-2.new.workers.items c.requires.owner
@@ -219,8 +219,8 @@ returns-clause-begun g c =
 pub returns-clause-no_room : goal.returns-clause-no_room
 returns-clause-no_room g c =
     room_more
-    (λ asked held floor. (any : PassState) → ShowsNoRoom g.B.Basis.sizes (own_of (slice_index_or c.finish-2.new.workers.items 0 any)) (task_for c.args.pass.now (parts_of c.args.pass.now)) asked held floor)
-    (λ asked held floor. (worker task : ℕ) × (worker < g.B.Basis.sizes.workers) × ((any : PassState) → ShowsNoRoom g.B.Basis.sizes (own_of (slice_index_or c.finish-2.new.workers.items worker any)) task asked held floor))
+    (λ asked held floor. (any : WorkerView) → ShowsNoRoom g.B.Basis.sizes (own_of (slice_index_or c.finish-2.new.workers.items 0 any)) (task_for c.args.pass.now (parts_of c.args.pass.now)) asked held floor)
+    (λ asked held floor. (worker task : ℕ) × (worker < g.B.Basis.sizes.workers) × ((any : WorkerView) → ShowsNoRoom g.B.Basis.sizes (own_of (slice_index_or c.finish-2.new.workers.items worker any)) task asked held floor))
     c.finish-2.result
     (λ asked held floor shows. (0, task_for c.args.pass.now (parts_of c.args.pass.now), omega (arith, c.requires.some), shows))
     c.finish-2.ensures.no_room

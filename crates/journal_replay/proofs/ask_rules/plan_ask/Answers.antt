@@ -9,8 +9,8 @@ pub plan_attempt-requires-clause-its_task : goal.plan_attempt-requires-clause-it
 plan_attempt-requires-clause-its_task c =
     (c.args.worker, open_base c.args.replay.now.turns (history_of c.args.replay.now) c.requires.tells.turns c.args.worker ∙ c.requires.its_task)
 
-pub returns-then-need-eq0-clause-got : goal.returns-then-need-eq0-clause-got
-returns-then-need-eq0-clause-got c =
+pub returns-then-room-eq0-clause-got : goal.returns-then-room-eq0-clause-got
+returns-then-room-eq0-clause-got c =
     c.plan_attempt.ensures.got ∙ ap (λ (h : History). answer (setup_of c.args.replay.now) h c.args.task c.args.asked) (sym c.requires.tells.turns.base)
 
 pub plan_evicting-requires-clause-its_task : goal.plan_evicting-requires-clause-its_task

@@ -3,6 +3,7 @@ use Rattle.pool_ledger.specs.History.{History}
 use Rattle.pool_ledger.specs.Sizes.{Sizes, IsInRange}
 use Rattle.pool_ledger.specs.Blocks.{residents_after}
 use Rattle.pool_laws.proofs.Passing.{holds}
+use Rattle.pool_laws.proofs.Small.{stays_small}
 use Rattle.journal_replay.specs.declared.before.Before.{Before}
 use Rattle.journal_replay.specs.Replays.{TellsBefore}
 use Rattle.journal_replay.specs.UseOrder.{IsInOrder}
@@ -14,7 +15,7 @@ note_bytes-requires c =
     let h = c.args.ledger.now.history in
     let range = subst (λ (s : Sizes). IsInRange s.maximum s.region s.workers) c.setup.ensures c.max-range.ensures.range in
     record {
-      small = small_noted c.args.before.now.bytes c.args.ledger.now.setup h c.args.entry range.maximum_small
+      small = small_noted c.args.before.now.bytes c.args.ledger.now.setup h c.args.entry (stays_small c.args.ledger.now.setup h range.maximum_small c.requires.permitted.0)
           (holds c.args.ledger.now.setup (c.args.entry ∷ h) range.region_fits c.requires.permitted).recorded c.requires.blocks.bytes;
     }
 

@@ -17,7 +17,7 @@ front_of-requires-clause-small c =
       arith,
       all_stored c.args.replay.now.turns.ledger.history (candidates_of c.args.replay.now.tables.pins c.args.replay.now.turns.before.order.placed.entries) (listed_before c.args.replay.now c.requires.tells),
       laws.laws.never_passes,
-      laws.range.maximum_small,
+      laws.small,
     )
 
 pub returns-then-evictable_bytes-need : goal.returns-then-evictable_bytes-need

@@ -2,7 +2,7 @@ use Rattle.std.proofs.Common.{◌≡◌, false, rules, sym, subst}
 use Rattle.std.specs.Prelude.{is_some}
 use Rattle.std.proofs.lemmas.Bool.{both_ways}
 use Rattle.row_filter.specs.Chains.{level_at}
-use Rattle.turn_lock.specs.Passes.{PassState}
+use Rattle.turn_lock.specs.Passes.{WorkerView}
 use Rattle.lineage.specs.Entries.{WorksOn}
 use Rattle.lineage.specs.Telling.{TellsKeep}
 use Rattle.lineage.proofs.Told.{keep_earlier}
@@ -21,9 +21,9 @@ returns-clause-works g c =
     let done = c.rows_done.ensures in
     let first = done_works c.args.parent c.args.worker.now c.rows_done.new.worker done.task done.sees done.adds in
     elim c.if-is_some.branch [
-      | then-is_some+in_ok-keep_block w ↦ subst (λ (last : PassState). WorksOn c.args.worker.now last) (sym w.worker-is)
+      | then-is_some+in_ok-keep_block w ↦ subst (λ (last : WorkerView). WorksOn c.args.worker.now last) (sym w.worker-is)
           (works_then c.args.worker.now c.rows_done.new.worker w.keep_block.new.worker first w.keep_block.ensures.works)
-      | else-is_some w ↦ subst (λ (last : PassState). WorksOn c.args.worker.now last) (sym w.worker-is) first
+      | else-is_some w ↦ subst (λ (last : WorkerView). WorksOn c.args.worker.now last) (sym w.worker-is) first
     ]
 
 pub returns-clause-told : goal.returns-clause-told
@@ -33,7 +33,7 @@ returns-clause-told g c = λ kept.
       | then-is_some+in_ok-keep_block w ↦
           let told = w.in_ok-keep_block.ensures.told in
           let named = rw (block.dataset_is, block.part_is) at told in
-          subst (λ (last : PassState). TellsKeep _ c.args.part c.args.worker.now last) (sym w.worker-is)
+          subst (λ (last : WorkerView). TellsKeep _ c.args.part c.args.worker.now last) (sym w.worker-is)
           (keep_earlier _ c.args.part c.args.worker.now c.rows_done.new.worker w.keep_block.new.worker c.rows_done.ensures.sees named)
       | else-is_some w ↦
           let lost : is_some (level_at c.args.lineage.now.chain c.args.dataset) ≡ false = search rules in

@@ -6,8 +6,8 @@ use Rattle.memory_core.specs.Caches.{PoolView}
 use Rattle.memory_core.proofs.Choosing.{goers_few, seen_listed, seen_of}
 use Rattle.memory_core.proofs.pool.Pool.plan_attempt.Goals as goal
 
-pub returns-then-need_of_attempt-eq0-clause-got : goal.returns-then-need_of_attempt-eq0-clause-got
-returns-then-need_of_attempt-eq0-clause-got g c =
+pub returns-then-room-eq0-clause-got : goal.returns-then-room-eq0-clause-got
+returns-then-room-eq0-clause-got g c =
     subst (λ (v : PoolView). c.plan_attempt.result.got ≡ answer v.setup v.history c.args.task c.args.asked) c.self.view_is c.plan_attempt.ensures.got
 
 pub plan_attempt-requires-2-clause-listed : goal.plan_attempt-requires-2-clause-listed

@@ -1,7 +1,7 @@
 use Rattle.std.proofs.Common.{◌≤◌, ◌∙◌, List, [], length, sym, ap, subst, arith}
 use Rattle.std.proofs.lemmas.List.{nil_from_length}
 use Rattle.pool_ledger.specs.Sizes.{Sizes}
-use Rattle.turn_lock.specs.Passes.{PassState, CoversAll}
+use Rattle.turn_lock.specs.Passes.{WorkerView, CoversAll}
 use Rattle.memory_lock.proofs.Crews.{IsJoined, as_many, joined_first, joined_more, joined_all, parts_all}
 use Rattle.memory_lock.proofs.manager.Manager.close.Given as given
 use Rattle.memory_lock.proofs.manager.Manager.close.Goals as goal
@@ -19,13 +19,13 @@ loop-worker-preserved g c =
 
 -- no worker is left
 last : (g : given.Over) (c : In_default-pop g) → IsJoined c.args.self c.args.workers.items [] c.loop-worker.all
-last g c = subst (λ (xs : List PassState). IsJoined c.args.self c.args.workers.items xs c.loop-worker.all) (nil_from_length c.loop-worker.workers.items (omega (arith, c.in_default-pop.ensures.cases))) c.loop-worker.invariant
+last g c = subst (λ (xs : List WorkerView). IsJoined c.args.self c.args.workers.items xs c.loop-worker.all) (nil_from_length c.loop-worker.workers.items (omega (arith, c.in_default-pop.ensures.cases))) c.loop-worker.invariant
 
 pub close-locked-requires-clause-all : goal.close-locked-requires-clause-all
 close-locked-requires-clause-all g c =
-    subst (λ (p : PassState). CoversAll p.speaks p.spare) (sym c.into_pass.ensures) (joined_all c.args.self c.args.workers.items c.loop-worker.all (last g (goal.at.close-locked-requires-clause-all g c).In_default-pop))
+    subst (λ (p : WorkerView). CoversAll p.speaks p.spare) (sym c.into_pass.ensures) (joined_all c.args.self c.args.workers.items c.loop-worker.all (last g (goal.at.close-locked-requires-clause-all g c).In_default-pop))
 
 pub returns-clause-whole : goal.returns-clause-whole
 returns-clause-whole g c =
     parts_all c.args.self c.args.workers.items c.loop-worker.all c.close.result.0 (last g (goal.at.returns-clause-whole g c).In_default-pop)
-    (ap (λ (p : PassState). p.seen) (sym c.into_pass.ensures) ∙ sym c.close-locked.ensures.history ∙ sym c.close.ensures.journal)
+    (ap (λ (p : WorkerView). p.seen) (sym c.into_pass.ensures) ∙ sym c.close-locked.ensures.history ∙ sym c.close.ensures.journal)

@@ -1,7 +1,8 @@
 use Rattle.std.proofs.Common.{arith, subst}
 use Rattle.pool_ledger.specs.Recorded.{CanCome, CanFollow, CanAttempt, CanRelease}
 use Rattle.pool_ledger.proofs.Tasks.{entry_of}
-use Rattle.pool_ledger.proofs.After.{IsSeated, is_seated, kept-Begin, kept-Attempt, kept-Release, kept-End, kept-Leave, kept-Remove, kept-Pin, at_entry}
+use Rattle.pool_ledger.proofs.After.{IsSeated, is_seated, kept-Begin, kept-Attempt, kept-Release, kept-End, kept-Leave, kept-Remove, kept-Pin, kept-Grow, at_entry}
+use Rattle.pool_ledger.proofs.Bounds.{maximum_within}
 use Rattle.pool_ledger.proofs.Residents.{stored-without}
 use Rattle.pool_ledger.specs.declared.entry.Event.TheVariants.{Evict, Remove}
 use Rattle.pool_ledger.proofs.ledger.Ledger.kept_after.Goals as goal
@@ -29,7 +30,7 @@ pub granted-next-requires : goal.granted-next-requires
 granted-next-requires c =
     let seat = attempt_seat (goal.at.granted-next-requires c).In-Attempt-Some in
     let can = can_attempt (goal.at.granted-next-requires c).In-Attempt-Some in
-    omega (arith, seat.held_fits, can.sum_fits, c.kept-kept.ensures.sums.exec_is, c.unwrap_or.ensures, c.kept-kept.ensures.range.maximum_small)
+    omega (arith, seat.held_fits, can.sum_fits, c.kept-kept.ensures.sums.exec_is, c.unwrap_or.ensures, maximum_within _ _ c.kept-kept.ensures.range.maximum_small c.kept-kept.ensures.recorded)
 
 pub overflow_sub-result : goal.overflow_sub-result
 overflow_sub-result c = (attempt_seat (goal.at.overflow_sub-result c).In-Attempt-Some).held_fits
@@ -122,3 +123,9 @@ pub returns-in-Pin-default : goal.returns-in-Pin-default
 returns-in-Pin-default c =
     at_entry _ _ _ c.args.entry _ c.in-Pin-default.is-0
     (kept-Pin _ _ _ _ c.in-Pin-default.dataset-0 c.in-Pin-default.part-0 c.in-Pin-default.copy-0 c.kept-kept.ensures.sums)
+
+pub returns-in-Grow-default : goal.returns-in-Grow-default
+returns-in-Grow-default c =
+    rw c.grown.ensures
+    (at_entry _ _ _ c.args.entry _ c.in-Grow-default.is-0
+    (kept-Grow _ _ _ _ _ c.kept-kept.ensures.range.region_fits c.kept-kept.ensures.sums c.kept-kept.ensures.recorded))

@@ -1,5 +1,5 @@
 use Rattle.std.proofs.Common.{◌++◌, min, ap, ◌∙◌}
-use Rattle.turn_lock.specs.Passes.{PassState}
+use Rattle.turn_lock.specs.Passes.{WorkerView}
 use Rattle.turn_lock.proofs.Covering.{covers_two}
 use Rattle.pool_tests.proofs.tests.book.close_both.Goals as goal
 
@@ -8,4 +8,4 @@ close-requires-clause-all c =
     let one = c.requires.one in
     let other = c.requires.other in
     let is = c.join.ensures.pass in
-    covers_two c.join.new.pass.speaks c.join.new.pass.spare (ap (λ (p : PassState). p.speaks) is ∙ (λ i. one.0 i ++ other.0 i)) (ap (λ (p : PassState). p.spare) is ∙ (λ i. min (one.1 i) (other.1 i)))
+    covers_two c.join.new.pass.speaks c.join.new.pass.spare (ap (λ (p : WorkerView). p.speaks) is ∙ (λ i. one.0 i ++ other.0 i)) (ap (λ (p : WorkerView). p.spare) is ∙ (λ i. min (one.1 i) (other.1 i)))
