@@ -10,3 +10,4 @@ pub mod NumberOrder
 pub mod Ascending
 pub mod Fronts
 pub mod Rests
+pub mod Keyed

@@ -5,3 +5,4 @@ pub mod Values
 pub mod Totals
 pub mod Rows
 pub mod Fronts
+pub mod Keyed

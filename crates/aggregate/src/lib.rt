@@ -21,7 +21,7 @@ pub use kind::Kind;
 pub use name::Name;
 pub use number_key::{numbers_in_order, put_number};
 pub use partial::{
-    combine, combine_is_associative, finish, numbers_are_joined, numbers_come_back,
-    partials_are_sixteen_bytes, put_partial, sums_are_exact,
+    combine, combine_is_associative, combined_values_stay_formed, finish, numbers_are_joined,
+    numbers_come_back, partials_are_sixteen_bytes, put_partial, sums_are_exact,
 };
-pub use total::{totals_ascend, totals_stay_equal};
+pub use total::{totals_ascend, totals_stay_equal, totals_tell_keys};

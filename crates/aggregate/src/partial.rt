@@ -1,7 +1,9 @@
 // Partial values, combined number by number.
-ghost use Rattle.std.specs.Prelude.{◌≡◌, ◌++◌, ◌+◌, ◌*◌, ◌<◌, ◌≤◌, length, OnErr, OnOk};
+ghost use Rattle.std.specs.Prelude.{◌≡◌, ◌++◌, ◌+◌, ◌<◌, ◌≤◌, length, OnErr, OnOk};
+ghost use Rattle.aggregate.specs.declared.kind.Kind.TheVariants.{Group};
 ghost use Rattle.aggregate.specs.Partial.{combined, joined, joined_bytes, narrowed, number, number_at, partial_of};
 ghost use Rattle.aggregate.specs.PartialLaws.{IsAssociative, NumbersAreJoined, NumbersComeBack, PartialsAreSixteenBytes, SumsAreExact};
+ghost use Rattle.aggregate.specs.Values.{IsValueOf, ValuesStayFormed};
 
 use crate::agg_list::{Agg, AggList};
 use byteorder::{BigEndian, ByteOrder};
@@ -23,8 +25,8 @@ pub fn put_partial(into: &mut Vec<u8>, number: i128) -> Result<(), AllocError>
 /// bits, so nothing is refused.
 #[inline(always)]
 pub fn combine(aggs: &AggList, into: &mut [u8], from: &[u8])
-    requires into { length into.old ≡ 16 * length aggs.now }
-    requires from { length from.now ≡ 16 * length aggs.now }
+    requires into { IsValueOf (Group aggs.now) into.old }
+    requires from { IsValueOf (Group aggs.now) from.now }
     ensures { into.new ≡ combined aggs.now into.old from.now }
 {
     // A count and a sum, and a count alone, are what most queries ask for.
@@ -42,8 +44,8 @@ pub fn combine(aggs: &AggList, into: &mut [u8], from: &[u8])
 // Combines a value into another, aggregate by aggregate.
 #[inline(never)]
 fn combine_each(aggs: &[Agg], into: &mut [u8], from: &[u8])
-    requires into { length into.old ≡ 16 * length aggs.now }
-    requires from { length from.now ≡ 16 * length aggs.now }
+    requires into { IsValueOf (Group aggs.now) into.old }
+    requires from { IsValueOf (Group aggs.now) from.now }
     requires few { length aggs.now ≤ 8 }
     ensures { into.new ≡ combined aggs.now into.old from.now }
 {
@@ -94,7 +96,7 @@ fn write_number(into: &mut [u8], n: i128)
 
 /// The number of the aggregate at a place, from 0. `None` comes where it leaves the range of `i64`.
 pub fn finish(aggs: &AggList, value: &[u8], place: usize) -> Option<i64>
-    requires value { length value.now ≡ 16 * length aggs.now }
+    requires value { IsValueOf (Group aggs.now) value.now }
     requires place { place < length aggs.now }
     ensures { result ≡ narrowed (number_at place value.now) }
 {
@@ -107,6 +109,11 @@ pub fn finish(aggs: &AggList, value: &[u8], place: usize) -> Option<i64>
 /// of merges.
 pub fn combine_is_associative()
     ensures { IsAssociative }
+{}
+
+/// A value of a group stays one when another is combined into it.
+pub fn combined_values_stay_formed()
+    ensures { ValuesStayFormed }
 {}
 
 /// At each place stands what the aggregate of this place makes of the two numbers there.

@@ -1,6 +1,7 @@
 //! What a list of entries comes to.
 
 ghost use Rattle.aggregate.specs.declared.kind.Kind.{Kind};
+ghost use Rattle.aggregate.specs.Keyed.{TotalsTellKeys};
 ghost use Rattle.aggregate.specs.Rows.{TotalsAscend};
 ghost use Rattle.aggregate.specs.Totals.{TotalsStayEqual};
 
@@ -19,3 +20,11 @@ pub fn totals_stay_equal()
 pub fn totals_ascend()
     ensures { (kind : Kind) → TotalsAscend kind }
 {}
+
+/// What a list of entries of a group comes to has of each key one value, which the key's values are combined to in
+/// their order, and of no other key any. It does nothing when run.
+pub fn totals_tell_keys()
+    ensures { TotalsTellKeys }
+{
+    combine_is_associative();
+}

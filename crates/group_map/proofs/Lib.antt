@@ -4,5 +4,6 @@ pub mod KeyParts
 pub mod ByPlace
 pub mod Widths
 pub mod Places
+pub mod Formed
 pub mod Pages
 pub mod Ending

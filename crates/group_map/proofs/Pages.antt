@@ -1,47 +1,34 @@
 -- A page that a spill wrote: what went, what is left, and what the entries that a map lets go come to.
-use Rattle.std.proofs.Common.{◌≡◌, ◌≢◌, ℕ, ◌+◌, ◌*◌, ◌≤◌, List, [], ◌∷◌, ◌++◌, length, take, drop, Option, Some, None, refl, sym, ap, subst, ◌∙◌, arith, length-append, length-drop, take-append-drop}
+use Rattle.std.proofs.Common.{◌≡◌, ◌≢◌, ℕ, ◌+◌, ◌≤◌, List, [], ◌∷◌, ◌++◌, length, take, drop, Option, Some, None, refl, sym, ap, subst, ◌∙◌, arith, length-append, take-append-drop}
 use Rattle.std.specs.Prelude.{IsSome}
 use Rattle.std.specs.List.{All}
 use Rattle.std.specs.List.Sorted.{IsPermutation}
-use Rattle.std.proofs.lemmas.List.{length-map, length-take-le}
+use Rattle.std.proofs.lemmas.List.{length-map}
 use Rattle.std.proofs.lemmas.List.Sums.{sum_by-append}
-use Rattle.std.proofs.lemmas.List.Elements.{All-cons, All-drop, All-head, All-nil, All-tail}
+use Rattle.std.proofs.lemmas.List.Elements.{All-append, All-cons, All-head, All-nil, All-tail}
 use Rattle.std.proofs.lemmas.List.Sorted.{All-permutation, IsPermutation-append_right, length_permutation, sum_by-IsPermutation}
 use Rattle.aggregate.specs.declared.agg_list.Agg.{Agg}
 use Rattle.aggregate.specs.declared.kind.Kind.TheVariants.{Group, Order}
 use Rattle.aggregate.specs.Rows.{Ascends, entry_of, entries_of}
 use Rattle.aggregate.specs.Totals.{Entry, cost, costs}
-use Rattle.consumer_trait.specs.States.{IsEntryBy, total_by}
+use Rattle.consumer_trait.specs.States.{IsEntryBy, IsEntryOf, total_by}
 use Rattle.consumer_trait.specs.Calls.{IsEntryRow}
 use Rattle.consumer_trait.specs.Usages.{group_of}
 use Rattle.entry_list.proofs.Ends.{rises_suffix}
 use Rattle.entry_list.specs.Sorted.{Fills, IsSuffix, Sorts}
-use Rattle.group_map.specs.Pairs.{AreApart, entries_by, HasLength, width_of}
-use Rattle.group_map.proofs.ByPlace.{width_more}
+use Rattle.group_map.specs.Pairs.{AreApart, AreFormed}
 use Rattle.group_map.proofs.Distinct.{apart_behind, apart_left, apart_permuted, ascends_apart, moved_behind, total_permuted}
+use Rattle.group_map.proofs.Formed.{all_front, all_rest, of_kind}
 use Rattle.group_map.proofs.Taking.{least_charge}
 
--- what is true of each entry of a list is true of each in front and behind
-all_front : (P : Entry → Type 0) (front rest : List Entry) → All P (front ++ rest) → All P front
-all_front P [] rest all = All-nil P
-all_front P (e ∷ front) rest all = All-cons P e front (All-head P e (front ++ rest) all) (all_front P front rest (All-tail P e (front ++ rest) all))
-
-all_rest : (P : Entry → Type 0) (front rest : List Entry) → All P (front ++ rest) → All P rest
-all_rest P [] rest all = all
-all_rest P (e ∷ front) rest all = all_rest P front rest (All-tail P e (front ++ rest) all)
-
--- a row with a value of the width is one of the kind
-is_entry : (aggs : Option (List Agg)) (entry : Entry) → IsEntryBy (Some Order) entry → HasLength (width_of aggs) entry → IsEntryBy (group_of aggs) entry
-is_entry None entry it width = tt
-is_entry (Some aggs) entry it width = record { key_fits = it.key_fits; value_fits = it.value_fits; width = width }
-
-formed_by : (aggs : Option (List Agg)) (rows : List (List (List ℕ))) → All (IsEntryRow (Some Order)) rows → All (HasLength (width_of aggs)) (entries_of rows) → All (IsEntryRow (group_of aggs)) rows
-formed_by aggs [] formed widths = All-nil (IsEntryRow (group_of aggs))
-formed_by aggs (row ∷ rows) formed widths =
-    let first = All-head (IsEntryRow (Some Order)) row rows formed in
+-- rows whose entries are of the kind are of the kind
+formed_by : (aggs : Option (List Agg)) (rows : List (List (List ℕ))) → All (IsEntryRow (Some Order)) rows → All (IsEntryBy (group_of aggs)) (entries_of rows) → All (IsEntryRow (group_of aggs)) rows
+formed_by aggs [] rows_formed formed = All-nil (IsEntryRow (group_of aggs))
+formed_by aggs (row ∷ rows) rows_formed formed =
+    let first = All-head (IsEntryRow (Some Order)) row rows rows_formed in
     All-cons (IsEntryRow (group_of aggs)) row rows
-    (record { fields = first.fields; entry = is_entry aggs (entry_of row) first.entry (All-head (HasLength (width_of aggs)) (entry_of row) (entries_of rows) widths) })
-    (formed_by aggs rows (All-tail (IsEntryRow (Some Order)) row rows formed) (All-tail (HasLength (width_of aggs)) (entry_of row) (entries_of rows) widths))
+    (record { fields = first.fields; entry = All-head (IsEntryBy (group_of aggs)) (entry_of row) (entries_of rows) formed })
+    (formed_by aggs rows (All-tail (IsEntryRow (Some Order)) row rows rows_formed) (All-tail (IsEntryBy (group_of aggs)) (entry_of row) (entries_of rows) formed))
 
 -- what rises under one group's kind does so under the one that was begun
 rises_by : (aggs : Option (List Agg)) (entries : List Entry) → IsSome (group_of aggs) → Ascends (Some (Group [])) entries → Ascends (group_of aggs) entries
@@ -66,14 +53,17 @@ some_with (e ∷ front) some = λ none. absurd (cc)
 
 -- what is left of a chunk
 pub record Leaves (aggs : Option (List Agg)) (groups chunk left : List Entry) (costs_old costs_new : ℕ) : Type 0 where
-  pub widths : All (HasLength (width_of aggs)) left
+  pub formed : AreFormed aggs (groups ++ left)
   pub charged : costs_new ≡ costs (groups ++ left)
   pub apart : AreApart (groups ++ left)
   pub ascends : Ascends (Some (Group [])) left
 
-pub leaves : (aggs : Option (List Agg)) (groups chunk left : List Entry) (costs_old costs_new : ℕ) → IsSuffix left chunk → costs_new + costs chunk ≡ costs_old + costs left → costs_old ≡ costs (groups ++ chunk) → All (HasLength (width_of aggs)) chunk → AreApart (groups ++ chunk) → Ascends (Some (Group [])) chunk → Leaves aggs groups chunk left costs_old costs_new
-leaves aggs groups chunk left costs_old costs_new end fell charged widths apart up = record {
-  widths = all_rest (HasLength (width_of aggs)) end.0 left (subst (λ (es : List Entry). All (HasLength (width_of aggs)) es) end.1 widths);
+pub leaves : (aggs : Option (List Agg)) (groups chunk left : List Entry) (costs_old costs_new : ℕ) → IsSuffix left chunk → costs_new + costs chunk ≡ costs_old + costs left → costs_old ≡ costs (groups ++ chunk) → AreFormed aggs (groups ++ chunk) → AreApart (groups ++ chunk) → Ascends (Some (Group [])) chunk → Leaves aggs groups chunk left costs_old costs_new
+leaves aggs groups chunk left costs_old costs_new end fell charged formed apart up = record {
+  formed = λ begun is.
+      let P = IsEntryOf (Group begun) in
+      let all = formed begun is in
+      All-append P groups left (all_front P groups chunk all) (all_rest P end.0 left (subst (λ (es : List Entry). All P es) end.1 (all_rest P groups chunk all)));
   charged = let old = sum_by-append cost groups chunk in let new = sum_by-append cost groups left in omega (arith, old, new, fell, charged);
   apart = apart_left groups end.0 left (subst (λ (es : List Entry). AreApart (groups ++ es)) end.1 apart);
   ascends = rises_suffix [] left end.0 (subst (λ (es : List Entry). Ascends (Some (Group [])) es) end.1 up);
@@ -89,8 +79,8 @@ pub record Pages (aggs : Option (List Agg)) (groups chunk left : List Entry) (ro
   pub follows : entries_of rows ++ left ≡ chunk
   pub fell : costs left + 32 ≤ costs chunk
 
-pub pages : (aggs : Option (List Agg)) (groups chunk left : List Entry) (rows : List (List (List ℕ))) → IsSome (group_of aggs) → chunk ≢ [] → Fills chunk left rows → All (HasLength (width_of aggs)) chunk → AreApart (groups ++ chunk) → Ascends (Some (Group [])) chunk → Pages aggs groups chunk left rows
-pages aggs groups chunk left rows begun some fills widths apart up =
+pub pages : (aggs : Option (List Agg)) (groups chunk left : List Entry) (rows : List (List (List ℕ))) → IsSome (group_of aggs) → chunk ≢ [] → Fills chunk left rows → AreFormed aggs (groups ++ chunk) → AreApart (groups ++ chunk) → Ascends (Some (Group [])) chunk → Pages aggs groups chunk left rows
+pages aggs groups chunk left rows begun some fills formed apart up =
     let count : length (entries_of rows) ≡ length rows = length-map rows entry_of in
     let whole : AreApart (groups ++ (entries_of rows ++ left)) = subst (λ (es : List Entry). AreApart (groups ++ es)) fills.moved apart in
     let perm = moved_behind groups (entries_of rows) left in
@@ -99,7 +89,7 @@ pages aggs groups chunk left rows begun some fills widths apart up =
       total = total_by_group aggs (groups ++ (entries_of rows ++ left)) (entries_of rows ++ (groups ++ left)) begun whole perm ∙ ap (λ (es : List Entry). total_by (group_of aggs) (groups ++ es)) (sym fills.moved);
       some = one;
       moved = let sizes = ap length fills.moved in omega (arith, count, sizes, length-append (entries_of rows) left, length-append groups left, length-append groups chunk);
-      formed = formed_by aggs rows fills.formed (all_front (HasLength (width_of aggs)) (entries_of rows) left (subst (λ (es : List Entry). All (HasLength (width_of aggs)) es) fills.moved widths));
+      formed = formed_by aggs rows fills.formed (all_front (IsEntryBy (group_of aggs)) (entries_of rows) left (subst (λ (es : List Entry). All (IsEntryBy (group_of aggs)) es) fills.moved (all_rest (IsEntryBy (group_of aggs)) groups chunk (of_kind aggs (groups ++ chunk) formed))));
       ascends = rises_by aggs (entries_of rows ++ left) begun (subst (λ (es : List Entry). Ascends (Some (Group [])) es) fills.moved up);
       follows = sym fills.moved;
       fell = let sum = sum_by-append cost (entries_of rows) left in let same = ap costs fills.moved in let least = least_charge (entries_of rows) in omega (arith, sum, same, least, count, one);
@@ -107,31 +97,22 @@ pages aggs groups chunk left rows begun some fills widths apart up =
 
 -- ---- the last entries come off as a chunk
 
--- each value has the width
-pub widths_by : (w : ℕ) (ks : List (List ℕ)) (vs : List ℕ) → length vs ≡ w * length ks → All (HasLength w) (entries_by w ks vs)
-widths_by w [] vs long = All-nil (HasLength w)
-widths_by w (k ∷ ks) vs long =
-    let first : w ≤ length vs = omega (arith, long, width_more w (length ks)) in
-    let rest_long : length (drop w vs) ≡ w * length ks = omega (arith, long, width_more w (length ks), length-drop w vs) in
-    All-cons (HasLength w) (record { key = k; value = take w vs }) (entries_by w ks (drop w vs)) (length-take-le w vs first) (widths_by w ks (drop w vs) rest_long)
-
 -- what they come to with those that stay
 pub record ComesOff (aggs : Option (List Agg)) (entries kept chunk : List Entry) : Type 0 where
-  pub widths : All (HasLength (width_of aggs)) chunk
+  pub formed : AreFormed aggs (kept ++ chunk)
   pub charge : costs (kept ++ chunk) ≡ costs entries
   pub apart : AreApart (kept ++ chunk)
   pub ascends : Ascends (Some (Group [])) chunk
   pub count : length (kept ++ chunk) ≡ length entries
   pub total : IsSome (group_of aggs) → total_by (group_of aggs) (kept ++ chunk) ≡ total_by (group_of aggs) entries
 
-pub comes_off : (aggs : Option (List Agg)) (entries kept last chunk : List Entry) (n : ℕ) → kept ≡ take n entries → last ≡ drop n entries → Sorts last chunk → All (HasLength (width_of aggs)) entries → AreApart entries → ComesOff aggs entries kept chunk
-comes_off aggs entries kept last chunk n is_kept is_last sorts widths apart =
+pub comes_off : (aggs : Option (List Agg)) (entries kept last chunk : List Entry) (n : ℕ) → kept ≡ take n entries → last ≡ drop n entries → Sorts last chunk → AreFormed aggs entries → AreApart entries → ComesOff aggs entries kept chunk
+comes_off aggs entries kept last chunk n is_kept is_last sorts formed apart =
     let parts : kept ++ last ≡ entries = ap (λ (es : List Entry). es ++ last) is_kept ∙ ap (λ (es : List Entry). take n entries ++ es) is_last ∙ take-append-drop n entries in
     let perm : IsPermutation entries (kept ++ chunk) = subst (λ (es : List Entry). IsPermutation es (kept ++ chunk)) parts (IsPermutation-append_right kept last chunk sorts.permuted) in
-    let all_last : All (HasLength (width_of aggs)) last = subst (λ (es : List Entry). All (HasLength (width_of aggs)) es) (sym is_last) (All-drop (HasLength (width_of aggs)) n entries widths) in
     let apart_all = apart_permuted entries (kept ++ chunk) perm apart in
     record {
-      widths = All-permutation (HasLength (width_of aggs)) last chunk sorts.permuted all_last;
+      formed = λ begun is. All-permutation (IsEntryOf (Group begun)) entries (kept ++ chunk) perm (formed begun is);
       charge = sum_by-IsPermutation cost entries (kept ++ chunk) perm;
       apart = apart_all;
       ascends = ascends_apart chunk (apart_behind kept chunk apart_all) sorts.ascends;

@@ -15,6 +15,7 @@ use Rattle.aggregate.specs.declared.agg_list.Agg.{Agg}
 use Rattle.aggregate.specs.Partial.{combined}
 use Rattle.aggregate.specs.PartialLaws.{IsAssociative}
 use Rattle.aggregate.specs.Totals.{Entry, cost, costs, key_cmp}
+use Rattle.aggregate.specs.Values.{ValuesStayFormed, width}
 use Rattle.aggregate.proofs.Combining.{length-combined}
 use Rattle.aggregate.proofs.Totalling as totalling
 use Rattle.consumer_trait.specs.Calls.{has_key}
@@ -59,14 +60,14 @@ found_charged w ks vs key value i d found long width =
     omega (arith, one, cost_is, f.width, width)
 
 -- a value that was combined is taken in, and charged nothing
-pub combined_known : IsAssociative → (aggs : List Agg) (w : ℕ) (ks : List (List ℕ)) (vs seen bytes key value new : List ℕ) (i n : ℕ) (d : List ℕ) → position (is_key key) ks ≡ Some i → AreApart (entries_by w ks vs) → length vs ≡ w * length ks → w ≡ 16 * length aggs → seen ≡ vs → n ≡ w → bytes ≡ put_mid (w * i) n seen new → new ≡ combined aggs (take n (drop (w * i) seen)) value → TakesIn aggs (entries_by w ks vs) (entries_by w ks bytes) (record { key = key; value = value }) 0
-combined_known assoc aggs w ks vs seen bytes key value new i n d found apart long width is_seen is_n is_bytes is_new =
+pub combined_known : IsAssociative → ValuesStayFormed → (aggs : List Agg) (w : ℕ) (ks : List (List ℕ)) (vs seen bytes key value new : List ℕ) (i n : ℕ) (d : List ℕ) → position (is_key key) ks ≡ Some i → AreApart (entries_by w ks vs) → length vs ≡ w * length ks → w ≡ width aggs → seen ≡ vs → n ≡ w → bytes ≡ put_mid (w * i) n seen new → new ≡ combined aggs (take n (drop (w * i) seen)) value → TakesIn aggs (entries_by w ks vs) (entries_by w ks bytes) (record { key = key; value = value }) 0
+combined_known assoc stay aggs w ks vs seen bytes key value new i n d found apart long wide is_seen is_n is_bytes is_new =
     let e : Entry = record { key = key; value = take w (drop (w * i) vs) } in
     let f = finds w ks vs key i d found long in
     let es : List Entry = entries_by w ks vs in
     let count = length-entries_by w ks vs in
     let value_is : new ≡ combined aggs (take w (drop (w * i) vs)) value = is_new ∙ ap (λ (k : ℕ). combined aggs (take k (drop (w * i) seen)) value) is_n ∙ ap (λ (bs : List ℕ). combined aggs (take w (drop (w * i) bs)) value) is_seen in
-    let size : length new ≡ w = ap length value_is ∙ length-combined aggs (take w (drop (w * i) vs)) value ∙ sym width in
+    let size : length new ≡ w = ap length value_is ∙ length-combined aggs (take w (drop (w * i) vs)) value ∙ sym wide in
     let put : bytes ≡ put_mid (w * i) w vs new = is_bytes ∙ ap (λ (k : ℕ). put_mid (w * i) k seen new) is_n ∙ ap (λ (bs : List ℕ). put_mid (w * i) w bs new) is_seen in
     let there : get_or es i e ≡ record { key = (get_or ks i d); value = take w (drop (w * i) vs) } = entry_at_place w ks vs i d e f.within in
     let name : key ≡ (get_or ks i d) = ap (λ (x : Entry). x.key) (sym f.there ∙ there) in
@@ -74,7 +75,7 @@ combined_known assoc aggs w ks vs seen bytes key value new i n d found apart lon
     ap (entries_by w ks) put ∙ set-entries_by w ks vs new i d f.within long size
     ∙ ap (λ (k : List ℕ). set es i (record { key = k; value = new })) (sym name) in
     subst (λ (after : List Entry). TakesIn aggs es after (record { key = key; value = value }) 0) (sym written)
-    (takes_known assoc aggs (record { key = key; value = value }) es i e (record { key = key; value = new }) apart (omega (arith, f.within, count))
+    (takes_known assoc stay aggs (record { key = key; value = value }) es i e (record { key = key; value = new }) apart (omega (arith, f.within, count))
     (ap (λ (x : Entry). x.key) (sym f.there))
     (ap (λ (bs : List ℕ). record { key = key; value = bs }) value_is ∙ ap (λ (x : Entry). record { key = x.key; value = combined aggs x.value value }) (sym f.there))
     (size ∙ sym f.width ∙ ap (λ (x : Entry). length x.value) (sym f.there)))

@@ -2,15 +2,18 @@
 use Rattle.std.proofs.Common.{◌≡◌, ℕ, zero, suc, ◌+◌, ◌*◌, ◌<◌, ◌≤◌, false, List, [], ◌∷◌, ◌++◌, length, get_or, set, arith, refl, sym, ap, subst, ◌∙◌, append-nil}
 use Rattle.std.specs.Prelude.{Bool, true, ◌||◌}
 use Rattle.std.specs.Ordering.{is_eq}
-use Rattle.std.specs.List.{AllByRecursion, IsDistinct}
+use Rattle.std.specs.List.{All, AllByRecursion, IsDistinct}
 use Rattle.aggregate.specs.declared.agg_list.Agg.{Agg}
 use Rattle.aggregate.specs.declared.kind.Kind.TheVariants.{Group}
 use Rattle.aggregate.specs.Partial.{combined}
 use Rattle.aggregate.specs.PartialLaws.{IsAssociative}
 use Rattle.aggregate.specs.Totals.{Entry, cost, costs, insert_group, key_cmp, total}
+use Rattle.aggregate.specs.Values.{IsValueOf, ValuesStayFormed}
 use Rattle.aggregate.proofs.Totalling.{last_group, swap_group, total-snoc_group}
+use Rattle.std.proofs.lemmas.List.Elements.{All-get_or, All-set}
 use Rattle.std.proofs.lemmas.List.Sums.{sum_by-append, sum_by-cons}
 use Rattle.consumer_trait.specs.Calls.{has_key}
+use Rattle.consumer_trait.specs.States.{IsEntryOf}
 use Rattle.group_map.specs.Pairs.{AreApart, same_key, TakesIn}
 use Rattle.group_map.proofs.Distinct.{AreDistinct, absent_total, apart_of, distinct_of, joined_last, same_flips}
 
@@ -48,14 +51,27 @@ apart_set (x ∷ es) zero d new b key apart =
 apart_set (x ∷ es) (suc i) d new b key apart =
     (all_set (λ e. same_key x e ≡ false) es i d new (omega arith) (λ n. ap (λ (k : List ℕ). is_eq (key_cmp x.key k)) key ∙ n) apart.0, apart_set es i d new (omega arith) key apart.1)
 
+-- an entry into whose value another was combined is still one of the kind
+formed_set : ValuesStayFormed → (aggs : List Agg) (e : Entry) (es : List Entry) (i : ℕ) (d new : Entry) → i < length es → new ≡ record { key = (get_or es i d).key; value = combined aggs (get_or es i d).value e.value } → length new.value ≡ length (get_or es i d).value → All (IsEntryOf (Group aggs)) es → All (IsEntryOf (Group aggs)) (set es i new)
+formed_set stay aggs e es i d new b is len all =
+    let was : IsEntryOf (Group aggs) (get_or es i d) = All-get_or (IsEntryOf (Group aggs)) es i d b all in
+    let key : length new.key ≡ length (get_or es i d).key = ap (λ (n : Entry). length n.key) is in
+    let now : IsEntryOf (Group aggs) new = record {
+      key_fits = let fits = was.key_fits in omega (arith, key, fits);
+      value_fits = let fits = was.value_fits in omega (arith, len, fits);
+      width = subst (λ (n : Entry). IsValueOf (Group aggs) n.value) (sym is) (stay aggs (get_or es i d).value e.value was.width);
+    } in
+    All-set (IsEntryOf (Group aggs)) es i new now all
+
 -- an entry of a known key is taken in, where its value is combined into the one that is there, and charged nothing
-pub takes_known : IsAssociative → (aggs : List Agg) (e : Entry) (es : List Entry) (i : ℕ) (d new : Entry) → AreApart es → i < length es → e.key ≡ (get_or es i d).key → new ≡ record { key = (get_or es i d).key; value = combined aggs (get_or es i d).value e.value } → length new.value ≡ length (get_or es i d).value → TakesIn aggs es (set es i new) e 0
-takes_known assoc aggs e es i d new apart b key is len =
+pub takes_known : IsAssociative → ValuesStayFormed → (aggs : List Agg) (e : Entry) (es : List Entry) (i : ℕ) (d new : Entry) → AreApart es → i < length es → e.key ≡ (get_or es i d).key → new ≡ record { key = (get_or es i d).key; value = combined aggs (get_or es i d).value e.value } → length new.value ≡ length (get_or es i d).value → TakesIn aggs es (set es i new) e 0
+takes_known assoc stay aggs e es i d new apart b key is len =
     let name : new.key ≡ (get_or es i d).key = ap (λ (n : Entry). n.key) is in
     record {
       total = ap (λ (n : Entry). total (Group aggs) (set es i n)) is ∙ total_set assoc aggs e es i d (distinct_of es apart) b key ∙ sym (total-snoc_group aggs assoc es e);
       charged = let long = ap length name in let same = set_costs es i d new b (omega (arith, long, len)) in omega (arith, same);
       apart = apart_set es i d new b name apart;
+      formed = formed_set stay aggs e es i d new b is len;
     }
 
 all_push : (P : Entry → Type 0) (es : List Entry) (e : Entry) → AllByRecursion P es → P e → AllByRecursion P (es ++ e ∷ [])

@@ -1,12 +1,13 @@
 -- Keys, and the value of each at its place in one list of bytes, as entries.
 -- This project's own.
-use Rattle.std.specs.Prelude.{◌≡◌, ℕ, ◌+◌, List, [], ◌∷◌, ◌++◌, Bool, Option, Some, None, length, take, drop}
+use Rattle.std.specs.Prelude.{◌≡◌, ℕ, ◌+◌, List, [], ◌∷◌, ◌++◌, Bool, Option, Some, None, All, take, drop}
 use Rattle.std.specs.List.{IsDistinct}
 use Rattle.std.specs.Ordering.{is_eq}
 use Rattle.aggregate.specs.declared.agg_list.Agg.{Agg}
 use Rattle.aggregate.specs.declared.kind.Kind.TheVariants.{Group}
 use Rattle.aggregate.specs.Totals.{Entry, costs, key_cmp, total}
 use Rattle.aggregate.specs.Values.{width}
+use Rattle.consumer_trait.specs.States.{IsEntryOf}
 use Rattle.group_map.specs.declared.groups.Groups.{Groups}
 
 -- the entries: the value of the key at place i has `width` bytes from width * i on
@@ -26,9 +27,9 @@ same_key a b = is_eq (key_cmp a.key b.key)
 abbrev pub AreApart : List Entry → Type 0
 AreApart entries = IsDistinct same_key entries
 
--- an entry with a value of so many bytes
-abbrev pub HasLength : ℕ → Entry → Type 0
-HasLength bytes entry = length entry.value ≡ bytes
+-- each entry is one that a map may be fed that was begun with these aggregates
+abbrev pub AreFormed : Option (List Agg) → List Entry → Type 0
+AreFormed aggs entries = (begun : List Agg) → aggs ≡ Some begun → All (IsEntryOf (Group begun)) entries
 
 -- the bytes of a value, once the aggregates are known
 abbrev pub width_of : Option (List Agg) → ℕ
@@ -40,3 +41,4 @@ pub record TakesIn (aggs : List Agg) (old new : List Entry) (entry : Entry) (byt
   pub total : total (Group aggs) new ≡ total (Group aggs) (old ++ entry ∷ [])
   pub charged : costs new ≡ costs old + bytes
   pub apart : AreApart new
+  pub formed : All (IsEntryOf (Group aggs)) old → All (IsEntryOf (Group aggs)) new

@@ -3,9 +3,10 @@
 ghost use Rattle.std.specs.Prelude.{◌≡◌, ◌≤◌, ◌<◌, ◌*◌, length, All, IfOk, IfSome, is_some, nat_eq, position};
 ghost use Rattle.std.specs.List.{list_any};
 ghost use Rattle.std.specs.Cmp.Lexicographic.{pointwise};
+ghost use Rattle.aggregate.specs.declared.kind.Kind.TheVariants.{Group};
 
 use crate::group_key::GroupKey;
-use aggregate::{AggList, combine, combine_is_associative};
+use aggregate::{AggList, combine, combine_is_associative, combined_values_stay_formed};
 use entry_list::EntryList;
 use indexmap::IndexSet;
 use std::alloc::{AllocError, Global};
@@ -29,6 +30,7 @@ pub struct Groups {
 impl Groups {
     ghost use Rattle.std.specs.Prelude.{◌∷◌, ◌++◌, ◌↔◌, [], true, false, take, drop, IsTrue, OnOk, OnErr};
     ghost use Rattle.aggregate.specs.Totals.{cost, costs};
+    ghost use Rattle.aggregate.specs.Values.{IsValueOf, width};
     ghost use Rattle.consumer_trait.specs.Calls.{has_key};
     ghost use Rattle.entry_list.specs.Lists.{entries_of_list};
     ghost use Rattle.group_map.specs.Pairs.{AreApart, entries_of_groups, TakesIn};
@@ -62,8 +64,8 @@ impl Groups {
 
     /// Combines the value into that of its key, and says whether the key was there. If it wasn't, nothing changed.
     pub fn combine_known(&mut self, aggs: &AggList, key: &[u8], value: &[u8]) -> bool
-        requires value { length value.now ≡ 16 * length aggs.now }
-        requires width { self.old.width ≡ 16 * length aggs.now }
+        requires value { IsValueOf (Group aggs.now) value.now }
+        requires width { self.old.width ≡ width aggs.now }
         requires apart { AreApart (entries_of_groups self.old) }
         ensures known { result ≡ has_key key.now (entries_of_groups self.old) }
         ensures takes { result ≡ true → TakesIn aggs.now
@@ -75,6 +77,7 @@ impl Groups {
         ensures width { self.new.width ≡ self.old.width }
     {
         combine_is_associative();
+        combined_values_stay_formed();
         let Some(place) = place_of(&self.keys, key) else {
             return false;
         };

@@ -1,8 +1,10 @@
 // The fields of a row, put one behind the other into a text.
-ghost use Rattle.std.specs.Prelude.{◌≡◌, ◌<◌, ◌*◌, ◌∷◌, [], List, ℕ, IfNone, IfOk, IfSome, OnOk, length, map, not, true, false};
+ghost use Rattle.std.specs.Prelude.{◌≡◌, ◌<◌, ◌∷◌, [], List, ℕ, IfNone, IfOk, IfSome, OnOk, length, map, not, true, false};
 ghost use Rattle.std.specs.Fmt.{signed_decimal};
 ghost use Rattle.std.specs.List.{list_any};
 ghost use Rattle.aggregate.specs.Partial.{fits_i64, number_at};
+ghost use Rattle.aggregate.specs.Values.{IsValueOf};
+ghost use Rattle.aggregate.specs.declared.kind.Kind.TheVariants.{Group};
 ghost use Rattle.row_page.specs.Grammar.{ArePieces, HasPieces};
 ghost use Rattle.job_plan.specs.Telling.{key_fields, value_numbers};
 ghost use Rattle.result_table.specs.Table.{EndsRow, IsInRow, PutsFields};
@@ -88,7 +90,7 @@ pub(crate) fn put_numbers(
     aggs: &AggList,
     value: &[u8],
 ) -> Result<bool, AllocError>
-    requires value { length value.now ≡ 16 * length aggs.now }
+    requires value { IsValueOf (Group aggs.now) value.now }
     ensures row { IfOk result (λ told. told ≡ true →
         PutsFields writer.old writer.new (map signed_decimal (value_numbers (length aggs.now) value.now))) }
     ensures narrow { IfOk result (λ told. told
@@ -109,7 +111,7 @@ fn put_number(
     value: &[u8],
     place: usize,
 ) -> Result<bool, AllocError>
-    requires value { length value.now ≡ 16 * length aggs.now }
+    requires value { IsValueOf (Group aggs.now) value.now }
     requires place { place < length aggs.now }
     ensures narrow { IfOk result (λ told. told ≡ fits_i64 (number_at place value.now)) }
     ensures row { IfOk result (λ told. told ≡ true →

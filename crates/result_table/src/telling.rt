@@ -1,6 +1,7 @@
 // The row that an entry tells, where it tells one.
-ghost use Rattle.std.specs.Prelude.{◌≡◌, ◌*◌, ◌++◌, List, ℕ, IfOk, OnOk, length, map, true, false};
+ghost use Rattle.std.specs.Prelude.{◌≡◌, ◌++◌, List, ℕ, IfOk, OnOk, length, map, true, false};
 ghost use Rattle.std.specs.Fmt.{signed_decimal};
+ghost use Rattle.aggregate.specs.declared.kind.Kind.TheVariants.{Group};
 ghost use Rattle.row_page.specs.Reading.{fields_of};
 ghost use Rattle.row_page.specs.Views.{fields_in};
 ghost use Rattle.row_form.specs.Forms.{IsValueOf};
@@ -66,7 +67,7 @@ fn tell_group(
     field: &mut Vec<u8>,
 ) -> Result<bool, AllocError>
     requires between { IsBetweenRows writer.old }
-    requires value { length value.now ≡ 16 * length aggs.now }
+    requires value { IsValueOf (Group aggs.now) value.now }
     ensures row { IfOk result (λ told. told ≡ true → EndsRow (text_in writer.old)
         (key_fields columns key.now ++ map signed_decimal (value_numbers (length aggs.now) value.now)) writer.new) }
     ensures told { IfOk result (λ told. told ≡ true →

@@ -1,8 +1,9 @@
 // Sums that are too wide to be printed.
-ghost use Rattle.std.specs.Prelude.{◌≡◌, ◌<◌, ◌*◌, Err, IfOk, IfSome, List, None, OnErr, Some, length, not, option_map};
+ghost use Rattle.std.specs.Prelude.{◌≡◌, ◌<◌, Err, IfOk, IfSome, List, None, OnErr, Some, length, not, option_map};
 ghost use Rattle.std.specs.List.{list_any};
 ghost use Rattle.aggregate.specs.Partial.{fits_i64};
 ghost use Rattle.aggregate.specs.Totals.{Entry};
+ghost use Rattle.aggregate.specs.Values.{IsValueOf};
 ghost use Rattle.aggregate.specs.declared.kind.Kind.TheVariants.{Group};
 ghost use Rattle.run_file.specs.Causes.{HasCauseOn, NotDamaged};
 ghost use Rattle.run_file.specs.Shelved.{LeavesFiles, faults_on, files_on};
@@ -93,7 +94,7 @@ fn copy_key(alloc: Global, bytes: &[u8]) -> Result<Option<Key>, RunFault>
 
 // Whether a value has a number outside `i64`.
 fn has_wide(aggs: &AggList, value: &[u8]) -> bool
-    requires { length value.now ≡ 16 * length aggs.now }
+    requires { IsValueOf (Group aggs.now) value.now }
     ensures { result ≡ list_any (λ number. not (fits_i64 number)) (value_numbers (length aggs.now) value.now) }
 {
     for place in 0..aggs.items().len() {

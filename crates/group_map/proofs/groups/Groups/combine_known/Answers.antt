@@ -25,7 +25,7 @@ returns-clause-takes c = λ known.
     let bytes = put_mid at n c.deref_mut.result.now c.combine.new.into in
     let long : length bytes ≡ length groups.values.items = same_len_mid at n c.deref_mut.result.now c.combine.new.into c.combine.auto.into ∙ ap length c.deref_mut.ensures.value in
     let found : position (is_key c.args.key.now) groups.keys.keys ≡ Some c.in-Some.place = sym c.place_of.ensures.place ∙ c.in-Some.is in
-    combined_known c.combine_is_associative.ensures c.args.aggs.now groups.width groups.keys.keys groups.values.items c.deref_mut.result.now _ c.args.key.now c.args.value.now c.combine.new.into c.in-Some.place n []
+    combined_known c.combine_is_associative.ensures c.combined_values_stay_formed.ensures c.args.aggs.now groups.width groups.keys.keys groups.values.items c.deref_mut.result.now _ c.args.key.now c.args.value.now c.combine.new.into c.in-Some.place n []
     found c.requires.apart groups.whole c.requires.width c.deref_mut.ensures.value (omega arith)
     (with_items_is groups.values bytes (long ∙ sym groups.values.ok.0)) c.combine.ensures
 
