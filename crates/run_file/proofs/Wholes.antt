@@ -1,6 +1,7 @@
 -- The rows of a run, checked one by one.
 use Rattle.std.proofs.Common.{◌≡◌, ℕ, zero, suc, ◌+◌, ◌<◌, ◌≤◌, List, [], ◌∷◌, ◌++◌, length, take, drop, Option, Some, None, Result, Ok, Err, refl, sym, ap, subst, ◌∙◌, arith}
 use Rattle.std.specs.List.{AllByRecursion}
+use Rattle.std.specs.Prelude.{IfSome}
 use Rattle.std.proofs.lemmas.List.{drop-drop, length-append, length-take, length-drop}
 use Rattle.row_page.proofs.Fronts.{one_front, front_length}
 use Rattle.row_page.proofs.PagePlaces.{drop_front}
@@ -16,7 +17,7 @@ use Rattle.run_file.specs.Filling.{BeginsRow}
 use Rattle.row_form.specs.Forms.{HasForm, IsWellFormed}
 use Rattle.run_file.specs.Reading.{BeginsDamaged}
 use Rattle.run_file.specs.Runs.{Stands, greatest_cost}
-use Rattle.run_file.specs.Whole.{AreRowsOf, BeginsRows, ReadsRun}
+use Rattle.run_file.specs.Whole.{AreRowsOf, BeginsRows, FindsDamage, ReadsRun, bytes_in}
 use Rattle.run_file.proofs.Reaching.{front_cut}
 use Rattle.run_file.proofs.Writing.{is_page-append}
 
@@ -124,3 +125,9 @@ cause_inside disk before now (Ok x) h = tt
 cause_inside disk before now (Err (DiskFault named)) h = absurd h
 cause_inside disk before now (Err (Damaged damage)) h = tt
 cause_inside disk before now (Err NoMemory) h = tt
+
+-- what was read is what the disk has, where it tells
+pub found_in : {T : Type 0} (files : Option Files) (run : Run) (form : Form) (bytes : List ℕ) (result : Result T RunFault) → ReadsRun files run bytes → FindsDamage form run.greatest bytes result
+    → IfSome (bytes_in files run) (λ known. FindsDamage form run.greatest known result)
+found_in None run form bytes result read finds = tt
+found_in (Some files) run form bytes result read finds = subst (λ (known : List ℕ). FindsDamage form run.greatest known result) read finds

@@ -1,11 +1,11 @@
 //! A run that is read whole, into a page.
 
-ghost use Rattle.std.specs.Prelude.{◌≡◌, ◌+◌, ◌≤◌, List, ℕ, IfOk, OnErr, OnOk, length, take};
+ghost use Rattle.std.specs.Prelude.{◌≡◌, ◌+◌, ◌≤◌, List, ℕ, IfOk, IfSome, OnErr, OnOk, length, take};
 ghost use Rattle.std.specs.List.{AllByRecursion};
 ghost use Rattle.run_file.specs.Causes.{HasCauseOn, NoDiskFault, NotDamaged};
 ghost use Rattle.row_form.specs.Forms.{HasForm, IsWellFormed};
 ghost use Rattle.run_file.specs.Runs.{Stands};
-ghost use Rattle.run_file.specs.Whole.{AreRowsOf, BeginsRows, GivesPage, ReadsRun, TellsDamageOf, UsesAll};
+ghost use Rattle.run_file.specs.Whole.{AreRowsOf, BeginsRows, FindsDamage, GivesPage, ReadsRun, TellsDamageOf, UsesAll, bytes_in};
 
 use crate::run::fault_of;
 use crate::run_reader::{damage_of, front_of};
@@ -19,7 +19,7 @@ use std::alloc::Global;
 const MOST_BYTES: usize = 1 << 40;
 
 /// Reads a run whole from its disk, by one call of the disk, into a page that has no more room than its
-/// rows take. A row that isn't well formed is damage. A run of more than 2^40 bytes is want of memory.
+/// rows take. The first row that isn't well formed is damage, and those before it are counted. A run of more than 2^40 bytes is want of memory.
 pub fn read_page<D: Disk>(
     alloc: Global,
     disk: &mut D,
@@ -32,6 +32,7 @@ pub fn read_page<D: Disk>(
     ensures count { IfOk result (λ page. length page.rows ≡ run.now.count) }
     ensures room { IfOk result (λ page. page.room ≤ run.now.bytes) }
     ensures damaged { TellsDamageOf run.now result }
+    ensures why { IfSome (bytes_in (D.files disk.old) run.now) (λ bytes. FindsDamage form.now run.now.greatest bytes result) }
     ensures same { D.files disk.new ≡ D.files disk.old }
     ensures later { D.faults disk.old ≤ D.faults disk.new }
     ensures cause { HasCauseOn run.now.disk (D.faults disk.old) (D.faults disk.new) result }
@@ -68,6 +69,7 @@ fn page_of(alloc: Global, run: &Run, form: &Form, bytes: Vec<u8>) -> Result<Page
     ensures count { IfOk result (λ page. length page.rows ≡ run.now.count) }
     ensures room { IfOk result (λ page. page.room ≤ length bytes.items) }
     ensures damaged { TellsDamageOf run.now result }
+    ensures why { FindsDamage form.now run.now.greatest bytes.items result }
     ensures inside { NoDiskFault result }
 {
     let used = check_rows(form, run, &bytes)?;
@@ -88,6 +90,7 @@ fn check_rows(form: &Form, run: &Run, bytes: &[u8]) -> Result<usize, RunFault>
     ensures inside { IfOk result (λ used. used ≤ length bytes.now) }
     ensures all { (rows : List (List (List ℕ))) → AreRowsOf form.now run.now bytes.now rows → UsesAll bytes.now result }
     ensures damaged { TellsDamageOf run.now result }
+    ensures why { FindsDamage form.now run.now.greatest bytes.now result }
     ensures disk { NoDiskFault result }
 {
     let mut at = 0;

@@ -4,7 +4,7 @@ use crate::tests::row_words::cut;
 use job_plan::Plan;
 use row_page::Page;
 use run_file::{Run, RunWriter};
-use spill_disk::MemoryDisk;
+use spill_disk::{Disk, MemoryDisk};
 use std::alloc::Global;
 use std::test::Fail;
 
@@ -17,7 +17,7 @@ pub fn plan_of(alloc: Global, job: &str) -> Result<Plan, Fail> {
 }
 
 // The page of rows that are words such as `7,a`, numbered from this number on.
-fn page_of(alloc: Global, first: u64, words: &str) -> Result<Page, Fail> {
+pub fn page_of(alloc: Global, first: u64, words: &str) -> Result<Page, Fail> {
     let mut page = Page::new(alloc, 4096);
     let mut number = first;
     for word in words.split_whitespace() {
@@ -41,7 +41,8 @@ pub fn land(alloc: Global, disk: &mut MemoryDisk, parts: &[&str]) -> Result<Vec<
     Ok(runs)
 }
 
-fn land_page(disk: &mut MemoryDisk, page: &Page) -> Result<Run, Fail> {
+// Writes a page as a partition.
+pub fn land_page<D: Disk>(disk: &mut D, page: &Page) -> Result<Run, Fail> {
     let mut writer = RunWriter::start(disk, 0)?;
     writer.write(disk, page)?;
     Ok(writer.finish())

@@ -1,6 +1,10 @@
 // Disks that fail, and files that aren't what was landed.
 use crate::tests::handing::{JOB, PARTS, setup_of};
+use crate::tests::landed::{land_page, page_of, plan_of};
 use crate::tests::playing::{Case, play};
+use run_file::{Damage, RunFault, read_page};
+use spill_disk::VeilDisk;
+use std::alloc::Global;
 use std::marker::Brand;
 use std::test::*;
 
@@ -43,5 +47,35 @@ fn a_failing_disk_is_told(rt: HostRuntime) -> Result<(), Fail> {
     let played = play::<Brand, _>(&rt, rt.alloc(), setup_of(4000)?, &case)?;
     assert_eq!(rt; played.notes.as_str(), " disk own 1,1,a 3,3,a");
     assert_eq!(rt; played.entries.as_str(), " admit,1,0 admit,2,0");
+    Ok(())
+}
+
+// How many of three rows are found where so many of the file's last bytes are hidden.
+fn found_of(alloc: Global, hidden: u64) -> Result<Result<usize, RunFault>, Fail> {
+    let mut disk = VeilDisk::new(alloc, Vec::new(alloc), vec![in alloc; (0u64, hidden)]?);
+    let run = land_page(&mut disk, &page_of(alloc, 1, "1,a 5,b 3,a")?)?;
+    let plan = plan_of(alloc, JOB)?;
+    Ok(read_page(alloc, &mut disk, &run, plan.chain().form()).map(|page| page.rows()))
+}
+
+// Each row has 26 bytes in the file: a length, and three lengths with 8, 1 and 1 bytes.
+#[test]
+fn a_landed_file_is_damaged_at_the_first_row_that_is_not_whole(
+    rt: HostRuntime,
+) -> Result<(), Fail> {
+    assert_eq!(rt; found_of(rt.alloc(), 0)?, Ok(3));
+    for (hidden, found) in [(1u64, 2u64), (26, 2), (27, 1), (78, 0), (1000, 0)] {
+        let damage = Damage {
+            disk: 0,
+            file: 0,
+            kept: 3,
+            found,
+        };
+        assert_eq!(rt;
+            found_of(rt.alloc(), hidden)?,
+            Err(RunFault::Damaged(damage)),
+            "{hidden}"
+        );
+    }
     Ok(())
 }

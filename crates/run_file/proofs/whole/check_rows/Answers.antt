@@ -26,3 +26,10 @@ pub returns-clause-all : goal.returns-clause-all
 returns-clause-all c rows are =
     let ended : c.args.run.now.count ≤ c.loop-found.found = search rules in
     all_used c.args.form.now c.args.run.now c.args.bytes.now c.loop-found.at c.loop-found.found c.loop-found.invariant ended rows are
+
+pub returns-in_default-clause-why : goal.returns-in_default-clause-why
+returns-in_default-clause-why c =
+    let so_far = c.loop-found.invariant in
+    let rest : take (length c.args.bytes.now - c.loop-found.at) (drop c.loop-found.at c.args.bytes.now) ≡ drop c.loop-found.at c.args.bytes.now = take_rest c.args.bytes.now c.loop-found.at in
+    let damaged : BeginsDamaged c.args.form.now c.args.run.now.greatest (drop c.loop-found.at c.args.bytes.now) = rw rest at c.in_default.ensures.none in
+    rw c.damage_of.ensures (c.loop-found.at, so_far.begins, damaged)
