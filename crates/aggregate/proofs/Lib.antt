@@ -10,4 +10,9 @@ pub mod NumberOrder
 pub mod Ascending
 pub mod Fronts
 pub mod Rests
+pub mod Forming
+pub mod Adding
+pub mod Present
+pub mod Deciding
 pub mod Keyed
+pub mod Tested

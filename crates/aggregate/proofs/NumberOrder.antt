@@ -39,7 +39,7 @@ byte_at-pow : (k x : ℕ) → byte_at k x ≡ x / 256 ^ k % 256
 byte_at-pow zero x = ap (λ (y : ℕ). y % 256) (sym (div-one x))
 byte_at-pow (suc k) x = refl
 
-byte-small : (k x : ℕ) → byte_at k x < 256
+pub byte-small : (k x : ℕ) → byte_at k x < 256
 byte-small k x = rw (byte_at-pow k x) (mod-lt (x / 256 ^ k) (omega arith))
 
 some-pow : (n : ℕ) → 0 < 256 ^ n

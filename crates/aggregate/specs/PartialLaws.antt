@@ -1,38 +1,38 @@
 -- What partial values come to, however they are combined.
 -- This project's own.
-use Rattle.std.specs.Prelude.{◌≡◌, ℕ, ◌*◌, ◌<◌, true, List, ◌++◌, length, slice_index_or, ℤ, ◌+ℤ◌}
+use Rattle.std.specs.Prelude.{◌≡◌, ℕ, ◌*◌, ◌<◌, true, List, ◌++◌, Option, Some, length, slice_index_or, ℤ, ◌+ℤ◌}
 use Rattle.std.specs.Int.{w128}
 use Rattle.std.specs.Int.RustNames.{FitsSigned}
 use Rattle.aggregate.specs.declared.agg_list.Agg.{Agg}
 use Rattle.aggregate.specs.declared.agg_list.Agg.TheVariants.{Count}
 pub use Rattle.aggregate.specs.Partial.{adds}
-use Rattle.aggregate.specs.Partial.{combined, joined, number_at, partial_of}
+use Rattle.aggregate.specs.Partial.{combined, joined, partial_at, partial_of, slot_bytes}
+use Rattle.aggregate.specs.Values.{FitsPartial}
 
 -- values may be combined in any grouping
 abbrev pub IsAssociative : Type 0
 IsAssociative =
     (aggs : List Agg) (a b c : List ℕ) → combined aggs (combined aggs a b) c ≡ combined aggs a (combined aggs b c)
 
--- each number of the joint value is that of the two at its place
-abbrev pub NumbersAreJoined : Type 0
-NumbersAreJoined =
+-- each partial value of the joint value is that of the two at its place
+abbrev pub PartialsAreJoined : Type 0
+PartialsAreJoined =
     (aggs : List Agg) (place : ℕ) (a b : List ℕ) → place < length aggs
-    → number_at place (combined aggs a b) ≡ joined (slice_index_or aggs place Count) (number_at place a) (number_at place b)
+    → partial_at place (combined aggs a b) ≡ joined (slice_index_or aggs place Count) (partial_at place a) (partial_at place b)
 
 -- where the exact sum of two numbers has a place in 128 bits, it is what combining gives for an aggregate that adds
 abbrev pub SumsAreExact : Type 0
 SumsAreExact =
-    (aggs : List Agg) (place : ℕ) (a b : List ℕ) → place < length aggs
-    → adds (slice_index_or aggs place Count) ≡ true
-    → FitsSigned w128 (number_at place a +ℤ number_at place b)
-    → number_at place (combined aggs a b) ≡ number_at place a +ℤ number_at place b
+    (aggs : List Agg) (place : ℕ) (a b : List ℕ) (x y : ℤ) → place < length aggs
+    → adds (slice_index_or aggs place Count) ≡ true → partial_at place a ≡ Some x → partial_at place b ≡ Some y
+    → FitsSigned w128 (x +ℤ y) → partial_at place (combined aggs a b) ≡ Some (x +ℤ y)
 
--- each number takes 16 bytes
-abbrev pub PartialsAreSixteenBytes : Type 0
-PartialsAreSixteenBytes = (n : ℤ) → length (partial_of n) ≡ 16
+-- each takes so many bytes
+abbrev pub PartialsAreLong : Type 0
+PartialsAreLong = (o : Option ℤ) → length (partial_of o) ≡ slot_bytes
 
--- a number of 128 bits that was put at a place is read there
-abbrev pub NumbersComeBack : Type 0
-NumbersComeBack =
-    (n : ℤ) (place : ℕ) (before rest : List ℕ) → FitsSigned w128 n → length before ≡ 16 * place
-    → number_at place (before ++ (partial_of n ++ rest)) ≡ n
+-- one that was put at a place is read there
+abbrev pub PartialsComeBack : Type 0
+PartialsComeBack =
+    (o : Option ℤ) (place : ℕ) (before rest : List ℕ) → FitsPartial o → length before ≡ slot_bytes * place
+    → partial_at place (before ++ (partial_of o ++ rest)) ≡ o

@@ -71,12 +71,12 @@ impl AggList {
         &self.items
     }
 
-    /// The bytes that a value with these aggregates has: 16 for each.
+    /// The bytes that a value with these aggregates has: 17 for each.
     pub fn width(&self) -> usize
         ensures width { result ≡ width self.now }
-        ensures small { result ≤ 128 }
+        ensures small { result ≤ 136 }
     {
-        16 * self.items.len()
+        17 * self.items.len()
     }
 
     /// The same list in memory of its own.

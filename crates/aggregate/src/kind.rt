@@ -3,6 +3,7 @@ ghost use Rattle.std.specs.Prelude.{◌≡◌, ◌↔◌, IfOk, IsTrue};
 ghost use Rattle.aggregate.specs.Values.{IsValueOf};
 
 use crate::agg_list::AggList;
+use crate::partial::are_partials;
 use std::alloc::AllocError;
 
 /// What becomes of entries with equal keys.
@@ -20,7 +21,7 @@ impl Kind {
         ensures { IsTrue result ↔ IsValueOf self.now value.now }
     {
         match self {
-            Kind::Group(aggs) => value.len() == aggs.width(),
+            Kind::Group(aggs) => are_partials(aggs, value),
             Kind::Order => true,
         }
     }

@@ -1,4 +1,4 @@
-//! Keys as bytes in the order of their fields, and partial values of groups that are combined number by number.
+//! Keys as bytes in the order of their fields, and partial values of groups that are combined one by one.
 #![tactic(auto)]
 
 mod agg_list;
@@ -21,7 +21,7 @@ pub use kind::Kind;
 pub use name::Name;
 pub use number_key::{numbers_in_order, put_number};
 pub use partial::{
-    combine, combine_is_associative, combined_values_stay_formed, finish, numbers_are_joined,
-    numbers_come_back, partials_are_sixteen_bytes, put_partial, sums_are_exact,
+    Finished, combine, combine_is_associative, combined_values_stay_formed, finish,
+    partials_are_joined, partials_are_long, partials_come_back, put_partial, sums_are_exact,
 };
 pub use total::{totals_ascend, totals_stay_equal, totals_tell_keys};

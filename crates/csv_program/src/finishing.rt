@@ -5,7 +5,7 @@ ghost use Rattle.aggregate.specs.Totals.{Entry};
 ghost use Rattle.memory_lock.specs.Crew.{AreWorkers};
 ghost use Rattle.memory_lock.specs.Workers.{IsFree, KeepsPin, SeesMore, own_of};
 ghost use Rattle.pool_ledger.specs.History.{was_begun};
-ghost use Rattle.task_memory.specs.RunLists.{lists_of};
+ghost use Rattle.task_memory.specs.RunLists.{lists_of, most_entry_cost};
 ghost use Rattle.task_runner.specs.Answers.{HasCauseAmong};
 ghost use Rattle.task_runner.specs.Finals.{AreMergedTo, HaveLists, KeepsOtherFiles, MergeTotals};
 ghost use Rattle.task_runner.specs.PassViews.{parts_of, queries_of, task_for};
@@ -41,7 +41,7 @@ pub fn finish<K: Disk, D: Disk, C: Consumer, B: Basis, R: Wait>(
     requires few_posts { length posts.old.items < 2 ^ 32 - 1 }
     requires count { length lists.items ≡ queries_of pass.now }
     requires there { AllOfLists (λ run. run.disk < length posts.old.items) (lists_of lists.items) }
-    requires bounded { AllOfLists (λ run. run.greatest ≤ 196752) (lists_of lists.items) }
+    requires bounded { AllOfLists (λ run. run.greatest ≤ most_entry_cost) (lists_of lists.items) }
     ensures merged { IfOk result (λ answers. AreMergedTo (lists_of lists.items) answers.items) }
     ensures answer { (entries : ℕ → List (List Entry)) →
         IsSome (post_files D.files posts.old 0) →
@@ -98,7 +98,7 @@ fn merge_aside<K: Disk, D: Disk, C: Consumer, B: Basis, R: Wait>(
     requires few_posts { length posts.old.items < 2 ^ 32 - 1 }
     requires count { length lists.items ≡ queries_of pass.now }
     requires there { AllOfLists (λ run. run.disk < length posts.old.items) (lists_of lists.items) }
-    requires bounded { AllOfLists (λ run. run.greatest ≤ 196752) (lists_of lists.items) }
+    requires bounded { AllOfLists (λ run. run.greatest ≤ most_entry_cost) (lists_of lists.items) }
     ensures merged { IfOk result (λ answers. AreMergedTo (lists_of lists.items) answers.items) }
     ensures answer { (entries : ℕ → List (List Entry)) →
         IsSome (post_files D.files posts.old 0) →

@@ -6,6 +6,7 @@ mod gates;
 mod generated;
 mod journals;
 mod kept;
+mod missing;
 mod plain;
 mod plans;
 mod records;

@@ -7,18 +7,20 @@ use Rattle.std.specs.declared.cmp.Ordering.{Ordering}
 use Rattle.std.specs.declared.cmp.Ordering.TheVariants.{Less, Equal, Greater}
 use Rattle.std.proofs.Math.Seq.{drop-cons}
 use Rattle.std.proofs.lemmas.List.{drop_all, length-take-le}
-use Rattle.std.proofs.lemmas.List.Elements.{All-push, All-same}
+use Rattle.std.proofs.lemmas.List.Elements.{All-get_or, All-push, All-same}
 use Rattle.std.proofs.lemmas.List.Quantifiers.{position-Some}
 use Rattle.std.proofs.lemmas.Option.{get_or_from_slice_get, slice_get_within}
 use Rattle.indexmap.specs.IndexSet.{insert_key}
 use Rattle.aggregate.specs.declared.agg_list.Agg.{Agg}
+use Rattle.aggregate.specs.declared.kind.Kind.TheVariants.{Group}
 use Rattle.aggregate.specs.Partial.{combined}
 use Rattle.aggregate.specs.PartialLaws.{IsAssociative}
 use Rattle.aggregate.specs.Totals.{Entry, cost, costs, key_cmp}
-use Rattle.aggregate.specs.Values.{ValuesStayFormed, width}
+use Rattle.aggregate.specs.Values.{IsValueOf, ValuesStayFormed, are_partials, width}
 use Rattle.aggregate.proofs.Combining.{length-combined}
 use Rattle.aggregate.proofs.Totalling as totalling
 use Rattle.consumer_trait.specs.Calls.{has_key}
+use Rattle.consumer_trait.specs.States.{IsEntryOf}
 use Rattle.group_map.specs.Pairs.{AreApart, entries_by, TakesIn}
 use Rattle.group_map.proofs.ByPlace.{entry_at_place, is_key, known_is, length-entries_by, push-entries_by, same_keys, set-entries_by, tests_bytes}
 use Rattle.group_map.proofs.Taking.{one_charged, takes_known}
@@ -58,6 +60,17 @@ found_charged w ks vs key value i d found long width =
     let one = one_charged (entries_by w ks vs) i e (omega (arith, f.within, same)) in
     let cost_is : cost (get_or (entries_by w ks vs) i e) ≡ cost e = ap cost f.there in
     omega (arith, one, cost_is, f.width, width)
+
+-- the value that was found is one of the kind
+pub found_formed : (aggs : List Agg) (w : ℕ) (ks : List (List ℕ)) (vs seen key : List ℕ) (i n : ℕ) (d : List ℕ) → position (is_key key) ks ≡ Some i → length vs ≡ w * length ks → seen ≡ vs → n ≡ w → All (IsEntryOf (Group aggs)) (entries_by w ks vs) → IsValueOf (Group aggs) (take n (drop (w * i) seen))
+found_formed aggs w ks vs seen key i n d found long is_seen is_n all =
+    let e : Entry = record { key = key; value = take w (drop (w * i) vs) } in
+    let f = finds w ks vs key i d found long in
+    let es : List Entry = entries_by w ks vs in
+    let count = length-entries_by w ks vs in
+    let there : IsEntryOf (Group aggs) (get_or es i e) = All-get_or (IsEntryOf (Group aggs)) es i e (omega (arith, f.within, count)) all in
+    let value : IsValueOf (Group aggs) (take w (drop (w * i) vs)) = subst (λ (x : Entry). IsValueOf (Group aggs) x.value) f.there there.width in
+    ap (λ (k : ℕ). are_partials aggs (take k (drop (w * i) seen))) is_n ∙ ap (λ (bs : List ℕ). are_partials aggs (take w (drop (w * i) bs))) is_seen ∙ value
 
 -- a value that was combined is taken in, and charged nothing
 pub combined_known : IsAssociative → ValuesStayFormed → (aggs : List Agg) (w : ℕ) (ks : List (List ℕ)) (vs seen bytes key value new : List ℕ) (i n : ℕ) (d : List ℕ) → position (is_key key) ks ≡ Some i → AreApart (entries_by w ks vs) → length vs ≡ w * length ks → w ≡ width aggs → seen ≡ vs → n ≡ w → bytes ≡ put_mid (w * i) n seen new → new ≡ combined aggs (take n (drop (w * i) seen)) value → TakesIn aggs (entries_by w ks vs) (entries_by w ks bytes) (record { key = key; value = value }) 0

@@ -23,7 +23,7 @@ pub struct Groups {
     keys: IndexSet<GroupKey<'static>>,
     values: Vec<u8>,
     ghost whole: { length values.items ≡ width * length keys.keys },
-    ghost narrow: { width ≤ 128 },
+    ghost narrow: { width ≤ 136 },
     ghost short: { All (λ key. length key ≤ 131152) keys.keys },
 }
 
@@ -32,12 +32,13 @@ impl Groups {
     ghost use Rattle.aggregate.specs.Totals.{cost, costs};
     ghost use Rattle.aggregate.specs.Values.{IsValueOf, width};
     ghost use Rattle.consumer_trait.specs.Calls.{has_key};
+    ghost use Rattle.consumer_trait.specs.States.{IsEntryOf};
     ghost use Rattle.entry_list.specs.Lists.{entries_of_list};
     ghost use Rattle.group_map.specs.Pairs.{AreApart, entries_of_groups, TakesIn};
 
     /// No key. Each value will have so many bytes.
     pub fn new(alloc: Global, width: usize) -> Groups
-        requires { width ≤ 128 }
+        requires { width ≤ 136 }
         ensures none { entries_of_groups result ≡ [] }
         ensures width { result.width ≡ width }
     {
@@ -67,6 +68,7 @@ impl Groups {
         requires value { IsValueOf (Group aggs.now) value.now }
         requires width { self.old.width ≡ width aggs.now }
         requires apart { AreApart (entries_of_groups self.old) }
+        requires formed { All (IsEntryOf (Group aggs.now)) (entries_of_groups self.old) }
         ensures known { result ≡ has_key key.now (entries_of_groups self.old) }
         ensures takes { result ≡ true → TakesIn aggs.now
             (entries_of_groups self.old) (entries_of_groups self.new)
@@ -121,6 +123,16 @@ impl Groups {
             list.push(&key, &self.values[at..at + self.width])?;
         }
         Ok(list)
+    }
+
+    /// Gives the memory back where no entry is left.
+    pub fn let_go(&mut self, alloc: Global)
+        ensures same { entries_of_groups self.new ≡ entries_of_groups self.old }
+        ensures width { self.new.width ≡ self.old.width }
+    {
+        if self.is_empty() {
+            *self = Groups::new(alloc, self.width);
+        }
     }
 
     /// Lets go the entries from a place on.

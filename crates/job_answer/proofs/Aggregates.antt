@@ -1,6 +1,7 @@
--- What numbers come to that are joined one by one: their count, their exact sum, the least and the greatest of them.
-use Rattle.std.proofs.Common.{◌≡◌, ◌+◌, ◌*◌, ◌^◌, ◌≤◌, ◌∙◌, ℕ, Bool, true, false, List, [], ◌∷◌, map, length, refl, sym, ap, arith, Option, Some, None, ℤ, pos, negsuc, unsigned_abs, inl, inr, ltb-true}
-use Rattle.std.specs.Prelude.{◌+ℤ◌, ◌&&◌, unwrap_or, is_some, not, nat_lt}
+-- What values come to that are joined one by one: how many they are, and of the numbers that aren't missing the exact sum,
+-- the least and the greatest.
+use Rattle.std.proofs.Common.{◌≡◌, ◌+◌, ◌*◌, ◌^◌, ◌≤◌, ◌∙◌, ℕ, Bool, true, false, List, [], ◌∷◌, map, length, refl, sym, ap, arith, subst, Option, Some, None, ℤ, pos, negsuc, unsigned_abs, inl, inr, ltb-true}
+use Rattle.std.specs.Prelude.{◌+ℤ◌, ◌++◌, ◌&&◌, unwrap_or, is_some, not, nat_lt, option_to_list}
 use Rattle.std.specs.Int.{int_max, int_min, int_wrap, w128, w64}
 use Rattle.std.specs.Int.RustNames.{FitsSigned}
 use Rattle.std.specs.List.{AllByRecursion, fold}
@@ -11,10 +12,12 @@ use Rattle.std.proofs.lemmas.List.{length-map}
 use Rattle.std.proofs.lemmas.Int.{clamps, fits_signed_from_abs, int_wrap_fits, ints}
 use Rattle.aggregate.specs.declared.agg_list.Agg.{Agg}
 use Rattle.aggregate.specs.declared.agg_list.Agg.TheVariants.{Count, Sum, Min, Max}
+use Rattle.aggregate.specs.Partial.{joined, present}
+use Rattle.aggregate.specs.Values.{FitsPartial}
+use Rattle.aggregate.proofs.Present.{joint, joint-present, joint_number, joint_of}
 use Rattle.row_form.specs.Numbers.{fits_i64, is_number, number}
 use Rattle.job_text.specs.Jobs.{is_count}
-use Rattle.job_answer.specs.Answer.{aggregated}
-use Rattle.job_answer.proofs.Values.{joint_number}
+use Rattle.job_answer.specs.Answer.{aggregated, greatest, least, summed}
 
 -- ---- the number of a field is one of 64 bits
 
@@ -35,10 +38,17 @@ number-small field = elim (cases_Bool (is_number field)) [
   | inr none ↦ rw none (omega (arith, ints))
 ]
 
-pub abs-small : (z : ℤ) → FitsSigned w64 z → unsigned_abs z ≤ 2 ^ 63
+-- a number, if there is one, has 64 bits
+abbrev pub IsSmall : Option ℤ → Type 0
+IsSmall o = (n : ℤ) → o ≡ Some n → FitsSigned w64 n
+
+pub value-small : (field : List ℕ) → IsSmall (number field)
+value-small field n is = subst (λ (z : ℤ). FitsSigned w64 z) (ap (λ (o : Option ℤ). unwrap_or o (pos 0)) is) (number-small field)
+
+abs-small : (z : ℤ) → FitsSigned w64 z → unsigned_abs z ≤ 2 ^ 63
 abs-small z fits = omega (arith, ints)
 
-pub fits-wider : (z : ℤ) → FitsSigned w64 z → FitsSigned w128 z
+fits-wider : (z : ℤ) → FitsSigned w64 z → FitsSigned w128 z
 fits-wider z fits = omega (arith, ints)
 
 -- ---- joined from the right and from the left
@@ -85,45 +95,70 @@ joint-sum a (b ∷ bs) small all few =
     (ap (λ (s : ℤ). int_wrap w128 (a +ℤ s)) more.0 ∙ exact ∙ sym whole, rw whole close)
 
 -- the same of ones
-joint-count : {X : Type 0} (rows : List X) → length rows + 1 ≤ 2 ^ 32 → joint_number Count (pos 1) (map (λ row. pos 1) rows) ≡ pos (length rows + 1)
+joint-count : {X : Type 0} (rows : List X) → length rows + 1 ≤ 2 ^ 32 → joint Count (Some (pos 1)) (map (λ row. Some (pos 1)) rows) ≡ Some (pos (length rows + 1))
 joint-count [] few = refl
 joint-count (row ∷ rows) few =
     let more = joint-count rows (omega arith) in
     let size : 1 + (length rows + 1) ≡ length (row ∷ rows) + 1 = omega arith in
-    ap (λ (s : ℤ). int_wrap w128 (pos 1 +ℤ s)) more
-    ∙ wrap-small (pos (1 + (length rows + 1))) (length (row ∷ rows) + 1) (omega (arith, ints)) few
-    ∙ ap pos size
+    ap (joined Count (Some (pos 1))) more
+    ∙ ap Some (wrap-small (pos (1 + (length rows + 1))) (length (row ∷ rows) + 1) (omega (arith, ints)) few ∙ ap pos size)
 
 -- ---- what a part tells
 
-add-zero : (a : ℤ) → pos 0 +ℤ a ≡ a
-add-zero a = omega (arith, ints)
+pub small-fits : (o : Option ℤ) → IsSmall o → FitsPartial o
+small-fits o small n is = fits-wider n (small n is)
 
-all-small : {X : Type 0} (h : X → ℤ) → ((x : X) → unsigned_abs (h x) ≤ 2 ^ 63) → (xs : List X) → AllByRecursion (λ b. unsigned_abs b ≤ 2 ^ 63) (map h xs)
+-- the numbers of small values are small
+one-small : (o : Option ℤ) (ns : List ℤ) → IsSmall o → AllByRecursion (λ b. unsigned_abs b ≤ 2 ^ 63) ns → AllByRecursion (λ b. unsigned_abs b ≤ 2 ^ 63) (option_to_list o ++ ns)
+one-small None ns is all = all
+one-small (Some n) ns is all = (abs-small n (is n refl), all)
+
+all-small : {X : Type 0} (h : X → Option ℤ) → ((x : X) → IsSmall (h x)) → (xs : List X) → AllByRecursion (λ b. unsigned_abs b ≤ 2 ^ 63) (present (map h xs))
 all-small h small [] = tt
-all-small h small (x ∷ xs) = (small x, all-small h small xs)
+all-small h small (x ∷ xs) = one-small (h x) (present (map h xs)) (small x) (all-small h small xs)
 
--- what a row adds to an aggregate: 1 where rows are counted, else the number in the column
-abbrev pub told_of_column : {X : Type 0} → (X → ℕ → ℤ) → Option ℕ → X → ℤ
-told_of_column numbers None row = pos 1
-told_of_column numbers (Some column) row = numbers row column
+-- there are at most as many as values
+pub present-few : (os : List (Option ℤ)) → length (present os) ≤ length os
+present-few [] = omega arith
+present-few (None ∷ os) = let more = present-few os in omega arith
+present-few (Some n ∷ os) = let more = present-few os in omega arith
 
--- the numbers that are joined come to the aggregate of them
-pub joint-aggregated : {X : Type 0} (numbers : X → ℕ → ℤ) → ((row : X) (column : ℕ) → FitsSigned w64 (numbers row column))
+summed-joint : (ns : List ℤ) → AllByRecursion (λ b. unsigned_abs b ≤ 2 ^ 63) ns → length ns ≤ 2 ^ 32 → joint_of Sum ns ≡ summed ns
+summed-joint [] small few = refl
+summed-joint (n ∷ ns) small few = ap Some (joint-sum n ns small.0 small.1 (omega arith)).0
+
+least-joint : (ns : List ℤ) → joint_of Min ns ≡ least ns
+least-joint [] = refl
+least-joint (n ∷ ns) = ap Some (joint-least n ns)
+
+greatest-joint : (ns : List ℤ) → joint_of Max ns ≡ greatest ns
+greatest-joint [] = refl
+greatest-joint (n ∷ ns) = ap Some (joint-greatest n ns)
+
+-- what a row adds to an aggregate: 1 where rows are counted, else the value in the column
+abbrev pub told_of_column : {X : Type 0} → (X → ℕ → Option ℤ) → Option ℕ → X → Option ℤ
+told_of_column values None row = Some (pos 1)
+told_of_column values (Some column) row = values row column
+
+-- the values that are joined come to the aggregate of them
+pub joint-aggregated : {X : Type 0} (values : X → ℕ → Option ℤ) → ((row : X) (column : ℕ) → IsSmall (values row column))
     → (agg : Agg) (column : Option ℕ) (first : X) (rest : List X) → is_some column ≡ not (is_count agg) → length rest + 1 ≤ 2 ^ 32
-    → joint_number agg (told_of_column numbers column first) (map (told_of_column numbers column) rest)
-    ≡ aggregated agg (map (λ row. numbers row (unwrap_or column 0)) (first ∷ rest))
-joint-aggregated numbers fits Count None first rest is few =
-    let size : length rest + 1 ≡ length (map (λ row. numbers row 0) (first ∷ rest)) = omega (arith, length-map rest (λ row. numbers row 0)) in
-    joint-count rest few ∙ ap pos size
-joint-aggregated numbers fits Count (Some k) first rest is few = absurd (true≢false is)
-joint-aggregated numbers fits Sum None first rest is few = absurd (true≢false (sym is))
-joint-aggregated numbers fits Sum (Some k) first rest is few =
-    let bs = map (λ row. numbers row k) rest in
-    let size : length bs ≡ length rest = length-map rest (λ row. numbers row k) in
-    let sum = joint-sum (numbers first k) bs (abs-small (numbers first k) (fits first k)) (all-small (λ row. numbers row k) (λ row. abs-small (numbers row k) (fits row k)) rest) (omega arith) in
-    sum.0 ∙ ap (λ (s : ℤ). fold ◌+ℤ◌ s bs) (sym (add-zero (numbers first k)))
-joint-aggregated numbers fits Min None first rest is few = absurd (true≢false (sym is))
-joint-aggregated numbers fits Min (Some k) first rest is few = joint-least (numbers first k) (map (λ row. numbers row k) rest)
-joint-aggregated numbers fits Max None first rest is few = absurd (true≢false (sym is))
-joint-aggregated numbers fits Max (Some k) first rest is few = joint-greatest (numbers first k) (map (λ row. numbers row k) rest)
+    → joint agg (told_of_column values column first) (map (told_of_column values column) rest)
+    ≡ aggregated agg (map (λ row. values row (unwrap_or column 0)) (first ∷ rest))
+joint-aggregated values fits Count None first rest is few =
+    let size : length rest + 1 ≡ length (map (λ row. values row 0) (first ∷ rest)) = omega (arith, length-map rest (λ row. values row 0)) in
+    joint-count rest few ∙ ap (λ (n : ℕ). Some (pos n)) size
+joint-aggregated values fits Count (Some k) first rest is few = absurd (true≢false is)
+joint-aggregated values fits Sum None first rest is few = absurd (true≢false (sym is))
+joint-aggregated {X} values fits Sum (Some k) first rest is few =
+    let told = λ (row : X). values row k in
+    let os = map told (first ∷ rest) in
+    let size : length os ≡ length rest + 1 = omega (arith, length-map (first ∷ rest) told) in
+    joint-present Sum (values first k) (map told rest)
+    ∙ summed-joint (present os) (all-small told (λ row. fits row k) (first ∷ rest)) (omega (arith, present-few os, size, few))
+joint-aggregated values fits Min None first rest is few = absurd (true≢false (sym is))
+joint-aggregated values fits Min (Some k) first rest is few =
+    joint-present Min (values first k) (map (λ row. values row k) rest) ∙ least-joint (present (map (λ row. values row k) (first ∷ rest)))
+joint-aggregated values fits Max None first rest is few = absurd (true≢false (sym is))
+joint-aggregated values fits Max (Some k) first rest is few =
+    joint-present Max (values first k) (map (λ row. values row k) rest) ∙ greatest-joint (present (map (λ row. values row k) (first ∷ rest)))

@@ -9,8 +9,8 @@ use Rattle.std.proofs.lemmas.List.Elements.{All-from_recursion}
 use Rattle.std.proofs.lemmas.List.Sums.{sum_by-cons, sum_by-le}
 use Rattle.aggregate.specs.declared.agg_list.Agg.{Agg}
 use Rattle.aggregate.specs.declared.kind.Kind.TheVariants as kinds
-use Rattle.aggregate.specs.Partial.{combined, partial_of}
-use Rattle.aggregate.specs.PartialLaws.{PartialsAreSixteenBytes}
+use Rattle.aggregate.specs.Partial.{combined, partial_of, slot_bytes}
+use Rattle.aggregate.specs.PartialLaws.{PartialsAreLong}
 use Rattle.aggregate.specs.Spelling.{spelled}
 use Rattle.aggregate.specs.Totals.{Entry, group_at, insert_group, insert_order, key_cmp, order_at, total}
 use Rattle.aggregate.proofs.Combining.{length-combined}
@@ -64,18 +64,18 @@ module _ (P : Entry → Type 0) where
 
 -- ---- groups
 
--- the key spells so many fields, and the value has so many numbers
+-- the key spells so many fields, and the value is as long as so many partial values
 record SpellsGroup (columns count : ℕ) (entry : Entry) : Type 0 where
   fields : Fields
   several : length fields ≡ columns
   key : entry.key ≡ flat_map spelled fields
-  value : length entry.value ≡ 16 * count
+  value : length entry.value ≡ slot_bytes * count
 
 keys-spell : (row : Fields) (columns : List ℕ) → flat_map (λ k. spelled (field row k)) columns ≡ flat_map spelled (map (field row) columns)
 keys-spell row [] = refl
 keys-spell row (column ∷ columns) = ap (λ (t : List ℕ). spelled (field row column) ++ t) (keys-spell row columns)
 
-values-long : PartialsAreSixteenBytes → (row : Fields) (parts : List Part) → length (flat_map (λ part. partial_of (told_by row part.column)) parts) ≡ 16 * length parts
+values-long : PartialsAreLong → (row : Fields) (parts : List Part) → length (flat_map (λ part. partial_of (told_by row part.column)) parts) ≡ slot_bytes * length parts
 values-long long row [] = refl
 values-long long row (part ∷ parts) =
     let first = long (told_by row part.column) in
@@ -83,12 +83,12 @@ values-long long row (part ∷ parts) =
     let both = length-append (partial_of (told_by row part.column)) (flat_map (λ part. partial_of (told_by row part.column)) parts) in
     omega arith
 
-row-spells : PartialsAreSixteenBytes → (columns : List ℕ) (parts : List Part) (row : Fields) → SpellsGroup (length columns) (length parts) (entry_of (Group columns parts) row)
+row-spells : PartialsAreLong → (columns : List ℕ) (parts : List Part) (row : Fields) → SpellsGroup (length columns) (length parts) (entry_of (Group columns parts) row)
 unfolding key_of value_of
 row-spells long columns parts row =
     record { fields = map (field row) columns; several = length-map columns (field row); key = keys-spell row columns; value = values-long long row parts }
 
-rows-spell : PartialsAreSixteenBytes → (columns : List ℕ) (parts : List Part) (rows : List Fields)
+rows-spell : PartialsAreLong → (columns : List ℕ) (parts : List Part) (rows : List Fields)
     → AllByRecursion (SpellsGroup (length columns) (length parts)) (map (entry_of (Group columns parts)) rows)
 rows-spell long columns parts [] = tt
 rows-spell long columns parts (row ∷ rows) = (row-spells long columns parts row, rows-spell long columns parts rows)
@@ -101,7 +101,7 @@ joint-spells columns parts entry first is =
       fields = is.fields;
       several = is.several;
       key = is.key;
-      value = length-combined aggs entry.value first.value ∙ ap (λ (n : ℕ). 16 * n) (length-map parts (λ part. part.agg));
+      value = length-combined aggs entry.value first.value ∙ ap (λ (n : ℕ). slot_bytes * n) (length-map parts (λ part. part.agg));
     }
 
 -- where no entry is too wide, each can be told
@@ -151,7 +151,7 @@ rows-told encodings keys columns few (row ∷ rows) short = (row-told encodings 
 
 -- ---- shapes
 
-pub shapes-told : PartialsAreSixteenBytes → HasEncodings → ShortShapesAreTold
+pub shapes-told : PartialsAreLong → HasEncodings → ShortShapesAreTold
 shapes-told long encodings (Group columns parts) rows few short none =
     let aggs = map (λ part. part.agg) parts in
     let totals = total (kinds.Group aggs) (map (entry_of (Group columns parts)) rows) in

@@ -1,7 +1,7 @@
 -- A worked answer over datasets: two queries over the paid orders, and two over datasets of which one is made from the other.
-use Rattle.std.proofs.Common.{◌≡◌, ◌∙◌, ◌++◌, true, cond, Bool, List, [], ◌∷◌, ℕ, Some, None, codes, map, refl, ap, ℤ, pos}
+use Rattle.std.proofs.Common.{◌≡◌, ◌∙◌, ◌++◌, true, cond, Bool, List, [], ◌∷◌, ℕ, Option, Some, None, codes, map, refl, ap, ℤ, pos}
 use Rattle.std.specs.Prelude.{◌&&◌}
-use Rattle.std.specs.Fmt.{digits, signed_decimal}
+use Rattle.std.specs.Fmt.{digits}
 use Rattle.std.specs.List.{filter}
 use Rattle.csv.specs.Writing.{escaped, fields_text, is_blank}
 use Rattle.aggregate.specs.declared.agg_list.Agg.TheVariants.{Count, Sum, Max}
@@ -18,6 +18,7 @@ use Rattle.job_text.specs.declared.job.Query.{Query}
 use Rattle.job_text.specs.declared.job.Shape.TheVariants.{Group, Order}
 use Rattle.job_plan.specs.Columns.{Fields}
 use Rattle.job_plan.specs.Plans.{heading_of}
+use Rattle.job_plan.specs.Telling.{told_field}
 use Rattle.job_answer.specs.Answer.{field_of, group_of, groups}
 use Rattle.job_answer.specs.Derived.{derived, is_in}
 use Rattle.job_answer.specs.Output.{output, shape_table, table_rows, text_of}
@@ -113,14 +114,15 @@ module _ (queries : List Query) where
   -- ---- tables
 
   paid_groups : groups (job_of queries) head (1 ∷ []) parts (first ∷ third ∷ fourth ∷ [])
-      ≡ (codes "East, upper" ∷ [], pos 1 ∷ pos 75 ∷ pos 75 ∷ []) ∷ (codes "North" ∷ [], pos 2 ∷ pos 325 ∷ pos 250 ∷ []) ∷ []
+      ≡ (codes "East, upper" ∷ [], Some (pos 1) ∷ Some (pos 75) ∷ Some (pos 75) ∷ [])
+      ∷ (codes "North" ∷ [], Some (pos 2) ∷ Some (pos 325) ∷ Some (pos 250) ∷ []) ∷ []
   paid_groups = entries-classes (group_of (job_of queries) head (1 ∷ [])) (tell (job_of queries) head (1 ∷ []) parts (first ∷ third ∷ fourth ∷ [])) (first ∷ third ∷ fourth ∷ []) ∙ refl
 
   paid_regions : table_rows (job_of queries) head orders (by_region 1) ≡ regions
   unfolding digits
   paid_regions =
       ap (λ (rows : List Fields). shape_table (job_of queries) head rows (Group (1 ∷ []) parts)) paid_rows
-      ∙ ap (λ (found : List (Fields × List ℤ)). heading_of (job_of queries).names (Group (1 ∷ []) parts) ∷ map (λ group. group.0 ++ map signed_decimal group.1) found) paid_groups
+      ∙ ap (λ (found : List (Fields × List (Option ℤ))). heading_of (job_of queries).names (Group (1 ∷ []) parts) ∷ map (λ group. group.0 ++ map told_field group.1) found) paid_groups
 
   paid_amounts : table_rows (job_of queries) head orders (by_amount 1)
       ≡ (codes "order_id" ∷ codes "amount" ∷ []) ∷ (codes "1001" ∷ codes "250" ∷ []) ∷ (codes "1003" ∷ codes "75" ∷ []) ∷ (codes "1004" ∷ codes "75" ∷ []) ∷ []

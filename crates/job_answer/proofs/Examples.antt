@@ -34,7 +34,8 @@ parts_told =
 
 -- each city once, ascending, with the count, the sum, the least and the greatest of its numbers
 cities_are_groups : groups cities head (0 ∷ []) parts_told visits
-    ≡ (codes "Bergen" ∷ [], pos 1 ∷ pos 7 ∷ pos 7 ∷ pos 7 ∷ []) ∷ (codes "Oslo" ∷ [], pos 2 ∷ pos 7 ∷ negsuc 2 ∷ pos 10 ∷ []) ∷ []
+    ≡ (codes "Bergen" ∷ [], Some (pos 1) ∷ Some (pos 7) ∷ Some (pos 7) ∷ Some (pos 7) ∷ [])
+    ∷ (codes "Oslo" ∷ [], Some (pos 2) ∷ Some (pos 7) ∷ Some (negsuc 2) ∷ Some (pos 10) ∷ []) ∷ []
 cities_are_groups = entries-classes (group_of cities head (0 ∷ [])) (tell cities head (0 ∷ []) parts_told visits) visits ∙ refl
 
 -- the greatest city first, and of one city the least number, which isn't the least text

@@ -1,20 +1,23 @@
 -- What the totals of a query of groups tell.
-use Rattle.std.proofs.Common.{◌≡◌, ◌+◌, ◌≤◌, ◌<◌, ◌^◌, ◌∙◌, ℕ, List, [], ◌∷◌, Option, Some, None, map, length, refl, sym, ap, arith, subst, IfSome, unwrap_or, ℤ, pos}
+use Rattle.std.proofs.Common.{◌≡◌, ◌+◌, ◌≤◌, ◌<◌, ◌^◌, ◌∙◌, ℕ, List, [], ◌∷◌, Option, Some, None, map, length, refl, sym, ap, arith, subst, IfSome, ℤ, pos}
 use Rattle.std.specs.Prelude.{option_map}
-use Rattle.std.specs.Int.{w64, w128}
+use Rattle.std.specs.Int.{w128}
 use Rattle.std.specs.Int.RustNames.{FitsSigned}
 use Rattle.std.specs.List.{AllByRecursion, filter, flat_map}
 use Rattle.std.specs.Ordering.{is_eq}
 use Rattle.std.proofs.lemmas.Int.{ints}
 use Rattle.std.proofs.lemmas.List.{length-map}
 use Rattle.std.proofs.lemmas.List.Elements.{recursion_from_All}
+use Rattle.std.proofs.lemmas.Option.{same_Some}
 use Rattle.std.proofs.lemmas.List.Sums.{count_by-le-length, length-filter}
 use Rattle.aggregate.specs.declared.agg_list.Agg.{Agg}
 use Rattle.aggregate.specs.declared.kind.Kind.TheVariants as kinds
 use Rattle.aggregate.specs.Partial.{partial_of}
-use Rattle.aggregate.specs.PartialLaws.{NumbersComeBack, PartialsAreSixteenBytes}
+use Rattle.aggregate.specs.PartialLaws.{PartialsAreLong, PartialsComeBack}
 use Rattle.aggregate.specs.Spelling.{KeysInOrder, SpellingsAreReadBack, spelled}
 use Rattle.aggregate.specs.Totals.{Entry, total}
+use Rattle.aggregate.specs.Values.{FitsPartial}
+use Rattle.aggregate.proofs.Present.{joint}
 use Rattle.row_form.specs.Numbers.{number}
 use Rattle.job_text.specs.Jobs.{IsAggregate, IsShape}
 use Rattle.job_text.specs.declared.job.Job.{Job}
@@ -23,33 +26,36 @@ use Rattle.job_text.specs.declared.job.Shape.TheVariants.{Group}
 use Rattle.job_plan.specs.Columns.{Fields, kept, kept_place, missing, over_kept, part_over}
 use Rattle.job_plan.specs.Entries.{entry_of, field, key_of, told_by, value_of}
 use Rattle.job_plan.specs.Rows.{landed_row}
-use Rattle.job_answer.specs.Answer.{field_of, fields_cmp, group_of, groups, members, number_of, told_of}
+use Rattle.job_answer.specs.Answer.{field_of, fields_cmp, group_of, groups, members, told_of, value_at}
 use Rattle.job_answer.specs.Numbered.{Numbered, landed_each, rows_in as rows_of}
 use Rattle.job_answer.specs.OneShape.{GroupsTell, totals_over}
-use Rattle.job_answer.proofs.Aggregates.{fits-wider, joint-aggregated, number-small, told_of_column}
+use Rattle.job_answer.proofs.Aggregates.{IsSmall, joint-aggregated, small-fits, told_of_column, value-small}
 use Rattle.job_answer.proofs.Classes.{Class, IsWhole, all-groups, all-whole, all-weaker, classes, entries-classes, rows_in}
 use Rattle.job_answer.proofs.Decoding.{IsGroup, all-told, first-wide, group_entry, rows-told}
 use Rattle.job_answer.proofs.GroupEntries.{class_entry, row_entry, total-classes}
 use Rattle.job_answer.proofs.KeptFields.{IsKept, column-kept, field-landed}
-use Rattle.job_answer.proofs.Values.{bytes_of, joint-bytes, joint-fits, joint_number}
+use Rattle.job_answer.proofs.Values.{bytes_of, joint-bytes, joint-fits}
 
 module _ (job : Job) (header : Fields) where
-  -- the number that a row adds to a part
-  abbrev part_number : Part → Fields → ℤ
-  part_number part row = told_of_column (number_of job header) part.column row
+  -- what a row adds to a part
+  abbrev part_value : Part → Fields → Option ℤ
+  part_value part row = told_of_column (value_at job header) part.column row
 
   -- the value of a row
   abbrev row_value : List Part → Fields → List ℕ
-  row_value parts row = bytes_of (map (λ part. part_number part row) parts)
+  row_value parts row = bytes_of (map (λ part. part_value part row) parts)
 
-  numbers-fit : (row : Fields) (column : ℕ) → FitsSigned w64 (number_of job header row column)
-  numbers-fit row column = number-small (field_of job header row column)
+  values-small : (row : Fields) (column : ℕ) → IsSmall (value_at job header row column)
+  values-small row column = value-small (field_of job header row column)
 
-  column-fits : (column : Option ℕ) (row : Fields) → FitsSigned w128 (told_of_column (number_of job header) column row)
-  column-fits None row = omega (arith, ints)
-  column-fits (Some column) row = fits-wider (number_of job header row column) (numbers-fit row column)
+  one-fits : FitsSigned w128 (pos 1)
+  one-fits = omega (arith, ints)
 
-  parts-fit : (part : Part) (row : Fields) → FitsSigned w128 (part_number part row)
+  column-fits : (column : Option ℕ) (row : Fields) → FitsPartial (told_of_column (value_at job header) column row)
+  column-fits None row = λ n is. subst (λ (z : ℤ). FitsSigned w128 z) (same_Some (pos 1) n is) one-fits
+  column-fits (Some column) row = small-fits (value_at job header row column) (values-small row column)
+
+  parts-fit : (part : Part) (row : Fields) → FitsPartial (part_value part row)
   parts-fit part row = column-fits part.column row
 
   -- ---- the entry of a landed row
@@ -66,10 +72,9 @@ module _ (job : Job) (header : Fields) where
       rw (here, keys-same n row columns all.1) refl
 
   told-same : (n : ℕ) (row : Fields) (column : Option ℕ) → IfSome column (IsKept job header)
-      → told_by (landed_row (kept job.names header) n row) (option_map (kept_place job header) column) ≡ told_of_column (number_of job header) column row
+      → told_by (landed_row (kept job.names header) n row) (option_map (kept_place job header) column) ≡ told_of_column (value_at job header) column row
   told-same n row None is = refl
-  told-same n row (Some column) is =
-      ap (λ (bytes : List ℕ). unwrap_or (number bytes) (pos 0)) (field-landed job header column n row is)
+  told-same n row (Some column) is = ap number (field-landed job header column n row is)
 
   values-same : (n : ℕ) (row : Fields) (parts : List Part) → AllByRecursion IsKeptPart parts
       → flat_map (λ part. partial_of (told_by (landed_row (kept job.names header) n row) part.column)) (map (part_over job header) parts) ≡ row_value parts row
@@ -106,10 +111,10 @@ module _ (job : Job) (header : Fields) where
 
   module _ (columns : List ℕ) (parts : List Part) (rows : List Fields) where
     -- what is told of a group, and the group with it
-    abbrev pub tell : Fields → List ℤ
+    abbrev pub tell : Fields → List (Option ℤ)
     tell group = map (told_of job header (members job header columns rows group)) parts
 
-    abbrev told_group : Class → Fields × List ℤ
+    abbrev told_group : Class → Fields × List (Option ℤ)
     told_group c = (c.group, tell c.group)
 
   module _ (columns : List ℕ) (parts : List Part) (rows : List Fields) (few : length rows ≤ 2 ^ 32) where
@@ -120,29 +125,29 @@ module _ (job : Job) (header : Fields) where
         omega (arith, length-filter test rows, count_by-le-length test rows)
 
     told-part : (part : Part) (c : Class) → IsAggregate (length job.names) part → IsWhole (group_of job header columns) rows c
-        → joint_number part.agg (part_number part c.first) (map (part_number part) c.rest) ≡ told_of job header (members job header columns rows c.group) part
+        → joint part.agg (part_value part c.first) (map (part_value part) c.rest) ≡ told_of job header (members job header columns rows c.group) part
     told-part part c is whole =
-        joint-aggregated (number_of job header) numbers-fit part.agg part.column c.first c.rest is.column (class-few c whole)
+        joint-aggregated (value_at job header) values-small part.agg part.column c.first c.rest is.column (class-few c whole)
         ∙ ap (λ (rs : List Fields). told_of job header rs part) whole
 
     told-parts : (ps : List Part) (c : Class) → AllByRecursion (IsAggregate (length job.names)) ps → IsWhole (group_of job header columns) rows c
-        → map (λ part. joint_number part.agg (part_number part c.first) (map (part_number part) c.rest)) ps ≡ map (told_of job header (members job header columns rows c.group)) ps
+        → map (λ part. joint part.agg (part_value part c.first) (map (part_value part) c.rest)) ps ≡ map (told_of job header (members job header columns rows c.group)) ps
     told-parts [] c all whole = refl
     told-parts (part ∷ ps) c all whole = rw (told-part part c all.0 whole, told-parts ps c all.1 whole) refl
 
     fit-parts : (ps : List Part) (c : Class) → AllByRecursion (IsAggregate (length job.names)) ps → IsWhole (group_of job header columns) rows c
-        → AllByRecursion (FitsSigned w128) (map (told_of job header (members job header columns rows c.group)) ps)
+        → AllByRecursion FitsPartial (map (told_of job header (members job header columns rows c.group)) ps)
     fit-parts [] c all whole = tt
     fit-parts (part ∷ ps) c all whole =
-        (subst (FitsSigned w128) (told-part part c all.0 whole) (joint-fits part_number parts-fit part.agg part c.first c.rest), fit-parts ps c all.1 whole)
+        (subst FitsPartial (told-part part c all.0 whole) (joint-fits part_value parts-fit part.agg part c.first c.rest), fit-parts ps c all.1 whole)
 
-    class-told : (long : PartialsAreSixteenBytes) (back : NumbersComeBack) (c : Class) → AllByRecursion (IsAggregate (length job.names)) parts → IsWhole (group_of job header columns) rows c
+    class-told : (long : PartialsAreLong) (back : PartialsComeBack) (c : Class) → AllByRecursion (IsAggregate (length job.names)) parts → IsWhole (group_of job header columns) rows c
         → class_entry (group_of job header columns) (row_value parts) (aggs_of parts) c ≡ group_entry (told_group columns parts rows c)
     class-told long back c all whole =
         ap (λ (v : List ℕ). let e : Entry = record { key = flat_map spelled c.group; value = v } in e)
-        (joint-bytes long back part_number parts-fit parts c.first c.rest ∙ ap bytes_of (told-parts parts c all whole))
+        (joint-bytes long back part_value parts-fit parts c.first c.rest ∙ ap bytes_of (told-parts parts c all whole))
 
-    classes-told : (long : PartialsAreSixteenBytes) (back : NumbersComeBack) (cs : List Class) → AllByRecursion (IsAggregate (length job.names)) parts
+    classes-told : (long : PartialsAreLong) (back : PartialsComeBack) (cs : List Class) → AllByRecursion (IsAggregate (length job.names)) parts
         → AllByRecursion (IsWhole (group_of job header columns) rows) cs
         → map (class_entry (group_of job header columns) (row_value parts) (aggs_of parts)) cs ≡ map group_entry (map (told_group columns parts rows) cs)
     classes-told long back [] all whole = refl
@@ -171,7 +176,7 @@ module _ (job : Job) (header : Fields) where
   kept-parts : (parts : List Part) → missing job.names header ≡ None → AllByRecursion (IsAggregate (length job.names)) parts → AllByRecursion IsKeptPart parts
   kept-parts parts found all = all-weaker (IsAggregate (length job.names)) IsKeptPart (λ part is. kept-part part.column found is.named) parts all
 
-  module _ (order : KeysInOrder) (long : PartialsAreSixteenBytes) (back : NumbersComeBack) where
+  module _ (order : KeysInOrder) (long : PartialsAreLong) (back : PartialsComeBack) where
     -- the totals are the entries of the groups
     pub totals-are : (input : List Numbered) (columns : List ℕ) (parts : List Part) → missing job.names header ≡ None → IsShape (length job.names) (Group columns parts) → length (rows_of input) ≤ 2 ^ 32
         → totals_over job header input (Group columns parts) ≡ map group_entry (groups job header columns parts (rows_of input))
@@ -195,7 +200,7 @@ module _ (job : Job) (header : Fields) where
         subst (AllByRecursion (IsGroup (length columns) (length parts))) (sym (entries-classes g (tell columns parts rows) rows))
         (are-groups columns parts rows few (classes g rows) are-parts (all-whole g rows) several)
 
-pub groups-tell : KeysInOrder → SpellingsAreReadBack → PartialsAreSixteenBytes → NumbersComeBack → GroupsTell
+pub groups-tell : KeysInOrder → SpellingsAreReadBack → PartialsAreLong → PartialsComeBack → GroupsTell
 groups-tell order read long back job header input columns parts found shape few =
     let rows = rows_of input in
     let size : length rows ≡ length input = length-map input (λ r. r.1) in

@@ -87,7 +87,7 @@ place-is job header column found named =
 
 -- ---- among the kept ones
 
-same-number : (n : ℕ) → (n == n) ≡ true
+pub same-number : (n : ℕ) → (n == n) ≡ true
 same-number n = grind arith
 
 kept-has : (job : Job) (header : Fields) (column : ℕ) → missing job.names header ≡ None → column < length job.names

@@ -16,7 +16,9 @@ pub mod KeyItems
 pub mod RowOrder
 pub mod Orders
 pub mod Queries
+pub mod MissingValues
 pub mod Examples
+pub mod MissingExample
 pub mod DatasetExample
 pub mod WholeTotals
 pub mod AllTold

@@ -1,5 +1,5 @@
 -- The rows of a job's dataset, landed, are those that the chain of the job's plan derives.
-use Rattle.std.proofs.Common.{◌≡◌, ◌∙◌, ℕ, zero, suc, List, [], ◌∷◌, refl, sym, ap, subst}
+use Rattle.std.proofs.Common.{◌≡◌, ◌∙◌, ℕ, zero, suc, List, ◌∷◌, refl, sym, ap, subst}
 use Rattle.std.specs.List.{filter, list_all}
 use Rattle.row_filter.specs.Chains.{links_of, parent_at}
 use Rattle.row_filter.specs.Derived.{derived}
@@ -8,8 +8,8 @@ use Rattle.row_filter.specs.Meaning.{keeps}
 use Rattle.row_filter.specs.Moved.{moved_filter}
 use Rattle.row_filter.specs.declared.chain.Chain.{Chain}
 use Rattle.row_filter.specs.declared.filter.Filter.{Filter}
-use Rattle.job_plan.specs.Columns.{Fields, kept, kept_place}
-use Rattle.job_plan.specs.Plans.{chain_in, places_in}
+use Rattle.job_plan.specs.Columns.{kept, kept_place}
+use Rattle.job_plan.specs.Plans.{chain_in}
 use Rattle.job_answer.specs.Chained.{HasDatasetsOf, keeps_own}
 use Rattle.job_answer.specs.Derived.{derived_each}
 use Rattle.job_answer.specs.Derived as job_lines

@@ -1,6 +1,6 @@
 -- The plain answer of a query over the rows of its input.
 -- This project's own.
-use Rattle.std.specs.Prelude.{ℕ, List, [], ◌∷◌, length, map, unwrap_or, slice_index_or, if◌then◌else◌, ℤ, pos, ◌+ℤ◌}
+use Rattle.std.specs.Prelude.{ℕ, List, [], ◌∷◌, Option, Some, None, length, map, unwrap_or, slice_index_or, if◌then◌else◌, ℤ, pos, ◌+ℤ◌}
 use Rattle.std.specs.FinMap.{entries, from_entries}
 use Rattle.std.specs.Cmp.Lexicographic.{slice_cmp}
 use Rattle.std.specs.Int.{int_max, int_min}
@@ -10,6 +10,7 @@ use Rattle.std.specs.declared.cmp.Ordering.{Ordering}
 use Rattle.std.specs.declared.cmp.Ordering.TheVariants.{Less, Equal, Greater}
 use Rattle.aggregate.specs.declared.agg_list.Agg.{Agg}
 use Rattle.aggregate.specs.declared.agg_list.Agg.TheVariants.{Count, Sum, Min, Max}
+use Rattle.aggregate.specs.Partial.{present}
 use Rattle.row_form.specs.Numbers.{number}
 use Rattle.job_text.specs.declared.job.Job.{Job}
 use Rattle.job_text.specs.declared.job.KeyItem.{KeyItem}
@@ -20,9 +21,14 @@ use Rattle.job_plan.specs.Columns.{Fields, place_of}
 abbrev pub field_of : Job → Fields → Fields → ℕ → List ℕ
 field_of job header row column = slice_index_or row (place_of job header column) []
 
--- the number that it is; 0 where it is none
+-- the number that it is; none where it is missing. Of a row that passed the checks of its input, whose landed row has the
+-- form of the job's plan, it is none exactly where the field is empty (MissingValues.antt).
+abbrev pub value_at : Job → Fields → Fields → ℕ → Option ℤ
+value_at job header row column = number (field_of job header row column)
+
+-- the number that a row is ordered by; 0 where it is none
 abbrev pub number_of : Job → Fields → Fields → ℕ → ℤ
-number_of job header row column = unwrap_or (number (field_of job header row column)) (pos 0)
+number_of job header row column = unwrap_or (value_at job header row column) (pos 0)
 
 -- ---- groups
 
@@ -38,29 +44,36 @@ fields_cmp = slice_cmp (slice_cmp nat_cmp)
 abbrev pub members : Job → Fields → List ℕ → List Fields → Fields → List Fields
 members job header columns rows group = filter (λ row. is_eq (fields_cmp (group_of job header columns row) group)) rows
 
--- the least and the greatest of numbers; 0 where there are none
-abbrev pub least : List ℤ → ℤ
-least [] = pos 0
-least (n ∷ ns) = fold int_min n ns
+-- the exact sum of numbers; none where there are none
+abbrev pub summed : List ℤ → Option ℤ
+summed [] = None
+summed (n ∷ ns) = Some (fold ◌+ℤ◌ n ns)
 
--- the number that no other one exceeds; 0 where there are none
-abbrev pub greatest : List ℤ → ℤ
-greatest [] = pos 0
-greatest (n ∷ ns) = fold int_max n ns
+-- the number that exceeds no other one; none where there are none
+abbrev pub least : List ℤ → Option ℤ
+least [] = None
+least (n ∷ ns) = Some (fold int_min n ns)
 
--- what an aggregate makes of numbers, one for each row
-abbrev pub aggregated : Agg → List ℤ → ℤ
-aggregated Count numbers = pos (length numbers)
-aggregated Sum numbers = fold ◌+ℤ◌ (pos 0) numbers
-aggregated Min numbers = least numbers
-aggregated Max numbers = greatest numbers
+-- the number that no other one exceeds; none where there are none
+abbrev pub greatest : List ℤ → Option ℤ
+greatest [] = None
+greatest (n ∷ ns) = Some (fold int_max n ns)
 
--- what is told of a group: the number of its rows, or the exact sum, the least or the greatest of a column over them
-abbrev pub told_of : Job → Fields → List Fields → Part → ℤ
-told_of job header rows part = aggregated part.agg (map (λ row. number_of job header row (unwrap_or part.column 0)) rows)
+-- what an aggregate makes of the values of a group's rows: how many rows there are, or what the numbers that aren't
+-- missing come to, which is missing where all are
+abbrev pub aggregated : Agg → List (Option ℤ) → Option ℤ
+aggregated Count values = Some (pos (length values))
+aggregated Sum values = summed (present values)
+aggregated Min values = least (present values)
+aggregated Max values = greatest (present values)
+
+-- what is told of a group: the number of its rows, or the exact sum, the least or the greatest of a column over those of
+-- its rows whose field isn't missing
+abbrev pub told_of : Job → Fields → List Fields → Part → Option ℤ
+told_of job header rows part = aggregated part.agg (map (λ row. value_at job header row (unwrap_or part.column 0)) rows)
 
 -- the groups that occur, ascending, each with what is told of it
-abbrev pub groups : Job → Fields → List ℕ → List Part → List Fields → List (Fields × List ℤ)
+abbrev pub groups : Job → Fields → List ℕ → List Part → List Fields → List (Fields × List (Option ℤ))
 groups job header columns parts rows =
     entries (from_entries {R = fields_cmp}
     (map (λ row. (group_of job header columns row, map (told_of job header (members job header columns rows (group_of job header columns row))) parts)) rows))

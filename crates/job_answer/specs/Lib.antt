@@ -3,6 +3,7 @@ pub mod Numbered
 pub mod Derived
 pub mod Output
 pub mod Laws
+pub mod MissingValues
 pub mod OneShape
 pub mod Parts
 pub mod PlainJobs

@@ -1,11 +1,9 @@
 -- What is printed for a job: the tables of its queries, one behind the other.
 -- This project's own.
-use Rattle.std.specs.Prelude.{ℕ, ◌+◌, not, List, [], ◌∷◌, ◌++◌, Option, None, map, option_map}
-use Rattle.std.specs.Fmt.{signed_decimal}
+use Rattle.std.specs.Prelude.{ℕ, ◌+◌, List, [], ◌∷◌, ◌++◌, Option, None, map, option_map}
 use Rattle.std.specs.List.{find, flat_map, list_any}
 use Rattle.std.specs.Option.{option_or}
 use Rattle.csv.specs.Writing.{default_writer, row_text}
-use Rattle.aggregate.specs.Partial.{fits_i64}
 use Rattle.aggregate.specs.Spelling.{spelled}
 use Rattle.job_text.specs.declared.job.Job.{Job}
 use Rattle.job_text.specs.declared.job.Query.{Query}
@@ -13,15 +11,17 @@ use Rattle.job_text.specs.declared.job.Shape.{Shape}
 use Rattle.job_text.specs.declared.job.Shape.TheVariants.{Group, Order}
 use Rattle.job_plan.specs.Columns.{Fields}
 use Rattle.job_plan.specs.Plans.{heading_of}
+use Rattle.job_plan.specs.Telling.{leaves_i64, told_field}
 use Rattle.job_answer.specs.Answer.{arranged, field_of, groups}
 use Rattle.job_answer.specs.Derived.{derived}
 
 -- ---- a shape over rows
 
--- the rows of its table, below its heading
+-- the rows of its table, below its heading: of a group its fields and what is told of it, where a missing value is an empty
+-- field
 abbrev pub shape_rows : Job → Fields → List Fields → Shape → List Fields
 shape_rows job header rows (Group columns parts) =
-    map (λ group. group.0 ++ map signed_decimal group.1) (groups job header columns parts rows)
+    map (λ group. group.0 ++ map told_field group.1) (groups job header columns parts rows)
 shape_rows job header rows (Order keys columns) =
     map (λ row. map (field_of job header row) columns) (arranged job header keys rows)
 
@@ -33,7 +33,7 @@ shape_table job header rows shape = heading_of job.names shape ∷ shape_rows jo
 abbrev pub shape_wide : Job → Fields → List Fields → Shape → Option (List ℕ)
 shape_wide job header rows (Group columns parts) =
     option_map (λ group. flat_map spelled group.0)
-    (find (λ group. list_any (λ number. not (fits_i64 number)) group.1) (groups job header columns parts rows))
+    (find (λ group. list_any leaves_i64 group.1) (groups job header columns parts rows))
 shape_wide job header rows (Order keys columns) = None
 
 -- ---- a query over an input's rows: its shape over those of its dataset

@@ -4,8 +4,7 @@ ghost use Rattle.job_answer.specs.Laws.{TotalsTellAnswers, TotalsTellQueries, To
 ghost use Rattle.job_answer.specs.OneShape.{GroupsTell, OrdersTell};
 
 use aggregate::{
-    keys_in_order, numbers_come_back, numbers_in_order, partials_are_sixteen_bytes,
-    spellings_are_read_back,
+    keys_in_order, numbers_in_order, partials_are_long, partials_come_back, spellings_are_read_back,
 };
 use row_page::fields_have_one_encoding;
 
@@ -39,8 +38,8 @@ fn groups_are_told()
 {
     keys_in_order();
     spellings_are_read_back();
-    partials_are_sixteen_bytes();
-    numbers_come_back();
+    partials_are_long();
+    partials_come_back();
 }
 
 // So it is where rows are ordered.

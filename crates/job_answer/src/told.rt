@@ -2,7 +2,7 @@
 
 ghost use Rattle.job_answer.specs.Told.{ShortShapesAreTold};
 
-use aggregate::partials_are_sixteen_bytes;
+use aggregate::partials_are_long;
 use row_page::fields_have_one_encoding;
 
 /// What the entries of short rows come to can be told, where none of it is too wide, whatever rows these are and wherever they are
@@ -10,6 +10,6 @@ use row_page::fields_have_one_encoding;
 pub fn short_shapes_are_told()
     ensures { ShortShapesAreTold }
 {
-    partials_are_sixteen_bytes();
+    partials_are_long();
     fields_have_one_encoding();
 }

@@ -9,12 +9,13 @@ use Rattle.row_filter.specs.Rows.{HasTestedColumns}
 use Rattle.row_filter.specs.declared.chain.Chain.{Chain}
 use Rattle.row_filter.specs.declared.chain.Link.{Link}
 use Rattle.row_form.specs.declared.form.Form.TheVariants.{Landed}
+use Rattle.row_form.specs.declared.number_list.NumberPlace.{NumberPlace}
 use Rattle.job_text.specs.Jobs.{IsJob}
 use Rattle.job_text.specs.declared.job.Dataset.{Dataset}
 use Rattle.job_text.specs.declared.job.Job.{Job}
 use Rattle.job_text.specs.declared.job.Query.{Query}
 use Rattle.job_plan.specs.Columns.{Fields, kept_place, linked, missing}
-use Rattle.job_plan.specs.Making.{AreFound, ArePasses, ArePlannedOf, IsChainOf, ascending, name_for, numbers_told, place_in}
+use Rattle.job_plan.specs.Making.{AreFound, ArePasses, ArePlannedOf, IsChainOf, name_for, place_in, places_over}
 use Rattle.job_plan.specs.Moved.{link_over}
 use Rattle.job_plan.specs.Passes.{pass_datasets, queries_over, removed_after}
 use Rattle.job_plan.specs.Planning.{ArePlanned, FitsChain, IsPass, IsPlanned}
@@ -107,9 +108,9 @@ module _ (job : Job) (header : Fields) (places : List ℕ) (is : IsJob job) (fou
         links = chained;
         base = made.base;
         first = first;
-        form = made.form ∙ ap (λ (all : List Link). Landed n (ascending (numbers_told all ps) n)) (links_are job header places is found)
-            ∙ ap (λ (m : ℕ). Landed m (ascending (numbers_told (linked job header) ps) m)) wide
-            ∙ ap (λ (list : List ℕ). Landed kept-count list) (numbers_is job header places is found ps told);
+        form = made.form ∙ ap (λ (all : List Link). Landed n (places_over all ps n)) (links_are job header places is found)
+            ∙ ap (λ (m : ℕ). Landed m (places_over (linked job header) ps m)) wide
+            ∙ ap (λ (list : List NumberPlace). Landed kept-count list) (numbers_is job header places is found ps told);
         datasets = told.datasets;
         shapes = told.shapes;
         over = over_is job header places is found ps told;

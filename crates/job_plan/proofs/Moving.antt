@@ -15,7 +15,7 @@ use Rattle.job_text.specs.declared.job.KeyItem.{KeyItem}
 use Rattle.job_text.specs.declared.job.Part.{Part}
 use Rattle.job_text.specs.declared.job.Shape.{Shape}
 use Rattle.job_text.specs.declared.job.Shape.TheVariants.{Group, Order}
-use Rattle.job_plan.specs.Columns.{numbers_in}
+use Rattle.job_plan.specs.Columns.{ordered_in, told_in}
 use Rattle.job_plan.specs.Entries.{kind_of}
 use Rattle.job_plan.specs.Moved.{moved, moved_item, moved_part}
 
@@ -134,6 +134,10 @@ keys-numbers g (k ∷ ks) = elim (cases_Bool k.number) [
   | inr past ↦ rw past (keys-numbers g ks)
 ]
 
-pub numbers-moved : (g : ℕ → ℕ) (s : Shape) → numbers_in (moved g s) ≡ map g (numbers_in s)
-numbers-moved g (Group cs ps) = parts-numbers g ps
-numbers-moved g (Order ks cs) = keys-numbers g ks
+pub told-moved : (g : ℕ → ℕ) (s : Shape) → told_in (moved g s) ≡ map g (told_in s)
+told-moved g (Group cs ps) = parts-numbers g ps
+told-moved g (Order ks cs) = refl
+
+pub ordered-moved : (g : ℕ → ℕ) (s : Shape) → ordered_in (moved g s) ≡ map g (ordered_in s)
+ordered-moved g (Group cs ps) = refl
+ordered-moved g (Order ks cs) = keys-numbers g ks

@@ -1,23 +1,35 @@
 -- How long the keys and values of landed rows are.
-use Rattle.std.proofs.Common.{◌≡◌, ◌<◌, ◌≤◌, ◌+◌, ◌*◌, ◌-◌, ◌^◌, ◌∙◌, ℕ, List, [], ◌∷◌, Option, Some, None, Bool, true, false, length, map, get_or, refl, sym, ap, arith, inl, inr, ℤ, pos, ◌+ℤ◌}
+use Rattle.std.proofs.Common.{◌≡◌, ◌<◌, ◌≤◌, ◌+◌, ◌*◌, ◌-◌, ◌^◌, ◌∙◌, ℕ, List, [], ◌∷◌, Option, Some, None, Bool, true, false, length, map, get_or, refl, sym, ap, arith, inl, inr, true≢false, w64, ℤ, pos, ◌+ℤ◌}
 use Rattle.std.specs.Prelude.{◌==◌, unsigned_abs}
-use Rattle.std.specs.Int.{bytes_high_first}
-use Rattle.std.specs.Prelude.{All, sum_by, IfSome}
+use Rattle.std.specs.Int.{bytes_high_first, w128}
+use Rattle.std.specs.Prelude.{All, sum_by, IfSome, is_some, not}
 use Rattle.std.specs.List.{flat_map}
 use Rattle.std.proofs.Props.{props}
 use Rattle.std.proofs.lemmas.Bool.{cases_Bool}
-use Rattle.std.proofs.lemmas.List.{length-append, length-map, get_or-map}
+use Rattle.std.proofs.lemmas.List.{drop_at, length-append, length-map, get_or-map, take_at}
 use Rattle.std.proofs.lemmas.List.Concat.{length-flat_map}
 use Rattle.std.proofs.lemmas.List.Folds.{flat_map-map, fold-map}
 use Rattle.std.proofs.lemmas.List.Sums.{sum_by-cons}
-use Rattle.aggregate.specs.Partial.{partial_of}
+use Rattle.aggregate.specs.Partial.{partial_of, slot_bytes}
+use Rattle.aggregate.specs.Values.{ArePartials, FitsPartial, Suits}
+use Rattle.aggregate.specs.declared.agg_list.Agg.{Agg}
+use Rattle.aggregate.specs.declared.agg_list.Agg.TheVariants.{Count, Sum, Min, Max}
+use Rattle.aggregate.specs.declared.kind.Kind.{Kind}
+use Rattle.aggregate.specs.declared.kind.Kind.TheVariants as kinds
+use Rattle.aggregate.proofs.Numbers.{length-partial_of}
+use Rattle.aggregate.proofs.Tested.{passes}
+use Rattle.row_form.proofs.Numerals.{number_fits}
+use Rattle.std.specs.Int.RustNames.{FitsSigned}
+use Rattle.std.proofs.lemmas.Int.{ints}
+use Rattle.std.proofs.lemmas.Option.{same_Some}
+use Rattle.std.proofs.lemmas.List.Elements.{All-head, All-tail}
 use Rattle.aggregate.specs.Spelling.{number_spelling, spelled, spelled_byte, turned_if}
 use Rattle.row_page.specs.Grammar.{ArePieces, IsPieceThen, IsRow}
 use Rattle.row_page.specs.Spelling.{length_bytes, row_bytes, row_length, with_length}
 use Rattle.row_form.specs.Forms.{HasForm, IsValueOf, columns_of}
 use Rattle.row_form.specs.declared.form.Form.{Form}
 use Rattle.row_form.specs.declared.form.Form.TheVariants.{Entries, Landed}
-use Rattle.job_text.specs.Jobs.{IsColumns, IsShape}
+use Rattle.job_text.specs.Jobs.{IsAggregate, IsColumns, IsShape, is_count}
 use Rattle.job_text.specs.declared.job.KeyItem.{KeyItem}
 use Rattle.job_text.specs.declared.job.Part.{Part}
 use Rattle.job_text.specs.declared.job.Shape.{Shape}
@@ -85,14 +97,10 @@ key-long row n (Order keys columns) e eight s =
 
 -- ---- values
 
-partial-long : (n : ℤ) → length (partial_of n) ≡ 16
-unfolding partial_of
-partial-long n = refl
-
-parts-long : (row : List (List ℕ)) (parts : List Part) → length (flat_map (λ part. partial_of (told_by row part.column)) parts) ≡ 16 * length parts
+parts-long : (row : List (List ℕ)) (parts : List Part) → length (flat_map (λ part. partial_of (told_by row part.column)) parts) ≡ slot_bytes * length parts
 parts-long row parts =
     length-flat_map (λ (part : Part). partial_of (told_by row part.column)) parts
-    ∙ sum_equal (λ (part : Part). length (partial_of (told_by row part.column))) 16 parts (λ part. partial-long (told_by row part.column))
+    ∙ sum_equal (λ (part : Part). length (partial_of (told_by row part.column))) slot_bytes parts (λ part. length-partial_of (told_by row part.column))
 
 piece-long : (piece : List ℕ) → length (with_length piece) ≡ 4 + length piece
 unfolding length_bytes
@@ -122,10 +130,42 @@ value-long row n (Order keys columns) e s short =
     let few = s.1.short.few in
     omega (arith, told-long row columns, all, few)
 
-pub value-kind : (row : List (List ℕ)) (shape : Shape) → IsValueOf (kind_of shape) (value_of shape row)
+-- a number of 64 bits has a place in 128
+wider : (z : ℤ) → FitsSigned w64 z → FitsSigned w128 z
+wider z fits = record { sfits = omega (arith, ints, fits.sfits) }
+
+told-fits : (row : List (List ℕ)) (column : Option ℕ) → FitsPartial (told_by row column)
+told-fits row None n is = rw (sym (same_Some (pos 1) n is)) (record { sfits = omega (arith, ints) })
+told-fits row (Some k) n is = wider n (number_fits (field row k) n is)
+
+-- a count is never missing
+told-suits : (row : List (List ℕ)) (agg : Agg) (column : Option ℕ) → is_some column ≡ not (is_count agg) → Suits agg (told_by row column)
+told-suits row Count None is = tt
+told-suits row Count (Some k) is = absurd (true≢false is)
+told-suits row Sum column is = tt
+told-suits row Min column is = tt
+told-suits row Max column is = tt
+
+parts-formed : (row : List (List ℕ)) (n : ℕ) (parts : List Part) → All (IsAggregate n) parts
+    → ArePartials (map (λ (part : Part). part.agg) parts) (flat_map (λ part. partial_of (told_by row part.column)) parts)
+parts-formed row n [] all = refl
+parts-formed row n (part ∷ parts) all =
+    let one = partial_of (told_by row part.column) in
+    let rest = flat_map (λ (p : Part). partial_of (told_by row p.column)) parts in
+    let long : length one ≡ slot_bytes = length-partial_of (told_by row part.column) in
+    rw (take_at one rest slot_bytes long, drop_at one rest slot_bytes long) (
+      (told_by row part.column, told-fits row part.column, refl, told-suits row part.agg part.column (All-head (IsAggregate n) part parts all).column),
+      parts-formed row n parts (All-tail (IsAggregate n) part parts all),
+    )
+
+pub value-kind : (row : List (List ℕ)) (n : ℕ) (shape : Shape) → IsShape n shape → IsValueOf (kind_of shape) (value_of shape row)
 unfolding value_of
-value-kind row (Group columns parts) = omega (arith, parts-long row parts, length-map parts (λ (part : Part). part.agg))
-value-kind row (Order keys columns) = tt
+value-kind row n (Group columns parts) s = passes (map (λ (part : Part). part.agg) parts) _ (parts-formed row n parts s.2)
+value-kind row n (Order keys columns) s = tt
+
+pub value-prop : (kind : Kind) (value : List ℕ) → IsProp (IsValueOf kind value)
+value-prop (kinds.Group aggs) value = hlevel props
+value-prop kinds.Order value = hlevel props
 
 -- ---- rows
 

@@ -1,7 +1,7 @@
 -- The plan of a job over a header, from the places of its names.
 use Rattle.std.proofs.Common.{◌≡◌, ◌≢◌, ◌<◌, ◌≤◌, ◌+◌, ◌∙◌, ◌++◌, ℕ, List, [], ◌∷◌, Option, Some, None, true, length, map, get_or, take, refl, sym, ap, inl, inr, arith, subst, slice_index}
-use Rattle.std.specs.Prelude.{◌==◌, All, nat_lt, slice_index_or, unwrap_or}
-use Rattle.std.specs.List.{flat_map, list_any, range_with_len}
+use Rattle.std.specs.Prelude.{◌==◌, All, Bool, not, nat_lt, slice_index_or, unwrap_or}
+use Rattle.std.specs.List.{filter, flat_map, list_any, range_with_len}
 use Rattle.std.specs.Str.{bytes_eq}
 use Rattle.std.proofs.lemmas.Bool.{cases_Bool, eqb-true, ltb-true, ltb-false}
 use Rattle.std.proofs.lemmas.Bool.Decides.{nat_tests}
@@ -10,22 +10,23 @@ use Rattle.std.proofs.lemmas.List.Elements.{All-map, All-push, All-same, filter_
 use Rattle.std.proofs.lemmas.List.Folds.{flat_map-map, list_any_at}
 use Rattle.std.proofs.lemmas.List.FromFn.{get_or-range_with_len, length-range_with_len}
 use Rattle.std.proofs.lemmas.Slice.Eq.{bytes_eq-Decides}
+use Rattle.row_form.specs.declared.number_list.NumberPlace.{NumberPlace}
 use Rattle.job_text.specs.Jobs.{IsJob, IsShape}
 use Rattle.job_text.specs.declared.job.Dataset.{Dataset}
 use Rattle.job_text.specs.declared.job.Job.{Job}
 use Rattle.job_text.specs.declared.job.Query.{Query}
 use Rattle.job_text.specs.declared.job.Shape.{Shape}
 use Rattle.job_text.specs.declared.job.Shape.TheVariants.{Group, Order}
-use Rattle.job_plan.specs.Columns.{Fields, kept, kept_place, linked, name_of, number_columns, number_places, numbers_for, numbers_in, over_kept, place, stands_at}
+use Rattle.job_plan.specs.Columns.{Fields, kept, kept_place, linked, name_of, is_number_place, number_columns, number_place, number_places, numbers_for, ordered_in, over_kept, place, stands_at, strict_columns, told_columns, told_in}
 use Rattle.job_plan.specs.Entries.{kind_of}
-use Rattle.job_plan.specs.Making.{AreFound, ArePlannedOf, IsPlannedOf, ascending, name_for, numbers_told, place_in}
+use Rattle.job_plan.specs.Making.{AreFound, ArePlannedOf, IsPlannedOf, ascending, name_for, place_by, place_in, places_over, strict_over, told_over}
 use Rattle.job_plan.specs.Moved.{link_over, moved}
 use Rattle.job_plan.specs.Planning.{IsPlanned}
 use Rattle.job_plan.specs.Plans.{no_shape}
 use Rattle.job_plan.specs.declared.planned.Planned.{Planned}
 use Rattle.job_plan.proofs.Firsts.{any_of_kept, any_of_map, filter_same, first_at, first_of_any}
 use Rattle.job_plan.proofs.Linked.{links_alike, links_numbers}
-use Rattle.job_plan.proofs.Moving.{map_same, moved-same, numbers-moved, shape-moved}
+use Rattle.job_plan.proofs.Moving.{map_same, moved-same, ordered-moved, shape-moved, told-moved}
 
 -- ---- one more query
 
@@ -67,9 +68,18 @@ over-moved : (job : Job) (header : Fields) (s : Shape) → over_kept job header 
 over-moved job header (Group columns parts) = refl
 over-moved job header (Order keys columns) = refl
 
-flat-moved : (g : ℕ → ℕ) (qs : List Query) → flat_map (λ (q : Query). numbers_in (moved g q.shape)) qs ≡ map g (flat_map (λ (q : Query). numbers_in q.shape) qs)
-flat-moved g [] = refl
-flat-moved g (q ∷ qs) = rw (numbers-moved g q.shape, flat-moved g qs) (sym (map-append g (numbers_in q.shape) (flat_map (λ (x : Query). numbers_in x.shape) qs)))
+-- columns that a shape has are moved with it, and so are those of queries
+module _ (columns_in : Shape → List ℕ) (g : ℕ → ℕ) (one : (s : Shape) → columns_in (moved g s) ≡ map g (columns_in s)) where
+  flat-moved : (qs : List Query) → flat_map (λ (q : Query). columns_in (moved g q.shape)) qs ≡ map g (flat_map (λ (q : Query). columns_in q.shape) qs)
+  flat-moved [] = refl
+  flat-moved (q ∷ qs) = rw (one q.shape, flat-moved qs) (sym (map-append g (columns_in q.shape) (flat_map (λ (x : Query). columns_in x.shape) qs)))
+
+-- the number columns among so many places, by their columns before they are moved
+abbrev place_at : ℕ → Bool → NumberPlace
+place_at k value = record { column = k; value = value }
+
+strict-same : (g : ℕ → ℕ) (columns : List ℕ) (k : ℕ) → list_any (λ q. q == k) (map g columns) ≡ list_any (λ c. g c == k) columns
+strict-same g columns k = any_of_map (λ q. q == k) g columns
 
 module _ (job : Job) (header : Fields) (places : List ℕ) (is : IsJob job) (found : AreFound job.names header places) where
   abbrev pub the-kept : List ℕ
@@ -162,21 +172,42 @@ module _ (job : Job) (header : Fields) (places : List ℕ) (is : IsJob job) (fou
   pub links_are : map (link_over (slice_index indexes)) job.datasets ≡ linked job header
   links_are = links_alike (slice_index indexes) (kept_place job header) count index_is job.datasets is.datasets
 
-  pub numbers_is : (ps : List Planned) → ArePlannedOf job.names indexes job.queries ps
-      → ascending (numbers_told (linked job header) ps) (length the-kept) ≡ number_places job header
-  numbers_is ps h =
-      let queries : flat_map (λ (p : Planned). numbers_in p.kept) ps ≡ map (kept_place job header) (flat_map (λ (q : Query). numbers_in q.shape) job.queries) =
-      sym (flat_map-map numbers_in (λ (p : Planned). p.kept) ps) ∙ ap (flat_map numbers_in) (over_is ps h)
-      ∙ ap (flat_map numbers_in) (map_same (λ (q : Query). over_kept job header q.shape) (λ (q : Query). moved (kept_place job header) q.shape) job.queries (λ i d lt. over-moved job header (get_or job.queries i d).shape))
-      ∙ flat_map-map numbers_in (λ (q : Query). moved (kept_place job header) q.shape) job.queries ∙ flat-moved (kept_place job header) job.queries in
+  queries_are : (columns_in : Shape → List ℕ) (one : (s : Shape) → columns_in (moved (kept_place job header) s) ≡ map (kept_place job header) (columns_in s))
+      (ps : List Planned) → ArePlannedOf job.names indexes job.queries ps
+      → flat_map (λ (p : Planned). columns_in p.kept) ps ≡ map (kept_place job header) (flat_map (λ (q : Query). columns_in q.shape) job.queries)
+  queries_are columns_in one ps h =
+      sym (flat_map-map columns_in (λ (p : Planned). p.kept) ps) ∙ ap (flat_map columns_in) (over_is ps h)
+      ∙ ap (flat_map columns_in) (map_same (λ (q : Query). over_kept job header q.shape) (λ (q : Query). moved (kept_place job header) q.shape) job.queries (λ i d lt. over-moved job header (get_or job.queries i d).shape))
+      ∙ flat_map-map columns_in (λ (q : Query). moved (kept_place job header) q.shape) job.queries ∙ flat-moved columns_in (kept_place job header) one job.queries
+
+  strict_is : (ps : List Planned) → ArePlannedOf job.names indexes job.queries ps
+      → strict_over (linked job header) ps ≡ map (kept_place job header) (strict_columns job)
+  strict_is ps h =
       let filters = flat_map (λ (d : Dataset). numbers_for d.filter) job.datasets in
-      let all : numbers_told (linked job header) ps ≡ map (kept_place job header) (number_columns job) =
-      ap (λ (front : List ℕ). front ++ flat_map (λ (p : Planned). numbers_in p.kept) ps) (links_numbers (kept_place job header) job.datasets)
-      ∙ ap (λ (back : List ℕ). map (kept_place job header) filters ++ back) queries
-      ∙ sym (map-append (kept_place job header) filters (flat_map (λ (q : Query). numbers_in q.shape) job.queries)) in
+      ap (λ (front : List ℕ). front ++ flat_map (λ (p : Planned). ordered_in p.kept) ps) (links_numbers (kept_place job header) job.datasets)
+      ∙ ap (λ (back : List ℕ). map (kept_place job header) filters ++ back) (queries_are ordered_in (ordered-moved (kept_place job header)) ps h)
+      ∙ sym (map-append (kept_place job header) filters (flat_map (λ (q : Query). ordered_in q.shape) job.queries))
+
+  -- the number columns of the plan are the job's, and so is which of them are value columns
+  pub numbers_is : (ps : List Planned) → ArePlannedOf job.names indexes job.queries ps
+      → places_over (linked job header) ps (length the-kept) ≡ number_places job header
+  numbers_is ps h =
+      let move = kept_place job header in
+      let strict = strict_is ps h in
+      let told = queries_are told_in (told-moved move) ps h in
+      let all : strict_over (linked job header) ps ++ told_over ps ≡ map move (number_columns job) =
+      ap (λ (front : List ℕ). front ++ told_over ps) strict ∙ ap (λ (back : List ℕ). map move (strict_columns job) ++ back) told
+      ∙ sym (map-append move (strict_columns job) (told_columns job)) in
+      let at : ascending (strict_over (linked job header) ps ++ told_over ps) (length the-kept)
+      ≡ filter (is_number_place job header (number_columns job)) (range_with_len 0 (length the-kept)) =
       ap (λ list. ascending list (length the-kept)) all
-      ∙ filter_same (λ k. list_any (λ q. q == k) (map (kept_place job header) (number_columns job))) (λ k. list_any (λ c. kept_place job header c == k) (number_columns job))
-      (range_with_len 0 (length the-kept)) (λ k. any_of_map (λ q. q == k) (kept_place job header) (number_columns job))
+      ∙ filter_same (λ k. list_any (λ q. q == k) (map move (number_columns job))) (is_number_place job header (number_columns job))
+      (range_with_len 0 (length the-kept)) (strict-same move (number_columns job)) in
+      let same : (k : ℕ) → place_by (strict_over (linked job header) ps) k ≡ number_place job header k =
+      λ k. ap (λ (b : Bool). place_at k (not b)) (ap (list_any (λ q. q == k)) strict ∙ strict-same move (strict_columns job) k) in
+      ap (map (place_by (strict_over (linked job header) ps))) at
+      ∙ map_same (place_by (strict_over (linked job header) ps)) (number_place job header) (filter (is_number_place job header (number_columns job)) (range_with_len 0 (length the-kept)))
+      (λ i d lt. same (get_or (filter (is_number_place job header (number_columns job)) (range_with_len 0 (length the-kept))) i d))
 
   -- the name that stands at a kept place is the header's field there
   name_stands : (p : ℕ) → list_any (stands_at header p) job.names ≡ true → name_for job.names places p ≡ get_or header p []

@@ -11,6 +11,7 @@ use Rattle.row_filter.specs.declared.filter.Filter.{Filter}
 use Rattle.row_filter.specs.declared.filter.Filter.TheFolds.{fold-Filter}
 use Rattle.row_filter.specs.declared.filter.Filter.TheOpen.{Filter-F}
 use Rattle.row_filter.specs.declared.filter.Filter.TheOpen as layers
+use Rattle.row_form.specs.declared.number_list.NumberPlace.{NumberPlace}
 use Rattle.job_text.specs.declared.job.Job.{Job}
 use Rattle.job_text.specs.declared.job.KeyItem.{KeyItem}
 use Rattle.job_text.specs.declared.job.Part.{Part}
@@ -52,10 +53,15 @@ kept_place job header column = unwrap_or (position_from (λ p. p == place_of job
 
 -- ---- columns whose fields are numbers
 
--- the columns that a shape adds up, takes the least or the greatest of, or orders by as a number
-abbrev pub numbers_in : Shape → List ℕ
-numbers_in (Group columns parts) = flat_map (λ part. option_to_list part.column) parts
-numbers_in (Order keys columns) = map (λ key. key.column) (filter (λ key. key.number) keys)
+-- the columns that a shape adds up, or takes the least or the greatest of
+abbrev pub told_in : Shape → List ℕ
+told_in (Group columns parts) = flat_map (λ part. option_to_list part.column) parts
+told_in (Order keys columns) = []
+
+-- the columns that it orders by as a number
+abbrev pub ordered_in : Shape → List ℕ
+ordered_in (Group columns parts) = []
+ordered_in (Order keys columns) = map (λ key. key.column) (filter (λ key. key.number) keys)
 
 -- the column of a test, where it is compared with a number
 abbrev pub test_numbers : ℕ → Constant → List ℕ
@@ -77,19 +83,32 @@ filter_numbers = fold-Filter (List ℕ) filter_numbers_step
 abbrev pub numbers_for : Option Filter → List ℕ
 numbers_for filter = option_map_or filter_numbers filter []
 
--- those of a job: of all its datasets, and then of its queries
+-- the columns of a job where only a number may stand: all that a dataset compares with one or a query orders by as one
+abbrev pub strict_columns : Job → List ℕ
+strict_columns job =
+    flat_map (λ dataset. numbers_for dataset.filter) job.datasets ++ flat_map (λ query. ordered_in query.shape) job.queries
+
+-- the columns that its queries add up, or take the least or the greatest of
+abbrev pub told_columns : Job → List ℕ
+told_columns job = flat_map (λ query. told_in query.shape) job.queries
+
+-- its number columns
 abbrev pub number_columns : Job → List ℕ
-number_columns job =
-    flat_map (λ dataset. numbers_for dataset.filter) job.datasets ++ flat_map (λ query. numbers_in query.shape) job.queries
+number_columns job = strict_columns job ++ told_columns job
 
 -- whether one of these columns is the kept one at a place
 abbrev pub is_number_place : Job → Fields → List ℕ → ℕ → Bool
 is_number_place job header columns k = list_any (λ column. kept_place job header column == k) columns
 
--- their places among the kept columns, from 0, ascending
-abbrev pub number_places : Job → Fields → List ℕ
+-- the number column at a place among the kept columns: a value column, unless only a number may stand there
+abbrev pub number_place : Job → Fields → ℕ → NumberPlace
+number_place job header k = record { column = k; value = not (is_number_place job header (strict_columns job) k) }
+
+-- those of the header, ascending
+abbrev pub number_places : Job → Fields → List NumberPlace
 number_places job header =
-    filter (is_number_place job header (number_columns job)) (range_with_len 0 (length (kept job.names header)))
+    map (number_place job header)
+    (filter (is_number_place job header (number_columns job)) (range_with_len 0 (length (kept job.names header))))
 
 -- ---- shapes and datasets over the kept columns
 

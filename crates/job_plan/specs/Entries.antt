@@ -21,10 +21,10 @@ field row k = slice_index_or row (k + 1) []
 abbrev pub number_in : List (List ℕ) → ℕ → ℤ
 number_in row k = unwrap_or (number (field row k)) (pos 0)
 
--- what a row adds to an aggregate: the field's number, or 1 where rows are counted
-abbrev pub told_by : List (List ℕ) → Option ℕ → ℤ
-told_by row None = pos 1
-told_by row (Some k) = number_in row k
+-- what a row adds to an aggregate: the field's number, none where it is none, or 1 where rows are counted
+abbrev pub told_by : List (List ℕ) → Option ℕ → Option ℤ
+told_by row None = Some (pos 1)
+told_by row (Some k) = number (field row k)
 
 -- a field or a number as a key has it
 abbrev pub item_bytes : List (List ℕ) → KeyItem → List ℕ
@@ -36,7 +36,7 @@ unfoldable pub key_of : Shape → List (List ℕ) → List ℕ
 key_of (Group columns parts) row = flat_map (λ k. spelled (field row k)) columns
 key_of (Order keys columns) row = flat_map (item_bytes row) keys ++ slice_index_or row 0 []
 
--- its value: 16 bytes for each aggregate, or the encoding of the columns that are told
+-- its value: a partial value for each aggregate, or the encoding of the columns that are told
 unfoldable pub value_of : Shape → List (List ℕ) → List ℕ
 value_of (Group columns parts) row = flat_map (λ part. partial_of (told_by row part.column)) parts
 value_of (Order keys columns) row = row_bytes (map (field row) columns)

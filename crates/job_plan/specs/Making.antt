@@ -1,14 +1,15 @@
 -- A plan while it is made: which places are found, and what is planned for each query.
 -- This project's own.
-use Rattle.std.specs.Prelude.{◌≡◌, ℕ, ◌==◌, ◌++◌, All, List, [], Some, length, map, slice_index, slice_index_or, take, unwrap_or}
+use Rattle.std.specs.Prelude.{◌≡◌, ℕ, ◌==◌, ◌++◌, All, List, [], Some, length, map, not, slice_index, slice_index_or, take, unwrap_or}
 use Rattle.std.specs.List.{filter, flat_map, list_any, position_from, range_with_len}
 use Rattle.row_filter.specs.Chains.{base_of, form_of, links_of}
 use Rattle.row_filter.specs.declared.chain.Chain.{Chain}
 use Rattle.row_filter.specs.declared.chain.Link.{Link}
 use Rattle.row_form.specs.declared.form.Form.TheVariants.{Landed}
+use Rattle.row_form.specs.declared.number_list.NumberPlace.{NumberPlace}
 use Rattle.job_text.specs.declared.job.Dataset.{Dataset}
 use Rattle.job_text.specs.declared.job.Query.{Query}
-use Rattle.job_plan.specs.Columns.{Fields, numbers_for, numbers_in, place}
+use Rattle.job_plan.specs.Columns.{Fields, numbers_for, ordered_in, place, told_in}
 use Rattle.job_plan.specs.Entries.{kind_of}
 use Rattle.job_plan.specs.Moved.{link_over, moved}
 use Rattle.job_plan.specs.Passes.{pass_datasets, queries_over, removed_after}
@@ -64,12 +65,25 @@ pub record AreFirstPasses (links : List Link) (asked : List ℕ) (count : ℕ) (
 abbrev pub ArePasses : List Link → List ℕ → List Pass → Type 0
 ArePasses links asked = AreFirstPasses links asked (length (pass_datasets asked))
 
--- the columns over the kept ones whose fields are numbers, of all datasets and then of the queries
-abbrev pub numbers_told : List Link → List Planned → List ℕ
-numbers_told links planned = flat_map (λ link. numbers_for link.filter) links ++ flat_map (λ p. numbers_in p.kept) planned
+-- the columns over the kept ones where only a number may stand, of all datasets and then of the queries
+abbrev pub strict_over : List Link → List Planned → List ℕ
+strict_over links planned = flat_map (λ link. numbers_for link.filter) links ++ flat_map (λ p. ordered_in p.kept) planned
+
+-- those that the queries add up, or take the least or the greatest of
+abbrev pub told_over : List Planned → List ℕ
+told_over planned = flat_map (λ p. told_in p.kept) planned
+
+-- the number column at a place: a value column, unless only a number may stand there
+abbrev pub place_by : List ℕ → ℕ → NumberPlace
+place_by strict k = record { column = k; value = not (list_any (λ q. q == k) strict) }
+
+-- the number columns among so many kept ones, ascending
+abbrev pub places_over : List Link → List Planned → ℕ → List NumberPlace
+places_over links planned columns =
+    map (place_by (strict_over links planned)) (ascending (strict_over links planned ++ told_over planned) columns)
 
 -- the chain of these datasets over so many kept columns, among which the names' columns stand as they are moved
 pub record IsChainOf (columns : ℕ) (move : ℕ → ℕ) (datasets : List Dataset) (planned : List Planned) (chain : Chain) : Type 0 where
   pub links : links_of chain ≡ map (link_over move) datasets
-  pub form : form_of chain ≡ Landed columns (ascending (numbers_told (map (link_over move) datasets) planned) columns)
+  pub form : form_of chain ≡ Landed columns (places_over (map (link_over move) datasets) planned columns)
   pub base : base_of chain ≡ 0

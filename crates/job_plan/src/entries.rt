@@ -63,14 +63,14 @@ fn number_at(row: &RowView<'_>, column: u32) -> i64
     parse_number(field_at(row, column)).unwrap_or(0)
 }
 
-// What a row adds to an aggregate of a column, or to the count.
-fn told(row: &RowView<'_>, part: &Part) -> i64
+// What a row adds to an aggregate of a column, if its field is a number, or to the count.
+fn told(row: &RowView<'_>, part: &Part) -> Option<i64>
     requires { IsPartOf (fields_in row.now) part.now }
     ensures { result ≡ told_by (fields_in row.now) part.now.column }
 {
     match part.column {
-        Some(column) => number_at(row, column),
-        None => 1,
+        Some(column) => parse_number(field_at(row, column)),
+        None => Some(1),
     }
 }
 
@@ -91,7 +91,7 @@ fn put_parts(value: &mut Vec<u8>, parts: &[Part], row: &RowView<'_>) -> Result<(
     ensures { OnOk result (value.new.items ≡ value.old.items ++ flat_map (λ part. partial_of (told_by (fields_in row.now) part.column)) parts.now) }
 {
     for part in parts {
-        put_partial(value, i128::from(told(row, part)))?;
+        put_partial(value, told(row, part).map(i128::from))?;
     }
     Ok(())
 }

@@ -1,10 +1,10 @@
 //! The plan of a job over a header.
 
-ghost use Rattle.std.specs.Prelude.{◌≡◌, ◌≤◌, ℕ, All, List, Some, None, IfOk, IsErrOf, length, map, slice_index};
+ghost use Rattle.std.specs.Prelude.{◌≡◌, ◌≤◌, ◌++◌, ℕ, All, List, Some, None, IfOk, IsErrOf, length, map, slice_index};
 ghost use Rattle.csv.specs.Records.{fields_of};
 ghost use Rattle.job_text.specs.Jobs.{IsJob, IsShape};
 ghost use Rattle.job_plan.specs.Columns.{missing};
-ghost use Rattle.job_plan.specs.Making.{AreFound, ArePlannedOf, IsChainOf, IsPlannedOf, numbers_told};
+ghost use Rattle.job_plan.specs.Making.{AreFound, ArePlannedOf, IsChainOf, IsPlannedOf, place_by, strict_over, told_over};
 ghost use Rattle.job_plan.specs.Plans.{IsPlanOf};
 
 use crate::columns::{below, find_places, indexes_in};
@@ -15,12 +15,12 @@ use crate::linking::{link_datasets, names_at, names_of};
 use crate::passing::make_passes;
 use crate::planned::Planned;
 use crate::query_plan::Plan;
-use crate::shapes::{copy_shape, make_kind, move_shape, put_numbers};
+use crate::shapes::{copy_shape, make_kind, move_shape, put_ordered, put_told};
 use csv::ByteRecord;
 use item_lists::{Listed, Name};
 use job_text::{Dataset, Job, Query};
 use row_filter::{Chain, Link};
-use row_form::{Form, NumberList};
+use row_form::{Form, NumberList, NumberPlace};
 use std::alloc::{AllocError, Global};
 
 /// The plan of a job over an input with this header. A column is the first header field with exactly its
@@ -81,11 +81,9 @@ fn make_chain(
     ensures { IfOk result (IsChainOf (length kept.now) (slice_index indexes.now) datasets.now queries.now) }
 {
     let links = link_datasets(alloc, indexes, datasets)?;
-    let numbers = below(
-        alloc,
-        kept.len() as u32,
-        &number_columns(alloc, &links, queries)?,
-    )?;
+    let strict = strict_columns(alloc, &links, queries)?;
+    let columns = number_columns(alloc, &strict, queries)?;
+    let numbers = number_places(alloc, &below(alloc, kept.len() as u32, &columns)?, &strict)?;
     let form = Form::Landed {
         columns: kept.len() as u32,
         numbers: NumberList::of(alloc, &numbers)?,
@@ -132,20 +130,53 @@ fn plan_query(
     })
 }
 
-// The kept columns whose fields are numbers, one dataset behind the other and then one query behind the other.
-fn number_columns(
+// The kept columns where only a number may stand, one dataset behind the other and then one query behind the other.
+fn strict_columns(
     alloc: Global,
     links: &[Link],
     queries: &[Planned],
 ) -> Result<Vec<u32>, AllocError>
-    ensures { IfOk result (λ columns. columns.items ≡ numbers_told links.now queries.now) }
+    ensures { IfOk result (λ columns. columns.items ≡ strict_over links.now queries.now) }
 {
     let mut columns = Vec::new(alloc);
     put_filter_numbers(&mut columns, links)?;
     for planned in queries {
-        put_numbers(&mut columns, &planned.kept)?;
+        put_ordered(&mut columns, &planned.kept)?;
     }
     Ok(columns)
+}
+
+// These, and behind them the kept columns that the queries add up, or take the least or the greatest of.
+fn number_columns(
+    alloc: Global,
+    strict: &[u32],
+    queries: &[Planned],
+) -> Result<Vec<u32>, AllocError>
+    ensures { IfOk result (λ columns. columns.items ≡ strict.now ++ told_over queries.now) }
+{
+    let mut columns = strict.to_vec(alloc)?;
+    for planned in queries {
+        put_told(&mut columns, &planned.kept)?;
+    }
+    Ok(columns)
+}
+
+// The number columns at these places: value columns, unless only a number may stand there.
+fn number_places(
+    alloc: Global,
+    columns: &[u32],
+    strict: &[u32],
+) -> Result<Vec<NumberPlace>, AllocError>
+    ensures { IfOk result (λ places. places.items ≡ map (place_by strict.now) columns.now) }
+{
+    let mut places = Vec::new(alloc);
+    for column in columns {
+        places.push(NumberPlace {
+            column: *column,
+            value: !strict.contains(column),
+        })?;
+    }
+    Ok(places)
 }
 
 // The datasets of the queries.

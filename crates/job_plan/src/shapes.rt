@@ -2,7 +2,7 @@
 
 ghost use Rattle.std.specs.Prelude.{◌≡◌, ◌++◌, ℕ, IfOk, OnOk, map, slice_index};
 ghost use Rattle.job_text.specs.Jobs.{IsShape};
-ghost use Rattle.job_plan.specs.Columns.{numbers_in};
+ghost use Rattle.job_plan.specs.Columns.{ordered_in, told_in};
 ghost use Rattle.job_plan.specs.Entries.{kind_of};
 ghost use Rattle.job_plan.specs.Moved.{moved, moved_item, moved_part};
 ghost use Rattle.std.specs.List.{filter, flat_map};
@@ -154,12 +154,22 @@ fn put_key_columns(into: &mut Vec<u32>, keys: &[KeyItem]) -> Result<(), AllocErr
     Ok(())
 }
 
-/// Puts the columns whose fields a shape takes for numbers behind others.
-pub(crate) fn put_numbers(into: &mut Vec<u32>, shape: &Shape) -> Result<(), AllocError>
-    ensures { OnOk result (into.new.items ≡ into.old.items ++ numbers_in shape.now) }
+/// Puts the columns that a shape adds up, or takes the least or the greatest of, behind others.
+pub(crate) fn put_told(into: &mut Vec<u32>, shape: &Shape) -> Result<(), AllocError>
+    ensures { OnOk result (into.new.items ≡ into.old.items ++ told_in shape.now) }
 {
     match shape {
         Shape::Group { parts, .. } => put_part_columns(into, parts.items()),
+        Shape::Order { .. } => Ok(()),
+    }
+}
+
+/// Puts the columns that a shape orders by as a number behind others.
+pub(crate) fn put_ordered(into: &mut Vec<u32>, shape: &Shape) -> Result<(), AllocError>
+    ensures { OnOk result (into.new.items ≡ into.old.items ++ ordered_in shape.now) }
+{
+    match shape {
+        Shape::Group { .. } => Ok(()),
         Shape::Order { keys, .. } => put_key_columns(into, keys.items()),
     }
 }

@@ -5,6 +5,7 @@ use Rattle.csv.specs.Records.{Row, fields_of}
 use Rattle.byte_io.specs.Records.{GivesRow}
 use Rattle.spill_disk.specs.Files.{Files}
 use Rattle.run_file.specs.declared.run.Run.{Run}
+use Rattle.row_form.specs.declared.number_list.NumberPlace.{NumberPlace}
 use Rattle.job_text.specs.declared.job.Job.{Job}
 use Rattle.job_plan.specs.Columns.{Fields}
 use Rattle.landing.specs.Checks.{Refused, checked, first_of_two, first_refusal, is_too_long, number_heads, refusal_of}
@@ -20,7 +21,7 @@ use Rattle.landing.specs.declared.rules.Rules.{Rules}
 
 same_refusal : (job : Job) (header : Fields) (max_rows : ℕ) (rules : Rules) (n : ℕ) (row : Fields) → AreRules job header rules → rules.max_rows ≡ max_rows → refusal_of job header max_rows n row ≡ refusal_in rules n row
 same_refusal job header max_rows rules n row are most =
-    sym (ap (λ (heads : List ℕ). refusal_by heads rules.count rules.max_rows n row) are.heads
+    sym (ap (λ (heads : List NumberPlace). refusal_by heads rules.count rules.max_rows n row) are.heads
     ∙ ap (λ (count : ℕ). refusal_by (number_heads job header) count rules.max_rows n row) are.count
     ∙ ap (λ (top : ℕ). refusal_by (number_heads job header) (length header) top n row) most)
 

@@ -5,22 +5,23 @@ use Rattle.std.specs.List.{find, filter, list_any, range_with_len, sum_by}
 use Rattle.std.specs.Int.{to_be_bytes}
 use Rattle.std.proofs.lemmas.Bool.{cases_Bool, ltb-false, eqb-true}
 use Rattle.std.proofs.lemmas.List.{get_or-map, length-map, length-take-le}
-use Rattle.std.proofs.lemmas.List.Elements.{All-cons, All-nil}
+use Rattle.std.proofs.lemmas.List.Elements.{All-cons, All-map, All-nil}
 use Rattle.std.proofs.lemmas.List.Filters.{length-filter_both, sum_by-filter_both}
 use Rattle.std.proofs.lemmas.List.FromFn.{length-range_with_len}
 use Rattle.std.proofs.lemmas.List.Sums.{sum_by-cons, sum_by_more_le}
 use Rattle.std.proofs.lemmas.Simd.{pick_l_whole}
 use Rattle.row_page.specs.Spelling.{row_length}
-use Rattle.row_form.specs.Forms.{HasForm}
-use Rattle.row_form.specs.Numbers.{is_number}
+use Rattle.row_form.specs.Forms.{HasForm, IsNumberAt}
+use Rattle.row_form.specs.Numbers.{may_be}
+use Rattle.row_form.specs.declared.number_list.NumberPlace.{NumberPlace}
 use Rattle.row_form.specs.declared.form.Form.{Form}
 use Rattle.row_form.specs.declared.form.Form.TheVariants.{Landed}
 use Rattle.job_text.specs.declared.job.Job.{Job}
-use Rattle.job_plan.specs.Columns.{Fields, is_number_place, kept, number_columns, number_places, stands_at}
+use Rattle.job_plan.specs.Columns.{Fields, is_number_place, kept, number_columns, number_place, number_places, stands_at}
 use Rattle.job_plan.specs.Entries.{field_bytes}
 use Rattle.job_plan.specs.Plans.{form_in, places_in}
 use Rattle.job_plan.specs.Rows.{landed_row}
-use Rattle.landing.specs.Checks.{bad_place, is_too_long, number_heads}
+use Rattle.landing.specs.Checks.{bad_place, head_at, is_too_long, number_heads}
 use Rattle.landing.specs.Ruling.{IsRuled, refusal_by, refusal_in}
 use Rattle.landing.specs.declared.fault.LandFault.TheVariants as fault
 use Rattle.landing.specs.declared.rules.Rules.{Rules}
@@ -74,14 +75,14 @@ none_mapped : {A B : Type 0} (f : A → B) (o : Option A) → option_map f o ≡
 none_mapped f None e = refl
 none_mapped f (Some x) e = cc e
 
-pub record Passes (heads : List ℕ) (count max_rows n : ℕ) (row : Fields) : Type 0 where
+pub record Passes (heads : List NumberPlace) (count max_rows n : ℕ) (row : Fields) : Type 0 where
   pub few : n ≤ max_rows
   pub fields : length row ≤ 1024
   pub bytes : sum_by length row ≤ 65536
   pub several : length row ≡ count
   pub numbers : bad_place heads row ≡ None
 
-pub passes : (heads : List ℕ) (count max_rows n : ℕ) (row : Fields) → refusal_by heads count max_rows n row ≡ None → Passes heads count max_rows n row
+pub passes : (heads : List NumberPlace) (count max_rows n : ℕ) (row : Fields) → refusal_by heads count max_rows n row ≡ None → Passes heads count max_rows n row
 passes heads count max_rows n row e = elim (cases_Bool (nat_lt max_rows n)) [
   | inl many ↦ absurd (let h = rw many at e in cc h)
   | inr few ↦ elim (cases_Bool (is_too_long row)) [
@@ -102,34 +103,40 @@ passes heads count max_rows n row e = elim (cases_Bool (nat_lt max_rows n)) [
   ]
 ]
 
-find_none : (test : ℕ → Bool) (xs : List ℕ) → find test xs ≡ None → (i : ℕ) → i < length xs → test (get_or xs i 0) ≡ false
-find_none test [] e i lt = absurd (omega arith)
-find_none test (x ∷ xs) e zero lt = elim (cases_Bool (test x)) [
+find_none : {X : Type 0} (test : X → Bool) (xs : List X) → find test xs ≡ None → (i : ℕ) (d : X) → i < length xs → test (get_or xs i d) ≡ false
+find_none test [] e i d lt = absurd (omega arith)
+find_none test (x ∷ xs) e zero d lt = elim (cases_Bool (test x)) [
   | inl passed ↦ absurd (let h = rw passed at e in cc h)
   | inr failed ↦ failed
 ]
-find_none test (x ∷ xs) e (suc i) lt = elim (cases_Bool (test x)) [
+find_none test (x ∷ xs) e (suc i) d lt = elim (cases_Bool (test x)) [
   | inl passed ↦ absurd (let h = rw passed at e in cc h)
-  | inr failed ↦ find_none test xs (rw failed at e) i (omega arith)
+  | inr failed ↦ find_none test xs (rw failed at e) i d (omega arith)
 ]
 
 -- ---- its landed row
 
 -- the number columns are among the kept ones
-pub numbers_within : (job : Job) (header : Fields) → All (λ k. k < length (kept job.names header)) (number_places job header)
-numbers_within job header = filter_below (is_number_place job header (number_columns job)) 0 (length (kept job.names header)) (length (kept job.names header)) (omega arith)
+pub numbers_within : (job : Job) (header : Fields) → All (λ place. place.column < length (kept job.names header)) (number_places job header)
+numbers_within job header =
+    let columns = length (kept job.names header) in
+    All-map (λ (place : NumberPlace). place.column < columns) (number_place job header) (filter (is_number_place job header (number_columns job)) (range_with_len 0 columns))
+    (filter_below (is_number_place job header (number_columns job)) 0 columns columns (omega arith))
 
--- each number column of the row is a number
-numbers_kept : (places numbers : List ℕ) (first : List ℕ) (row : Fields) → All (λ k. k < length places) numbers → bad_place (map (λ k. get_or places k 0) numbers) row ≡ None
-    → (i : ℕ) → i < length numbers → is_number (get_or (first ∷ map (λ p. get_or row p []) places) (get_or numbers i 0 + 1) []) ≡ true
-numbers_kept places numbers first row within none i lt =
-    let k = get_or numbers i 0 in
-    let below : k < length places = within i 0 lt in
-    let there : i < length (map (λ k. get_or places k 0) numbers) = omega (arith, length-map numbers (λ k. get_or places k 0)) in
-    let head : get_or (map (λ k. get_or places k 0) numbers) i 0 ≡ get_or places k 0 = get_or-map (λ k. get_or places k 0) numbers i 0 0 lt in
-    let found = find_none (λ p. not (is_number (get_or row p []))) (map (λ k. get_or places k 0) numbers) none i there in
-    let field : get_or (map (λ p. get_or row p []) places) k [] ≡ get_or row (get_or places k 0) [] = get_or-map (λ p. get_or row p []) places k 0 [] below in
-    rw add-one (ap is_number field ∙ not_parts (is_number (get_or row (get_or places k 0) [])) (rw head at found))
+-- the field of each number column may stand there
+numbers_kept : (places : List ℕ) (numbers : List NumberPlace) (first : List ℕ) (row : Fields) → All (λ place. place.column < length places) numbers
+    → bad_place (map (head_at places) numbers) row ≡ None
+    → All (IsNumberAt (length places) (first ∷ map (λ p. get_or row p []) places)) numbers
+numbers_kept places numbers first row within none i d lt =
+    let place = get_or numbers i d in
+    let head = head_at places place in
+    let below : place.column < length places = within i d lt in
+    let there : i < length (map (head_at places) numbers) = omega (arith, length-map numbers (head_at places)) in
+    let at : get_or (map (head_at places) numbers) i d ≡ head = get_or-map (head_at places) numbers i d d lt in
+    let found = find_none (λ (h : NumberPlace). not (may_be h (get_or row h.column []))) (map (head_at places) numbers)
+    (none_mapped (λ (h : NumberPlace). h.column) (find (λ (h : NumberPlace). not (may_be h (get_or row h.column []))) (map (head_at places) numbers)) none) i d there in
+    let field : get_or (map (λ p. get_or row p []) places) place.column [] ≡ get_or row (get_or places place.column 0) [] = get_or-map (λ p. get_or row p []) places place.column 0 [] below in
+    (below, rw add-one (ap (may_be place) field ∙ not_parts (may_be head (get_or row head.column [])) (rw at at found)))
 
 -- landed rows of a form are of it, are short, and have few fields
 pub record IsKept (form : Form) (places : List ℕ) (n : ℕ) (row : Fields) : Type 0 where
@@ -137,7 +144,7 @@ pub record IsKept (form : Form) (places : List ℕ) (n : ℕ) (row : Fields) : T
   pub short : field_bytes (landed_row places n row) ≤ 65536
   pub few : length places ≤ 1024
 
-kept_by : (job : Job) (header : Fields) (form : Form) (places heads : List ℕ) (count max_rows n : ℕ) (row : Fields)
+kept_by : (job : Job) (header : Fields) (form : Form) (places : List ℕ) (heads : List NumberPlace) (count max_rows n : ℕ) (row : Fields)
     → form ≡ Landed (length (kept job.names header)) (number_places job header) → places ≡ kept job.names header → heads ≡ number_heads job header → count ≡ length header → length header ≤ 1024
     → Passes heads count max_rows n row → IsKept form places n row
 kept_by job header form places heads count max_rows n row form_is places_are heads_are count_is few p =
@@ -149,7 +156,7 @@ kept_by job header form places heads count max_rows n row form_is places_are hea
     let sum : sum_by length (map (λ q. get_or row q []) (filter test (range_with_len 0 (length header)))) ≤ sum_by length row =
     subst (λ (m : ℕ). sum_by length (map (λ q. get_or row q []) (filter test (range_with_len 0 m))) ≤ sum_by length row) same (kept_sum test row) in
     record {
-      has_form = rw (form_is, places_are) (omega (arith, several), refl, λ i lt. numbers_kept columns numbers (to_be_bytes w64 n) row (numbers_within job header) (rw heads_are at p.numbers) i lt);
+      has_form = rw (form_is, places_are) (omega (arith, several), refl, numbers_kept columns numbers (to_be_bytes w64 n) row (numbers_within job header) (rw heads_are at p.numbers));
       short = rw places_are (omega (arith, sum, p.bytes));
       few = rw places_are (omega (arith, filter_few test (length header), few));
     }

@@ -18,6 +18,7 @@ use Rattle.run_file.specs.declared.run.Run.{Run}
 use Rattle.row_form.specs.Forms.{HasForm, columns_of}
 use Rattle.run_file.specs.Runs.{CountsRows, Stands, greatest_cost}
 use Rattle.run_file.specs.Several.{KeepsFile, no_run, run_at, KeepsAll}
+use Rattle.row_form.specs.declared.number_list.NumberPlace.{NumberPlace}
 use Rattle.job_plan.specs.Columns.{Fields, kept, number_places}
 use Rattle.job_plan.specs.Entries.{field_bytes}
 use Rattle.job_plan.specs.Plans.{form_in}
@@ -88,16 +89,16 @@ landed_push files files' part_rows workers parts rows next run to before full so
 
 -- ---- the greatest row
 
-row_cost : (columns : ℕ) (numbers : List ℕ) (row : Fields) → HasForm (Landed columns numbers) row → field_bytes row ≤ 65536 → 24 + row_length row ≤ 36 + 4 * columns + 65536
+row_cost : (columns : ℕ) (numbers : List NumberPlace) (row : Fields) → HasForm (Landed columns numbers) row → field_bytes row ≤ 65536 → 24 + row_length row ≤ 36 + 4 * columns + 65536
 row_cost columns numbers [] form short = absurd (omega (arith, form.0))
 row_cost columns numbers (first ∷ fields) form short =
     omega (arith, form.0, form.1, row_total fields, sum_by-cons (λ (f : List ℕ). 4 + length f) first fields)
 
-cost_within : (columns : ℕ) (numbers : List ℕ) (rows : List Fields) → AllByRecursion (HasForm (Landed columns numbers)) rows → AllByRecursion (λ row. field_bytes row ≤ 65536) rows → greatest_cost rows ≤ 36 + 4 * columns + 65536
+cost_within : (columns : ℕ) (numbers : List NumberPlace) (rows : List Fields) → AllByRecursion (HasForm (Landed columns numbers)) rows → AllByRecursion (λ row. field_bytes row ≤ 65536) rows → greatest_cost rows ≤ 36 + 4 * columns + 65536
 cost_within columns numbers [] formed short = omega arith
 cost_within columns numbers (row ∷ rows) formed short = omega (arith, row_cost columns numbers row formed.0 short.0, cost_within columns numbers rows formed.1 short.1)
 
-run_short : (form : Form) (columns : ℕ) (numbers : List ℕ) (run : Run) (rows : List Fields) → form ≡ Landed columns numbers → CountsRows run rows → AreChecked form rows → run.greatest ≤ 36 + 4 * columns_of form + 65536
+run_short : (form : Form) (columns : ℕ) (numbers : List NumberPlace) (run : Run) (rows : List Fields) → form ≡ Landed columns numbers → CountsRows run rows → AreChecked form rows → run.greatest ≤ 36 + 4 * columns_of form + 65536
 run_short form columns numbers run rows is counts checked =
     let formed = subst (λ (f : Form). AllByRecursion (HasForm f) rows) is checked.formed in
     rw is (omega (arith, counts.greatest, cost_within columns numbers rows formed checked.short))

@@ -2,7 +2,8 @@
 -- This project's own.
 use Rattle.std.specs.Prelude.{ℕ, Bool, not, ◌+◌, ◌==◌, ◌||◌, List, [], ◌∷◌, Option, Some, None, length, map, option_map, slice_index_or, sum_by, if◌then◌else◌, nat_lt}
 use Rattle.std.specs.List.{find}
-use Rattle.row_form.specs.Numbers.{is_number}
+use Rattle.row_form.specs.Numbers.{may_be}
+use Rattle.row_form.specs.declared.number_list.NumberPlace.{NumberPlace}
 use Rattle.job_text.specs.declared.job.Job.{Job}
 use Rattle.job_plan.specs.Columns.{Fields, kept, missing, number_places}
 use Rattle.landing.specs.declared.fault.LandFault.{LandFault}
@@ -12,15 +13,20 @@ use Rattle.landing.specs.declared.fault.LandFault.TheVariants as fault
 abbrev pub is_too_long : Fields → Bool
 is_too_long fields = nat_lt 1024 (length fields) || nat_lt 65536 (sum_by length fields)
 
--- where the number columns stand in the header, ascending
-abbrev pub number_heads : Job → Fields → List ℕ
-number_heads job header = map (λ k. slice_index_or (kept job.names header) k 0) (number_places job header)
+-- a number column as it stands in the header, where the kept columns stand at these places
+abbrev pub head_at : List ℕ → NumberPlace → NumberPlace
+head_at places place = record place { column = slice_index_or places place.column 0 }
 
--- the first of these places at which a row has no number
-abbrev pub bad_place : List ℕ → Fields → Option ℕ
-bad_place places row = find (λ p. not (is_number (slice_index_or row p []))) places
+-- the number columns as they stand in the header, ascending
+abbrev pub number_heads : Job → Fields → List NumberPlace
+number_heads job header = map (head_at (kept job.names header)) (number_places job header)
 
--- why the row of this number is refused: too many rows, too long, not as many fields as the header, or no number
+-- the first of these places whose field may not stand there: it is no number, and not the empty field of a value column
+abbrev pub bad_place : List NumberPlace → Fields → Option ℕ
+bad_place heads row =
+    option_map (λ head. head.column) (find (λ head. not (may_be head (slice_index_or row head.column []))) heads)
+
+-- why the row of this number is refused: too many rows, too long, not as many fields as the header, or no number where one has to stand
 abbrev pub refusal_of : Job → Fields → ℕ → ℕ → Fields → Option LandFault
 refusal_of job header max_rows n row =
     if nat_lt max_rows n then Some fault.TooManyRows

@@ -2,6 +2,7 @@
 -- This project's own.
 use Rattle.std.specs.Prelude.{◌≡◌, ℕ, not, ◌+◌, ◌==◌, ◌≤◌, List, [], ◌∷◌, ◌++◌, Bool, Option, Some, None, length, option_map, nat_lt, if◌then◌else◌, ⊤}
 use Rattle.csv.specs.Records.{Row, fields_of}
+use Rattle.row_form.specs.declared.number_list.NumberPlace.{NumberPlace}
 use Rattle.job_text.specs.declared.job.Job.{Job}
 use Rattle.job_plan.specs.Columns.{Fields}
 use Rattle.job_plan.specs.Plans.{IsPlanOf, places_in}
@@ -12,7 +13,7 @@ use Rattle.landing.specs.declared.fault.LandFault.TheVariants as fault
 use Rattle.landing.specs.declared.rules.Rules.{Rules}
 
 -- why the row of this number is refused, by the places of the number columns, the header's fields and the most rows
-abbrev pub refusal_by : List ℕ → ℕ → ℕ → ℕ → Fields → Option LandFault
+abbrev pub refusal_by : List NumberPlace → ℕ → ℕ → ℕ → Fields → Option LandFault
 refusal_by heads count max_rows n row =
     if nat_lt max_rows n then Some fault.TooManyRows
     else (if is_too_long row then Some (fault.RowTooLong n)

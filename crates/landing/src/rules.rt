@@ -6,7 +6,7 @@ ghost use Rattle.row_page.specs.Spelling.{row_length};
 ghost use Rattle.job_text.specs.Jobs.{IsJob};
 ghost use Rattle.job_plan.specs.Columns.{Fields};
 ghost use Rattle.job_plan.specs.Rows.{AreBytes};
-ghost use Rattle.landing.specs.Checks.{Refused, bad_place, checked, is_too_long};
+ghost use Rattle.landing.specs.Checks.{Refused, bad_place, checked, head_at, is_too_long};
 ghost use Rattle.landing.specs.Explaining.{Explains, Never};
 ghost use Rattle.landing.specs.Headers.{IsOfHeader};
 ghost use Rattle.landing.specs.Ruling.{AreRules, IsRuled, refusal_in, row_in};
@@ -16,7 +16,7 @@ use crate::length::is_long;
 use csv::ByteRecord;
 use job_plan::{Plan, PlanFault, plan};
 use job_text::Job;
-use row_form::{Form, is_decimal};
+use row_form::{Form, NumberPlace};
 use row_page::RowBuf;
 use std::alloc::{AllocError, Global};
 
@@ -25,7 +25,7 @@ use std::alloc::{AllocError, Global};
 #[derive(Drop)]
 pub(crate) struct Rules {
     pub(crate) plan: Plan,
-    pub(crate) heads: Vec<u32>,
+    pub(crate) heads: Vec<NumberPlace>,
     pub(crate) count: usize,
     pub(crate) max_rows: u64,
 }
@@ -70,14 +70,21 @@ pub(crate) fn rules_of(
     })
 }
 
-/// The places of the number columns in the header, by those among the kept columns.
-fn heads_of(alloc: Global, places: &[u32], numbers: &[u32]) -> Result<Vec<u32>, AllocError>
-    requires { All (λ k. k < length places.now) numbers.now }
-    ensures { IfOk result (λ heads. heads.items ≡ map (λ k. slice_index_or places.now k 0) numbers.now) }
+/// The number columns as they stand in the header, by how they stand among the kept columns.
+fn heads_of(
+    alloc: Global,
+    places: &[u32],
+    numbers: &[NumberPlace],
+) -> Result<Vec<NumberPlace>, AllocError>
+    requires { All (λ place. place.column < length places.now) numbers.now }
+    ensures { IfOk result (λ heads. heads.items ≡ map (head_at places.now) numbers.now) }
 {
     let mut heads = Vec::new(alloc);
-    for k in numbers {
-        heads.push(places[*k as usize])?;
+    for place in numbers {
+        heads.push(NumberPlace {
+            column: places[place.column as usize],
+            value: place.value,
+        })?;
     }
     Ok(heads)
 }
@@ -92,13 +99,13 @@ fn field_of(row: &ByteRecord, place: u32) -> &[u8]
     }
 }
 
-/// The first of these places at which a record has no number.
-fn bad_head(heads: &[u32], row: &ByteRecord) -> Option<u32>
+/// The first of these places whose field in a record may not stand there.
+fn bad_head(heads: &[NumberPlace], row: &ByteRecord) -> Option<u32>
     ensures { result ≡ bad_place heads.now (fields_of row.now) }
 {
-    for place in heads {
-        if !is_decimal(field_of(row, *place)) {
-            return Some(*place);
+    for head in heads {
+        if !head.may_be(field_of(row, head.column)) {
+            return Some(head.column);
         }
     }
     None

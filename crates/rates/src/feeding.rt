@@ -1,7 +1,6 @@
 //! Entries that are fed to a consumer within a limit.
 
 ghost use Rattle.std.specs.Prelude.{◌≡◌, ◌≤◌, ◌^◌, [], List, ℕ, length, true, Some, IsSome, IfOk, OnOk};
-ghost use Rattle.aggregate.specs.Values.{IsValueOf};
 ghost use Rattle.row_page.specs.Pages.{empty_page};
 ghost use Rattle.consumer_trait.specs.States.{IsEntryBy, Rest, as_reset};
 
@@ -72,9 +71,9 @@ pub fn feed_one<C: Consumer>(
     Err(AllocError)
 }
 
-/// Feeds a new consumer so many drawn entries, each with a key of 8 to 12 bytes and a value of 32, and grants it at most
-/// `most` bytes: where that isn't enough it is spilled. Answers how many spills there were, the last one at the end, and
-/// how many rows they wrote.
+/// Feeds a new consumer so many drawn entries, each with a key of 8 to 12 bytes and a value of 34, that of a count and a sum,
+/// and grants it at most `most` bytes: where that isn't enough it is spilled. Answers how many spills there were, the last one
+/// at the end, and how many rows they wrote: none where the kind takes no such value.
 pub fn feed_all<C: Consumer>(
     alloc: Global,
     consumer: &mut C,
@@ -86,17 +85,21 @@ pub fn feed_all<C: Consumer>(
 ) -> Result<(u64, u64), AllocError>
     requires serves { (C.state consumer.old).serves kind.now ≡ true }
     requires fresh { C.state consumer.old ≡ as_reset (C.state consumer.old) }
-    requires width { (value : List ℕ) → length value ≡ 32 → IsValueOf kind.now value }
 {
-    let most = most.clamp(72, 1 << 40);
+    let most = most.clamp(74, 1 << 40);
+    // A count and a sum, each a 1 and a number. The sum is known only when the program runs, as a row's value is.
+    let mut value = [0; 34];
+    value[0] = 1;
+    value[17] = 1;
+    value[33] = (keys % 256) as u8;
+    if !kind.takes(&value) {
+        return Ok((0, 0));
+    }
     consumer.begin(kind)?;
     let mut page = Page::new(alloc, PAGE_ROOM);
     let mut drawn = Drawn::new();
     let mut spills = 1u64;
     let mut rows = 0u64;
-    let mut value = [0; 32];
-    // It is known only when the program runs, as a row's value is.
-    value[31] = (keys % 256) as u8;
     // Of its bytes the last ones are the number that was drawn: keys that are longer begin alike.
     let mut key = [0; 12];
     let first = 12 - key_bytes.clamp(8, 12);

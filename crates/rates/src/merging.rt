@@ -71,7 +71,9 @@ fn write_run(
     ensures page { IfOk result (λ _. page.new ≡ empty_page) }
     ensures disk { IfOk result (λ run. run.disk ≡ 0) }
 {
-    let value = [0; 32];
+    let mut value = [0; 34];
+    value[0] = 1;
+    value[17] = 1;
     for _entry in 0..entries {
         let key = drawn.key(keys);
         if feed_one(sorter, page, &key, &value, 1 << 40).is_err() {

@@ -1,14 +1,13 @@
--- The decimals of a value's numbers, one after the other.
+-- What is told of a value, aggregate by aggregate.
 use Rattle.std.proofs.Common.{◌≡◌, ◌+◌, ◌++◌, ◌∷◌, ◌∙◌, [], ℕ, List, map, ap, arith}
 use Rattle.std.proofs.lemmas.List.{map-append}
 use Rattle.std.proofs.lemmas.List.FromFn.{map-range_with_len_more}
-use Rattle.std.specs.Fmt.{signed_decimal}
-use Rattle.aggregate.specs.Partial.{number_at}
-use Rattle.job_plan.specs.Telling.{value_numbers}
+use Rattle.aggregate.specs.Partial.{partial_at}
+use Rattle.job_plan.specs.Telling.{told_field, value_partials}
 
--- the decimals of one number more
+-- the fields of one aggregate more
 pub decimals_more : (value : List ℕ) (place : ℕ)
-    → map signed_decimal (value_numbers (place + 1) value) ≡ map signed_decimal (value_numbers place value) ++ signed_decimal (number_at place value) ∷ []
+    → map told_field (value_partials (place + 1) value) ≡ map told_field (value_partials place value) ++ told_field (partial_at place value) ∷ []
 decimals_more value place =
-    ap (map signed_decimal) (map-range_with_len_more (λ k. number_at k value) 0 place place (omega arith))
-    ∙ map-append signed_decimal (value_numbers place value) (number_at place value ∷ [])
+    ap (map told_field) (map-range_with_len_more (λ k. partial_at k value) 0 place place (omega arith))
+    ∙ map-append told_field (value_partials place value) (partial_at place value ∷ [])

@@ -1,72 +1,69 @@
 -- The first entry with a number outside `i64`: entries before it are passed, whatever follows.
-use Rattle.std.proofs.Common.{◌≡◌, ◌<◌, ◌+◌, ℕ, ℤ, Bool, true, false, List, [], ◌∷◌, Option, Some, None, Ok, Err, length, sym, ap, ◌∙◌, arith, get_or, refl, subst}
-use Rattle.std.specs.Prelude.{is_some, not}
+use Rattle.std.proofs.Common.{◌≡◌, ◌<◌, ◌+◌, ℕ, ℤ, Bool, true, false, List, [], ◌∷◌, Option, Some, None, Ok, Err, length, sym, ap, ◌∙◌, arith, get_or, inl, inr, refl}
+use Rattle.std.specs.Prelude.{not}
 use Rattle.std.specs.List.{list_any}
-use Rattle.std.proofs.lemmas.Bool.{cond-true, cond-false}
-use Rattle.std.proofs.lemmas.Option.{same_Some}
+use Rattle.std.proofs.lemmas.Bool.{cases_Bool}
 use Rattle.std.proofs.lemmas.List.Folds.{list_any-append, list_any_at}
 use Rattle.std.proofs.lemmas.List.FromFn.{map-range_with_len_more, get_or-map-range_with_len, length-map-range_with_len}
-use Rattle.aggregate.specs.Partial.{fits_i64, narrowed, number_at}
+use Rattle.aggregate.specs.Partial.{finished_of, fits_i64, partial_at}
+use Rattle.aggregate.specs.declared.partial.Finished.TheVariants.{Missing, Number, Wide}
 use Rattle.aggregate.specs.Totals.{Entry}
 use Rattle.spill_disk.specs.Files.{Files}
 use Rattle.run_file.specs.Causes.{NotDamaged}
 use Rattle.run_file.specs.declared.run.RunFault.{RunFault}
 use Rattle.run_file.specs.declared.run.RunFault.TheVariants.{DiskFault, Damaged, NoMemory}
-use Rattle.job_plan.specs.Telling.{is_wide, value_numbers}
+use Rattle.job_plan.specs.Telling.{is_wide, leaves_i64, value_partials}
 use Rattle.run_file.specs.AtEntries.{entry_at}
 use Rattle.result_table.specs.Ahead.{AreAhead, GoesTo}
 use Rattle.result_table.specs.Results.{wide_key}
 use Rattle.run_file.specs.Readers.{ReaderView}
 
--- a number outside `i64`
-abbrev pub is_outside : ℤ → Bool
-is_outside number = not (fits_i64 number)
+-- ---- the partial values of a value, one after the other
 
--- ---- the numbers of a value, one after the other
-pub any_more : (value : List ℕ) (place : ℕ) → list_any is_outside (value_numbers place value) ≡ false → fits_i64 (number_at place value) ≡ true
-    → list_any is_outside (value_numbers (place + 1) value) ≡ false
-any_more value place none fits =
-    ap (list_any is_outside) (map-range_with_len_more (λ k. number_at k value) 0 place place (omega arith))
-    ∙ list_any-append is_outside (value_numbers place value) (number_at place value ∷ []) ∙ rw (none, fits) refl
+pub any_more : (value : List ℕ) (place : ℕ) → list_any leaves_i64 (value_partials place value) ≡ false → leaves_i64 (partial_at place value) ≡ false
+    → list_any leaves_i64 (value_partials (place + 1) value) ≡ false
+any_more value place none stays =
+    ap (list_any leaves_i64) (map-range_with_len_more (λ k. partial_at k value) 0 place place (omega arith))
+    ∙ list_any-append leaves_i64 (value_partials place value) (partial_at place value ∷ []) ∙ rw (none, stays) refl
 
-pub any_here : (value : List ℕ) (place count : ℕ) → place < count → fits_i64 (number_at place value) ≡ false
-    → list_any is_outside (value_numbers count value) ≡ true
-any_here value place count lt fits =
-    let read : get_or (value_numbers count value) place (number_at place value) ≡ number_at place value =
-    get_or-map-range_with_len (λ k. number_at k value) 0 count place place (number_at place value) lt (omega arith) in
-    let long : length (value_numbers count value) ≡ count = length-map-range_with_len (λ k. number_at k value) 0 count in
-    list_any_at is_outside (value_numbers count value) place (number_at place value) (omega (arith, long)) (rw (read, fits) refl)
+pub any_here : (value : List ℕ) (place count : ℕ) → place < count → leaves_i64 (partial_at place value) ≡ true
+    → list_any leaves_i64 (value_partials count value) ≡ true
+any_here value place count lt leaves =
+    let read : get_or (value_partials count value) place (partial_at place value) ≡ partial_at place value =
+    get_or-map-range_with_len (λ k. partial_at k value) 0 count place place (partial_at place value) lt (omega arith) in
+    let long : length (value_partials count value) ≡ count = length-map-range_with_len (λ k. partial_at k value) 0 count in
+    list_any_at leaves_i64 (value_partials count value) place (partial_at place value) (omega (arith, long)) (rw read leaves)
 
--- a number that isn't given is outside
-pub none_outside : (z : ℤ) (found : Option ℤ) → found ≡ narrowed z → not (is_some found) ≡ true → fits_i64 z ≡ false
-none_outside z found is none = by_fits (fits_i64 z) refl
-  where
-    by_fits : (fits : Bool) → fits_i64 z ≡ fits → fits_i64 z ≡ false
-    by_fits true e =
-        let some : found ≡ Some z = is ∙ cond-true (fits_i64 z) (Some z) None e in
-        let no : false ≡ true = subst (λ (o : Option ℤ). not (is_some o) ≡ true) some none in
-        absurd cc
-    by_fits false e = e
+-- ---- what is told of a partial value
 
-pub some_inside : (z : ℤ) (found : Option ℤ) → found ≡ narrowed z → not (is_some found) ≡ false → fits_i64 z ≡ true
-some_inside z found is some = by_fits (fits_i64 z) refl
-  where
-    by_fits : (fits : Bool) → fits_i64 z ≡ fits → fits_i64 z ≡ true
-    by_fits true e = e
-    by_fits false e =
-        let none : found ≡ None = is ∙ cond-false (fits_i64 z) (Some z) None e in
-        let no : true ≡ false = subst (λ (o : Option ℤ). not (is_some o) ≡ false) none some in
-        absurd cc
+pub not_false : (b : Bool) → not b ≡ false → b ≡ true
+not_false true is = refl
+not_false false is = absurd (cc is)
 
--- a number that is given is the one that stands there
-pub some_is : (z number : ℤ) (found : Option ℤ) → found ≡ narrowed z → found ≡ Some number → number ≡ z
-some_is z number found is some = by_fits (fits_i64 z) refl
-  where
-    by_fits : (fits : Bool) → fits_i64 z ≡ fits → number ≡ z
-    by_fits true e = same_Some number z (sym some ∙ is ∙ cond-true (fits_i64 z) (Some z) None e)
-    by_fits false e =
-        let no : Some number ≡ None = sym some ∙ is ∙ cond-false (fits_i64 z) (Some z) None e in
-        absurd cc
+pub not_true : (b : Bool) → not b ≡ true → b ≡ false
+not_true true is = absurd (cc is)
+not_true false is = refl
+
+pub told_missing : (partial : Option ℤ) → Missing ≡ finished_of partial → partial ≡ None
+told_missing None is = refl
+told_missing (Some z) is = elim (cases_Bool (fits_i64 z)) [
+  | inl fits ↦ absurd (let no = rw fits at is in cc no)
+  | inr leaves ↦ absurd (let no = rw leaves at is in cc no)
+]
+
+pub told_number : (n : ℤ) (partial : Option ℤ) → Number n ≡ finished_of partial → (partial ≡ Some n) × (leaves_i64 partial ≡ false)
+told_number n None is = absurd (cc is)
+told_number n (Some z) is = elim (cases_Bool (fits_i64 z)) [
+  | inl fits ↦ (let same = rw fits at is in (cc same, ap not fits))
+  | inr leaves ↦ absurd (let no = rw leaves at is in cc no)
+]
+
+pub told_wide : (partial : Option ℤ) → Wide ≡ finished_of partial → leaves_i64 partial ≡ true
+told_wide None is = absurd (cc is)
+told_wide (Some z) is = elim (cases_Bool (fits_i64 z)) [
+  | inl fits ↦ absurd (let no = rw fits at is in cc no)
+  | inr leaves ↦ ap not leaves
+]
 
 -- ---- entries that are passed
 passed : (count : ℕ) (entry : Entry) (entries : List Entry) → is_wide count entry ≡ false → wide_key count (entry ∷ entries) ≡ wide_key count entries

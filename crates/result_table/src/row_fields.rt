@@ -1,16 +1,16 @@
 // The fields of a row, put one behind the other into a text.
-ghost use Rattle.std.specs.Prelude.{◌≡◌, ◌<◌, ◌∷◌, [], List, ℕ, IfNone, IfOk, IfSome, OnOk, length, map, not, true, false};
+ghost use Rattle.std.specs.Prelude.{◌≡◌, ◌<◌, ◌∷◌, [], List, Option, ℕ, ℤ, IfNone, IfOk, IfSome, OnOk, length, map, not, true, false};
 ghost use Rattle.std.specs.Fmt.{signed_decimal};
 ghost use Rattle.std.specs.List.{list_any};
-ghost use Rattle.aggregate.specs.Partial.{fits_i64, number_at};
+ghost use Rattle.aggregate.specs.Partial.{finished_of};
 ghost use Rattle.aggregate.specs.Values.{IsValueOf};
 ghost use Rattle.aggregate.specs.declared.kind.Kind.TheVariants.{Group};
 ghost use Rattle.row_page.specs.Grammar.{ArePieces, HasPieces};
-ghost use Rattle.job_plan.specs.Telling.{key_fields, value_numbers};
+ghost use Rattle.job_plan.specs.Telling.{key_fields, leaves_i64, told_field, value_partials};
 ghost use Rattle.result_table.specs.Table.{EndsRow, IsInRow, PutsFields};
 ghost use Rattle.result_table.specs.Told.{IsSpelling};
 
-use aggregate::{AggList, finish, spellings_are_apart, take_field};
+use aggregate::{AggList, Finished, finish, spellings_are_apart, take_field};
 use csv::Writer;
 use itoa::Buffer;
 use row_page::split_piece;
@@ -84,7 +84,7 @@ pub(crate) fn put_key(
     Ok(at == key.len())
 }
 
-// Puts the decimals of a value's numbers, and says whether none of them is outside `i64`.
+// Puts what is told of a value, aggregate by aggregate, and says whether no number of it leaves `i64`.
 pub(crate) fn put_numbers(
     writer: &mut Writer<Vec<u8>>,
     aggs: &AggList,
@@ -92,35 +92,36 @@ pub(crate) fn put_numbers(
 ) -> Result<bool, AllocError>
     requires value { IsValueOf (Group aggs.now) value.now }
     ensures row { IfOk result (λ told. told ≡ true →
-        PutsFields writer.old writer.new (map signed_decimal (value_numbers (length aggs.now) value.now))) }
-    ensures narrow { IfOk result (λ told. told
-        ≡ not (list_any (λ number. not (fits_i64 number)) (value_numbers (length aggs.now) value.now))) }
+        PutsFields writer.old writer.new (map told_field (value_partials (length aggs.now) value.now))) }
+    ensures narrow { IfOk result (λ told. told ≡ not (list_any leaves_i64 (value_partials (length aggs.now) value.now))) }
 {
     for place in 0..aggs.items().len() {
-        if !put_number(writer, aggs, value, place)? {
+        if !put_told(writer, finish(aggs, value, place))? {
             return Ok(false);
         }
     }
     Ok(true)
 }
 
-// Puts the decimal of the number at a place, unless it is outside `i64`.
-fn put_number(
-    writer: &mut Writer<Vec<u8>>,
-    aggs: &AggList,
-    value: &[u8],
-    place: usize,
-) -> Result<bool, AllocError>
-    requires value { IsValueOf (Group aggs.now) value.now }
-    requires place { place < length aggs.now }
-    ensures narrow { IfOk result (λ told. told ≡ fits_i64 (number_at place value.now)) }
-    ensures row { IfOk result (λ told. told ≡ true →
-        PutsFields writer.old writer.new (signed_decimal (number_at place value.now) ∷ [])) }
+// Puts what is told of a partial value, and says whether it doesn't leave `i64`.
+fn put_told(writer: &mut Writer<Vec<u8>>, told: Finished) -> Result<bool, AllocError>
+    ensures narrow { IfOk result (λ done. (partial : Option ℤ) → told ≡ finished_of partial →
+        done ≡ not (leaves_i64 partial)) }
+    ensures row { IfOk result (λ done. (partial : Option ℤ) → told ≡ finished_of partial → done ≡ true →
+        PutsFields writer.old writer.new (told_field partial ∷ [])) }
 {
-    let Some(number) = finish(aggs, value, place) else {
-        return Ok(false);
-    };
-    let mut digits = Buffer::new();
-    put_field(writer, digits.format(number).as_bytes())?;
+    match told {
+        Finished::Missing => put_field(writer, &[])?,
+        Finished::Number(number) => put_number(writer, number)?,
+        Finished::Wide => return Ok(false),
+    }
     Ok(true)
+}
+
+// Puts the decimal of a number.
+fn put_number(writer: &mut Writer<Vec<u8>>, number: i64) -> Result<(), AllocError>
+    ensures { OnOk result (PutsFields writer.old writer.new (signed_decimal number ∷ [])) }
+{
+    let mut digits = Buffer::new();
+    put_field(writer, digits.format(number).as_bytes())
 }

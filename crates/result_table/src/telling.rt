@@ -1,12 +1,11 @@
 // The row that an entry tells, where it tells one.
 ghost use Rattle.std.specs.Prelude.{◌≡◌, ◌++◌, List, ℕ, IfOk, OnOk, length, map, true, false};
-ghost use Rattle.std.specs.Fmt.{signed_decimal};
 ghost use Rattle.aggregate.specs.declared.kind.Kind.TheVariants.{Group};
 ghost use Rattle.row_page.specs.Reading.{fields_of};
 ghost use Rattle.row_page.specs.Views.{fields_in};
 ghost use Rattle.row_form.specs.Forms.{IsValueOf};
 ghost use Rattle.job_plan.specs.Entries.{kind_of};
-ghost use Rattle.job_plan.specs.Telling.{IsGroupEntry, IsOrderEntry, IsTold, key_fields, row_of, value_numbers};
+ghost use Rattle.job_plan.specs.Telling.{IsGroupEntry, IsOrderEntry, IsTold, key_fields, row_of, told_field, value_partials};
 ghost use Rattle.result_table.specs.Table.{EndsRow, IsBetweenRows, text_in};
 
 use crate::row_fields::{end_row, put_key, put_numbers, put_pieces};
@@ -57,7 +56,8 @@ pub(crate) fn tell(
     }
 }
 
-// The same of a group's entry: the fields that its key spells, and the decimals of its numbers.
+// The same of a group's entry: the fields that its key spells, and what is told of its value.
+#[tactic(auto, using(aggregate::proofs::Tested::length_value))]
 fn tell_group(
     writer: &mut Writer<Vec<u8>>,
     columns: usize,
@@ -69,7 +69,7 @@ fn tell_group(
     requires between { IsBetweenRows writer.old }
     requires value { IsValueOf (Group aggs.now) value.now }
     ensures row { IfOk result (λ told. told ≡ true → EndsRow (text_in writer.old)
-        (key_fields columns key.now ++ map signed_decimal (value_numbers (length aggs.now) value.now)) writer.new) }
+        (key_fields columns key.now ++ map told_field (value_partials (length aggs.now) value.now)) writer.new) }
     ensures told { IfOk result (λ told. told ≡ true →
         IsGroupEntry columns (length aggs.now) (record { key = key.now; value = value.now })) }
     ensures untold { IfOk result (λ told. told ≡ false →

@@ -97,11 +97,19 @@ fn key_of(alloc: Global, fields: &str) -> Result<Vec<u8>, Fail> {
     Ok(key)
 }
 
+// A number, or none where there is a `-`.
+fn partial_of(number: &str) -> Result<Option<i128>, Fail> {
+    if number == "-" {
+        return Ok(None);
+    }
+    Ok(Some(number.parse()?))
+}
+
 // A group's value, of these numbers.
 fn value_of(alloc: Global, numbers: &str) -> Result<Vec<u8>, Fail> {
     let mut value = Vec::new(alloc);
     for number in numbers.split(' ') {
-        put_partial(&mut value, number.parse()?)?;
+        put_partial(&mut value, partial_of(number)?)?;
     }
     Ok(value)
 }
@@ -216,10 +224,11 @@ fn printed_groups(alloc: Global, groups_text: &str) -> Result<MemorySink, Fail> 
 
 #[test]
 fn a_group_is_told_by_its_fields_and_numbers(rt: HostRuntime) -> Result<(), Fail> {
-    let told = "||a\0=2 -277 -9223372036854775808 9223372036854775807/|a,b|Oslo=1 5 5 5";
+    let told =
+        "||a\0=2 -277 -9223372036854775808 9223372036854775807/|a,b|Oslo=1 5 5 5/|c|=3 - - -";
     let output = printed_groups(rt.alloc(), told)?;
     let wanted =
-        b"k,n\n,a\0,2,-277,-9223372036854775808,9223372036854775807\n\"a,b\",Oslo,1,5,5,5\n";
+        b"k,n\n,a\0,2,-277,-9223372036854775808,9223372036854775807\n\"a,b\",Oslo,1,5,5,5\nc,,3,,,\n";
     assert_eq!(rt; output.bytes(), wanted.as_slice());
     Ok(())
 }
@@ -250,9 +259,11 @@ fn is_damaged(alloc: Global, page: &Page, query: &Query) -> Result<bool, Fail>
     }
 }
 
-// Keys of one field, of three and of none, where there are two; sums past both ends of 64 bits.
+// Keys of one field, of three and of none, where there are two; sums past both ends of 64 bits, also beside missing
+// numbers; a missing count.
 const DAMAGED: &str = "|a|a=1 1 1 1/|b=1 1 1 1;|a|a=1 1 1 1/|b|c|d=1 1 1 1;|a|a=1 1 1 1/=1 1 1 1;\
-    |a|a=1 1 1 1/|b|b=1 9223372036854775808 1 1;|a|a=1 1 1 1/|b|b=1 -9223372036854775809 1 1";
+    |a|a=1 1 1 1/|b|b=1 9223372036854775808 1 1;|a|a=1 1 1 1/|b|b=1 -9223372036854775809 1 1;\
+    |a|a=1 1 1 1/|b|b=1 9223372036854775808 - -;|a|a=1 1 1 1/|b|b=- 1 1 1";
 
 #[test]
 fn an_entry_that_cannot_be_told_is_damaged(rt: HostRuntime) -> Result<(), Fail> {

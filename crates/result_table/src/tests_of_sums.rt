@@ -41,11 +41,19 @@ fn the_first_group_that_is_too_wide_is_found(rt: HostRuntime) -> Result<(), Fail
     let alloc = rt.alloc();
     let fits = wide_of(alloc, "|Bonn=1 9223372036854775807 1 1", 9)?;
     assert_eq!(rt; fits, Ok(None), "all fit");
+    let missing = wide_of(alloc, "|Bonn=1 - - -/|Oslo=1 1 - 1", 9)?;
+    assert_eq!(rt; missing, Ok(None), "what is missing fits");
     let oslo = b"\x4f\x73\x6c\x6f\0\0".to_vec(alloc)?;
     assert_eq!(rt;
         wide_of(alloc, WIDE, 9)?,
         Ok(Some(oslo)),
         "the second of three"
+    );
+    let rome = b"\x52\x6f\x6d\x65\0\0".to_vec(alloc)?;
+    assert_eq!(rt;
+        wide_of(alloc, "|Oslo=1 - 1 1/|Rome=2 9223372036854775808 - 1", 9)?,
+        Ok(Some(rome)),
+        "a wide sum beside what is missing"
     );
     let fault = RunFault::DiskFault { disk: 0 };
     assert_eq!(rt; wide_of(alloc, WIDE, 2)?, Err(fault));

@@ -1,19 +1,19 @@
 // Sums that are too wide to be printed.
-ghost use Rattle.std.specs.Prelude.{◌≡◌, ◌<◌, Err, IfOk, IfSome, List, None, OnErr, Some, length, not, option_map};
+ghost use Rattle.std.specs.Prelude.{◌≡◌, ◌<◌, Err, IfOk, IfSome, List, None, OnErr, Option, Some, ℤ, length, option_map};
 ghost use Rattle.std.specs.List.{list_any};
-ghost use Rattle.aggregate.specs.Partial.{fits_i64};
+ghost use Rattle.aggregate.specs.Partial.{finished_of};
 ghost use Rattle.aggregate.specs.Totals.{Entry};
 ghost use Rattle.aggregate.specs.Values.{IsValueOf};
 ghost use Rattle.aggregate.specs.declared.kind.Kind.TheVariants.{Group};
 ghost use Rattle.run_file.specs.Causes.{HasCauseOn, NotDamaged};
 ghost use Rattle.run_file.specs.Shelved.{LeavesFiles, faults_on, files_on};
 ghost use Rattle.run_file.specs.Whole.{TellsDamageOf};
-ghost use Rattle.job_plan.specs.Telling.{value_numbers};
+ghost use Rattle.job_plan.specs.Telling.{leaves_i64, value_partials};
 ghost use Rattle.result_table.specs.Ahead.{AreAhead, IsOfKind};
 ghost use Rattle.result_table.specs.Results.{HasCauseOfResult, HasResult, IsDamageOfResult, wide_key};
 
 use crate::entry_reader::EntryReader;
-use aggregate::{AggList, Key, Kind, finish};
+use aggregate::{AggList, Finished, Key, Kind, finish};
 use run_file::{Run, RunFault};
 use spill_disk::{Disk, Shelf};
 use std::alloc::Global;
@@ -95,12 +95,19 @@ fn copy_key(alloc: Global, bytes: &[u8]) -> Result<Option<Key>, RunFault>
 // Whether a value has a number outside `i64`.
 fn has_wide(aggs: &AggList, value: &[u8]) -> bool
     requires { IsValueOf (Group aggs.now) value.now }
-    ensures { result ≡ list_any (λ number. not (fits_i64 number)) (value_numbers (length aggs.now) value.now) }
+    ensures { result ≡ list_any leaves_i64 (value_partials (length aggs.now) value.now) }
 {
     for place in 0..aggs.items().len() {
-        if finish(aggs, value, place).is_none() {
+        if is_wide(finish(aggs, value, place)) {
             return true;
         }
     }
     false
+}
+
+// Whether what is told is that a number is outside `i64`.
+fn is_wide(told: Finished) -> bool
+    ensures { (partial : Option ℤ) → told ≡ finished_of partial → result ≡ leaves_i64 partial }
+{
+    matches!(told, Finished::Wide)
 }

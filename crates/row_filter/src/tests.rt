@@ -12,7 +12,7 @@ use crate::tests::checks::equals;
 use crate::{Chain, Comparison, Constant, Filter, Link};
 use item_lists::{Boxed, Listed, Name};
 use pool_ledger::Level;
-use row_form::{Form, NumberList};
+use row_form::{Form, NumberList, NumberPlace};
 use std::alloc::{AllocError, Global};
 use std::test::Fail;
 
@@ -60,7 +60,13 @@ fn chain(alloc: Global) -> Result<Chain, Fail>
     })?;
     let form = Form::Landed {
         columns: 2,
-        numbers: NumberList::of(alloc, &[1])?,
+        numbers: NumberList::of(
+            alloc,
+            &[NumberPlace {
+                column: 1,
+                value: false,
+            }],
+        )?,
     };
     Ok(Chain::of(Listed::of(links), form))
 }

@@ -1,5 +1,5 @@
 -- What `parse` reads, by the definition of numbers.
-use Rattle.std.proofs.Common.{◌≡◌, ◌<◌, ◌∷◌, [], ℕ, zero, suc, ◌^◌, List, None, Ok, Err, Bool, true, false, length, refl, sym, ◌∙◌, ◌≤◌, inl, inr, arith, ℤ, pos, negsuc, w64, nat_lt, get_or}
+use Rattle.std.proofs.Common.{◌≡◌, ◌<◌, ◌∷◌, [], ℕ, zero, suc, ◌^◌, List, Some, None, Ok, Err, Bool, true, false, length, refl, sym, subst, ◌∙◌, ◌≤◌, inl, inr, arith, ℤ, pos, negsuc, w64, nat_lt, get_or}
 use Rattle.std.specs.Prelude.{◌&&◌, ◌==◌, Result}
 use Rattle.std.specs.Result.{result_ok}
 use Rattle.std.specs.Char.{is_ascii_digit}
@@ -8,6 +8,7 @@ use Rattle.std.specs.Str.{all_ascii_digits, IsAscii, IsUtf8}
 use Rattle.std.specs.Str.Parse.{IsNumeral, ParsesSigned, digits_value, signed_digits_value, without_leading_sign}
 use Rattle.std.proofs.lemmas.Bool.{cases_Bool, ltb-true, lt-ltb, eqb-true}
 use Rattle.std.proofs.lemmas.Bool.Decides.{nat_tests}
+use Rattle.std.proofs.lemmas.Option.{same_Some}
 use Rattle.std.proofs.lemmas.Str.{IsUtf8-from_ascii}
 use Rattle.std.proofs.lemmas.Str.Parse.{IsNumeralModel, digits_value_short, numerals_by_value, tells_all_ascii_digits}
 use lib.IntN.{neg_ℤ}
@@ -117,4 +118,11 @@ short_fits bs some few = elim (cases_Bool (all_ascii_digits (without_leading_sig
   | inr not ↦
       let no : is_number bs ≡ true → ⊥ = λ e. let are = (and-parts (nat_lt 0 (length (without_leading_sign bs))) (all_ascii_digits (without_leading_sign bs)) (fits_i64 (signed_digits_value 10 bs)) e).1 in cc (not, are) in
       not ∙ sym (not-true (is_number bs) no)
+]
+
+-- what a field's number is has a place in 64 bits
+pub number_fits : (bs : List ℕ) (z : ℤ) → number bs ≡ Some z → FitsSigned w64 z
+number_fits bs z is = elim (cases_Bool (is_number bs)) [
+  | inl here ↦ subst (FitsSigned w64) (same_Some _ z (rw here at is)) (number-parts bs here).1
+  | inr past ↦ absurd (let none = rw past at is in cc none)
 ]

@@ -1,10 +1,11 @@
 -- Which rows a reader takes: entries of a query, or landed rows.
 -- This project's own.
-use Rattle.std.specs.Prelude.{◌≡◌, ℕ, ◌+◌, ◌≤◌, Bool, true, false, IsTrue, List, [], length, slice_index, slice_index_or, EachIndex}
+use Rattle.std.specs.Prelude.{◌≡◌, ℕ, ◌+◌, ◌<◌, ◌≤◌, Bool, true, false, IsTrue, List, [], length, slice_index_or, All}
 use Rattle.row_page.specs.Grammar.{ArePieces, IsRow}
 use Rattle.row_page.specs.Spelling.{row_length}
 pub use Rattle.aggregate.specs.Values.{IsValueOf}
-use Rattle.row_form.specs.Numbers.{is_number}
+use Rattle.row_form.specs.Numbers.{may_be}
+use Rattle.row_form.specs.declared.number_list.NumberPlace.{NumberPlace}
 use Rattle.row_form.specs.declared.form.Form.{Form}
 use Rattle.row_form.specs.declared.form.Form.TheVariants.{Entries, Landed}
 
@@ -18,15 +19,15 @@ abbrev pub columns_of : Form → ℕ
 columns_of (Landed columns numbers) = columns
 columns_of (Entries kind) = 0
 
--- the field of a kept column, behind the row's number, is a number
-abbrev pub IsNumberAt : List (List ℕ) → ℕ → Type 0
-IsNumberAt row place = IsTrue (is_number (slice_index_or row (place + 1) []))
+-- the place is one of the kept columns, and the field there, behind the row's number, may stand where numbers do
+abbrev pub IsNumberAt : ℕ → List (List ℕ) → NumberPlace → Type 0
+IsNumberAt columns row place = (place.column < columns) × IsTrue (may_be place (slice_index_or row (place.column + 1) []))
 
 -- the fields are those of the form: a key and a value, or a number of 8 bytes and the kept columns
 abbrev pub HasForm : Form → List (List ℕ) → Type 0
 HasForm (Entries kind) row = (length row ≡ 2) × IsValueOf kind (slice_index_or row 1 [])
 HasForm (Landed columns numbers) row =
-    (length row ≡ columns + 1) × (length (slice_index_or row 0 []) ≡ 8) × EachIndex numbers (λ k. IsNumberAt row (slice_index numbers k))
+    (length row ≡ columns + 1) × (length (slice_index_or row 0 []) ≡ 8) × All (IsNumberAt columns row) numbers
 
 -- the row is well formed for the form, and costs at most so much
 pub record IsWellFormed (form : Form) (greatest : ℕ) (row : List (List ℕ)) : Type 0 where

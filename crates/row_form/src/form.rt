@@ -1,14 +1,13 @@
 //! Which rows a reader takes.
 
-ghost use Rattle.std.specs.Prelude.{◌≡◌, ◌+◌, ◌<◌, ◌↔◌, [], length, slice_index, slice_index_or, EachIndex, IsTrue, IfOk};
+ghost use Rattle.std.specs.Prelude.{◌≡◌, ◌<◌, ◌↔◌, All, IsTrue, IfOk};
 ghost use Rattle.row_page.specs.Views.{fields_in};
 ghost use Rattle.aggregate.specs.Values.{IsValueOf};
 ghost use Rattle.row_form.specs.Forms.{IsFormed, IsOfForm, IsWellFormed};
 ghost use Rattle.row_form.specs.declared.form.Form.TheVariants.{Entries, Landed};
-ghost use Rattle.row_form.specs.Numbers.{is_number};
+ghost use Rattle.row_form.specs.Numbers.{may_be};
 
 use crate::NumberList;
-use crate::number::is_decimal;
 use aggregate::Kind;
 use row_page::{RowView, split_piece};
 use std::alloc::AllocError;
@@ -18,7 +17,7 @@ use std::alloc::AllocError;
 pub enum Form {
     /// Rows of two fields, key and value.
     Entries(Kind),
-    /// Landed rows: a number of 8 bytes and the kept columns, with numbers in the number columns.
+    /// Landed rows: a number of 8 bytes and the kept columns, with numbers in the number columns, or in value columns nothing.
     Landed { columns: u32, numbers: NumberList },
 }
 
@@ -96,15 +95,14 @@ fn is_landed(columns: u32, numbers: &NumberList, bytes: &[u8]) -> bool
     rest.is_empty() && are_below(numbers, columns)
 }
 
-/// Whether a field may stand in the column at this place: where numbers have to, it is one.
+/// Whether a field may stand in the column at this place: where numbers have to, one that may be there.
 #[inline(always)]
 fn may_stand(numbers: &NumberList, column: u32, field: &[u8]) -> bool
-    ensures { IsTrue result ↔ EachIndex numbers.now
-        (λ k. slice_index numbers.now k ≡ column → IsTrue (is_number field.now)) }
+    ensures { IsTrue result ↔ All (λ place. place.column ≡ column → IsTrue (may_be place field.now)) numbers.now }
 {
     for place in numbers.items() {
-        if *place == column {
-            return is_decimal(field);
+        if place.column == column && !place.may_be(field) {
+            return false;
         }
     }
     true
@@ -113,10 +111,10 @@ fn may_stand(numbers: &NumberList, column: u32, field: &[u8]) -> bool
 /// Whether there are more columns than any of these places.
 #[inline(always)]
 fn are_below(numbers: &NumberList, columns: u32) -> bool
-    ensures { IsTrue result ↔ EachIndex numbers.now (λ k. slice_index numbers.now k < columns) }
+    ensures { IsTrue result ↔ All (λ place. place.column < columns) numbers.now }
 {
     for place in numbers.items() {
-        if *place >= columns {
+        if place.column >= columns {
             return false;
         }
     }

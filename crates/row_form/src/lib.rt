@@ -7,4 +7,4 @@ mod number_list;
 
 pub use form::Form;
 pub use number::{is_decimal, parse_number};
-pub use number_list::NumberList;
+pub use number_list::{NumberList, NumberPlace};

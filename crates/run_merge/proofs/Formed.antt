@@ -1,14 +1,14 @@
 -- Rows of a key and a value are well formed where their parts are as long as those of one that is.
 use Rattle.std.proofs.Common.{◌≡◌, ℕ, zero, suc, ◌+◌, ◌<◌, ◌≤◌, Some, get_or, List, [], ◌∷◌, length, refl, sym, ap, subst, ◌∙◌, arith}
-use Rattle.std.specs.Coded.{Coded-set, coded_ℕ, le_prop}
+use Rattle.std.specs.Coded.{Coded-set, coded_bool, le_prop}
 use Rattle.std.proofs.Math.Logic.{∥∥₁_elim}
 use Rattle.std.proofs.lemmas.Option.{same_Some}
 use Rattle.std.proofs.lemmas.List.Sums.{sum_by-cons}
 use Rattle.aggregate.specs.declared.agg_list.Agg.{Agg}
 use Rattle.aggregate.specs.declared.kind.Kind.{Kind}
-use Rattle.aggregate.specs.declared.kind.Kind.TheVariants.{Group, Order}
+use Rattle.aggregate.specs.declared.kind.Kind.TheVariants.{Group}
 use Rattle.aggregate.specs.Rows.{entry_of}
-use Rattle.aggregate.specs.Values.{width}
+use Rattle.aggregate.specs.Values.{are_partials}
 use Rattle.row_page.specs.Spelling.{row_length}
 use Rattle.row_form.specs.declared.form.Form.TheVariants.{Entries}
 use Rattle.run_file.specs.Readers.{ReaderView, run_of}
@@ -18,15 +18,10 @@ use Rattle.run_file.specs.AtEntries.{entry_at, IsAtEntry}
 use Rattle.run_merge.specs.Heads.{IsLent, row_lent}
 use Rattle.run_file.proofs.Standing.{two_fields, value_is}
 
--- the value of a group's entry has its bytes
-pub value_size : (aggs : List Agg) (reader : ReaderView) → ∥ IsAtEntry (Group aggs) reader ∥₁ → length (entry_at reader).value ≡ width aggs
-value_size aggs reader t =
-    ∥∥₁_elim t (Coded-set coded_ℕ _ _) (λ h. ap length (sym (value_is (row_at reader) h.formed.has_form.0)) ∙ h.formed.has_form.1)
-
--- a value that is as long is one of the kind too
-value_alike : (kind : Kind) (reader : ReaderView) (value : List ℕ) → ∥ IsAtEntry kind reader ∥₁ → length value ≡ length (entry_at reader).value → IsValueOf kind value
-value_alike (Group aggs) reader value t same = same ∙ value_size aggs reader t
-value_alike Order reader value t same = tt
+-- the value of a group's entry is one of the group
+pub value_formed : (aggs : List Agg) (reader : ReaderView) → ∥ IsAtEntry (Group aggs) reader ∥₁ → IsValueOf (Group aggs) (entry_at reader).value
+value_formed aggs reader t =
+    ∥∥₁_elim t (Coded-set coded_bool _ _) (λ h. ap (are_partials aggs) (sym (value_is (row_at reader) h.formed.has_form.0)) ∙ h.formed.has_form.1)
 
 length_of_two : (key value : List ℕ) → row_length (key ∷ (value ∷ [])) ≡ 8 + length key + length value
 length_of_two key value =
@@ -38,12 +33,13 @@ length_of_row (key ∷ []) e = absurd (omega (arith, e))
 length_of_row (key ∷ value ∷ []) e = length_of_two key value
 length_of_row (key ∷ value ∷ field ∷ rest) e = absurd (omega (arith, e))
 
-pub formed_alike : (kind : Kind) (reader : ReaderView) (row : List (List ℕ)) (value : List ℕ) → ∥ IsAtEntry kind reader ∥₁ → length value ≡ length (entry_at reader).value → row ≡ (entry_at reader).key ∷ (value ∷ []) → IsWellFormed (Entries kind) (run_of reader).greatest row
-formed_alike kind reader row value t same row-is =
+-- a row of its key and a value of the kind that is as long is well formed too
+pub formed_alike : (kind : Kind) (reader : ReaderView) (row : List (List ℕ)) (value : List ℕ) → ∥ IsAtEntry kind reader ∥₁ → IsValueOf kind value → length value ≡ length (entry_at reader).value → row ≡ (entry_at reader).key ∷ (value ∷ []) → IsWellFormed (Entries kind) (run_of reader).greatest row
+formed_alike kind reader row value t formed same row-is =
     let cost : 24 + row_length (row_at reader) ≤ (run_of reader).greatest = ∥∥₁_elim t le_prop (λ h. h.formed.cost) in
     let whole : IsWellFormed (Entries kind) (run_of reader).greatest ((entry_at reader).key ∷ (value ∷ [])) =
     record {
-      has_form = (refl, value_alike kind reader value t same);
+      has_form = (refl, formed);
       cost = omega (arith, cost, same, length_of_two (entry_at reader).key value, length_of_row (row_at reader) (two_fields kind reader t));
     } in
     subst (IsWellFormed (Entries kind) (run_of reader).greatest) (sym row-is) whole

@@ -4,7 +4,7 @@ ghost use Rattle.std.specs.Prelude.{◌≡◌, ◌<◌, ◌+◌, ◌∷◌, [], 
 ghost use Rattle.aggregate.specs.declared.kind.Kind.TheVariants.{Group, Order};
 ghost use Rattle.aggregate.specs.Fronts.{front_of};
 ghost use Rattle.aggregate.specs.Totals.{Entry};
-ghost use Rattle.aggregate.specs.Values.{width};
+ghost use Rattle.aggregate.specs.Values.{IsValueOf};
 ghost use Rattle.spill_disk.specs.Files.{Files};
 ghost use Rattle.row_form.specs.declared.form.Form.TheVariants.{Entries};
 ghost use Rattle.row_form.specs.Forms.{IsWellFormed};
@@ -16,7 +16,7 @@ ghost use Rattle.run_merge.specs.Orders.{BeginsApart, IsOrder};
 
 use crate::order::has_key;
 use crate::queue::Queue;
-use aggregate::{AggList, combine, combine_is_associative};
+use aggregate::{AggList, combine, combine_is_associative, combined_values_stay_formed};
 use row_page::RowBuf;
 use run_file::RunReader;
 use std::alloc::AllocError;
@@ -133,7 +133,7 @@ fn join_others(
     requires stand { AreAtEntries (Group aggs.now) readers.now heads.old.items }
     requires fronts { AreFronts readers.now heads.old.items fronts.now }
     requires order { IsOrder readers.now heads.old.items order.old }
-    requires value { length value.old ≡ width aggs.now }
+    requires value { IsValueOf (Group aggs.now) value.old }
     ensures joins { (files : ℕ → Option Files) (entries : List Entry) →
         IsTaken files (Group aggs.now) readers.now heads.old.items
         (record { key = key.now; value = value.old }) entries →
@@ -141,6 +141,7 @@ fn join_others(
         (record { key = key.now; value = value.new }) entries }
     ensures apart { BeginsApart readers.now order.new key.now }
     ensures none { result ≡ false → value.new ≡ value.old }
+    ensures value { IsValueOf (Group aggs.now) value.new }
     ensures order { IsOrder readers.now heads.new.items order.new }
     ensures heads { OnlyFalls heads.old.items heads.new.items }
 {
@@ -168,7 +169,7 @@ fn join_next(
     requires stand { AreAtEntries (Group aggs.now) readers.now heads.old.items }
     requires fronts { AreFronts readers.now heads.old.items fronts.now }
     requires order { IsOrder readers.now heads.old.items order.old }
-    requires value { length value.old ≡ width aggs.now }
+    requires value { IsValueOf (Group aggs.now) value.old }
     ensures joins { (files : ℕ → Option Files) (entries : List Entry) →
         IsTaken files (Group aggs.now) readers.now heads.old.items
         (record { key = key.now; value = value.old }) entries →
@@ -176,11 +177,13 @@ fn join_next(
         (record { key = key.now; value = value.new }) entries }
     ensures apart { result ≡ false → BeginsApart readers.now order.new key.now }
     ensures none { result ≡ false → value.new ≡ value.old }
+    ensures value { IsValueOf (Group aggs.now) value.new }
     ensures fewer { result ≡ true → length order.new < length order.old }
     ensures order { IsOrder readers.now heads.new.items order.new }
     ensures heads { OnlyFalls heads.old.items heads.new.items }
 {
     combine_is_associative();
+    combined_values_stay_formed();
     if order.is_empty() {
         return false;
     }

@@ -35,9 +35,13 @@ runs_in runs = sum_by length runs
 abbrev pub spilled_at : List (List Entry) → ℕ → List Entry
 spilled_at spilled i = slice_index_or spilled i []
 
--- the greatest cost of an entry in a run's file, in bytes: 24, and the row's two lengths, its key and its value
+-- the most that an entry of a task costs in a run's file, in bytes: 24, and the row's two lengths, its key and its value
+abbrev pub most_entry_cost : ℕ
+most_entry_cost = 196752
+
+-- a run of a task: it is on the task's one disk, and no entry of it costs more
 abbrev pub IsTaskRun : Run → Type 0
-IsTaskRun run = (run.disk ≡ 0) × (run.greatest ≤ 196752)
+IsTaskRun run = (run.disk ≡ 0) × (run.greatest ≤ most_entry_cost)
 
 -- all runs are so
 abbrev pub AreTaskRuns : List (List Run) → Type 0

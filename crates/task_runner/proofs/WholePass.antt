@@ -10,7 +10,7 @@ use Rattle.run_file.specs.declared.run.Run.{Run}
 use Rattle.run_file.specs.Several.{IsFileAmong, KeepsFile, run_at as run_in}
 use Rattle.memory_core.specs.Caches.{RowsByName}
 use Rattle.task_memory.specs.Disks.{KeepsFiles, SameAt}
-use Rattle.task_memory.specs.RunLists.{runs_at}
+use Rattle.task_memory.specs.RunLists.{runs_at, most_entry_cost}
 use Rattle.run_file.specs.Shelved.{IsNotThere}
 use Rattle.task_memory.proofs.Places.{less_or_not}
 use Rattle.task_memory.proofs.Sameness.{same_at_self}
@@ -39,7 +39,7 @@ all_of P [] all k d below = absurd (omega (arith, below))
 all_of P (x ∷ xs) all zero d below = all.0
 all_of P (x ∷ xs) all (suc k) d below = all_of P xs all.1 k d (omega (arith, below))
 
-made_small : (before : Option Files) (answer : Option Run) → IfSome answer (IsMade before) → IfSome answer (λ run. run.greatest ≤ 196752)
+made_small : (before : Option Files) (answer : Option Run) → IfSome answer (IsMade before) → IfSome answer (λ run. run.greatest ≤ most_entry_cost)
 made_small before None made = tt
 made_small before (Some run) made = made.bounded
 
@@ -119,13 +119,13 @@ module _ {D C : Type 0} (state : C → State) (files : D → Option Files) (work
         (λ i query. all_of (λ run. run.disk < workers) (gathered n i all workers (parts_of pass)) (gathered_on n i all workers (parts_of pass) some)) (λ i. none_all (λ run. run.disk < workers))
 
     -- no row of theirs costs more than a merge can count on
-    pub all_small : AllOfLists (λ run. run.greatest ≤ 196752) lists
-    all_small = by_list (λ i runs. All (λ run. run.greatest ≤ 196752) runs)
-        (λ i query. all_of (λ run. run.greatest ≤ 196752) (gathered n i all workers (parts_of pass)) (gathered_small 196752 n i all workers (parts_of pass)
+    pub all_small : AllOfLists (λ run. run.greatest ≤ most_entry_cost) lists
+    all_small = by_list (λ i runs. All (λ run. run.greatest ≤ most_entry_cost) runs)
+        (λ i query. all_of (λ run. run.greatest ≤ most_entry_cost) (gathered n i all workers (parts_of pass)) (gathered_small most_entry_cost n i all workers (parts_of pass)
         (λ part below.
         let known : part % workers < workers = mod-lt part (omega (arith, some)) in
         made_small (before (part % workers)) (answer_for n i all workers part) ((done.each (part % workers) any known).made (answer_place n (part / workers) i)))))
-        (λ i. none_all (λ run. run.greatest ≤ 196752))
+        (λ i. none_all (λ run. run.greatest ≤ most_entry_cost))
 
     -- the file of each wasn't there before
     pub all_new : AllOfLists (λ run. IsNotThere (before run.disk) run.file) lists

@@ -1,14 +1,15 @@
 -- The text of a trial is read as its rows, and the job's checks pass them.
 use Rattle.std.proofs.Common.{◌≡◌, ℕ, ◌+◌, ◌≤◌, ◌∙◌, Bool, true, false, List, [], ◌∷◌, ◌++◌, length, map, codes, Option, None, Some, refl, sym, ap, arith, inl, inr}
-use Rattle.std.specs.Prelude.{not, cond, if◌then◌else◌, nat_lt, option_map, pos}
+use Rattle.std.specs.Prelude.{◌||◌, not, cond, if◌then◌else◌, nat_lt, option_map, pos}
 use Rattle.std.specs.Fmt.{signed_decimal}
-use Rattle.std.specs.List.{AllByRecursion, flat_map}
+use Rattle.std.specs.List.{AllByRecursion, filter, flat_map, range_with_len}
 use Rattle.std.proofs.lemmas.Bool.{cases_Bool, ltb-true}
 use Rattle.std.proofs.lemmas.List.{append-nil}
 use Rattle.std.proofs.lemmas.List.FromFn.{length-map-range_with_len}
 use Rattle.csv.specs.Reading.{default_config, records}
 use Rattle.csv.specs.Writing.{fields_text, is_blank}
-use Rattle.row_form.specs.Numbers.{is_number}
+use Rattle.row_form.specs.Numbers.{may_be}
+use Rattle.row_form.specs.declared.number_list.NumberPlace.{NumberPlace}
 use Rattle.row_filter.specs.declared.filter.Comparison.{Comparison}
 use Rattle.row_filter.specs.declared.filter.Comparison.TheVariants.{AtLeast}
 use Rattle.row_filter.specs.declared.filter.Constant.{Constant}
@@ -17,9 +18,9 @@ use Rattle.row_filter.specs.declared.filter.Filter.TheFolds.{fold-roll-Filter}
 use Rattle.row_filter.specs.declared.filter.Filter.TheOpen as layers
 use Rattle.row_filter.specs.declared.filter.Filter.TheVariants as filters
 use Rattle.row_filter.specs.declared.filter.Filter.TheVariants.{rolls-Test}
-use Rattle.job_plan.specs.Columns.{filter_numbers, filter_numbers_step, test_numbers}
+use Rattle.job_plan.specs.Columns.{filter_numbers, filter_numbers_step, is_number_place, kept, strict_columns, test_numbers, told_columns}
 use Rattle.byte_io.specs.Rows.{rows_of}
-use Rattle.landing.specs.Checks.{bad_place, checked, checked_rows, first_of_two, first_refusal, is_too_long, number_heads, refusal_of}
+use Rattle.landing.specs.Checks.{bad_place, checked, checked_rows, first_of_two, first_refusal, head_at, is_too_long, number_heads, refusal_of}
 use Rattle.landing.specs.declared.fault.LandFault.{LandFault}
 use Rattle.landing.specs.declared.fault.LandFault.TheVariants as fault
 use Rattle.trial_input.specs.FixedJob.{price, trial_job}
@@ -44,13 +45,26 @@ rows-read numbers =
     ∙ tables_read ((heading ∷ map row_of numbers) ∷ []) ((tt, have-fields numbers), tt)
     ∙ append-nil (heading ∷ map row_of numbers)
 
--- ---- the number column is the price, which stands second
+-- ---- the number column is the price, which stands second and is no value column
 
 numbers-test : (column : ℕ) (test : Comparison) (constant : Constant) → filter_numbers (filters.Test column test constant) ≡ test_numbers column constant
 numbers-test column test constant = ap filter_numbers (sym (rolls-Test column test constant)) ∙ fold-roll-Filter (List ℕ) filter_numbers_step (layers.Test column test constant)
 
-heads : number_heads trial_job heading ≡ 1 ∷ []
-heads = rw (numbers-test price AtLeast (Number (pos 0)), numbers-test price AtLeast (Number (pos 500))) refl
+abbrev price_head : NumberPlace
+price_head = record { column = 1; value = false }
+
+-- the number column at a place, where only a number may stand in these columns
+abbrev place_among : List ℕ → ℕ → NumberPlace
+place_among columns k = record { column = k; value = not (is_number_place trial_job heading columns k) }
+
+-- two datasets compare prices with a number, and a query orders by them
+strict : strict_columns trial_job ≡ price ∷ price ∷ price ∷ []
+strict = rw (numbers-test price AtLeast (Number (pos 0)), numbers-test price AtLeast (Number (pos 500))) refl
+
+heads : number_heads trial_job heading ≡ price_head ∷ []
+heads =
+    ap (λ (columns : List ℕ). map (head_at (kept trial_job.names heading)) (map (place_among columns) (filter (is_number_place trial_job heading (columns ++ told_columns trial_job)) (range_with_len 0 (length (kept trial_job.names heading))))))
+    strict
 
 -- ---- no row is refused
 
@@ -67,16 +81,16 @@ row-short : (number : ℕ) → is_too_long (row_of number) ≡ false
 row-short number = short-passes (length (key_of number)) (length (signed_decimal (price_of number))) (key-within number) (price-within number)
 
 -- neither is it one too many, nor too long, nor without a number
-none_of : (many long bad : Bool) (why also : LandFault) (n : ℕ) → many ≡ false → long ≡ false → bad ≡ true
-    → (if many then Some why else (if long then Some also else option_map (fault.BadNumber n) (cond (not bad) (Some 1) None))) ≡ None
-none_of many long bad why also n e f g = rw (e, f, g) refl
+none_of : (many long good : Bool) (why also : LandFault) (n : ℕ) → many ≡ false → long ≡ false → good ≡ true
+    → (if many then Some why else (if long then Some also else option_map (fault.BadNumber n) (option_map (λ (head : NumberPlace). head.column) (cond (not good) (Some price_head) None)))) ≡ None
+none_of many long good why also n e f g = rw (e, f, g) refl
 
 row-passes : (number max_rows n : ℕ) → n ≤ max_rows → refusal_of trial_job heading max_rows n (row_of number) ≡ None
 row-passes number max_rows n few =
-    ap (λ (places : List ℕ). if nat_lt max_rows n then Some fault.TooManyRows else (if is_too_long (row_of number) then Some (fault.RowTooLong n)
+    ap (λ (places : List NumberPlace). if nat_lt max_rows n then Some fault.TooManyRows else (if is_too_long (row_of number) then Some (fault.RowTooLong n)
     else option_map (fault.BadNumber n) (bad_place places (row_of number)))) heads
-    ∙ none_of (nat_lt max_rows n) (is_too_long (row_of number)) (is_number (signed_decimal (price_of number))) fault.TooManyRows (fault.RowTooLong n) n
-    (within-passes max_rows n few) (row-short number) (price-spelled number).is
+    ∙ none_of (nat_lt max_rows n) (is_too_long (row_of number)) (may_be price_head (signed_decimal (price_of number))) fault.TooManyRows (fault.RowTooLong n) n
+    (within-passes max_rows n few) (row-short number) (ap (λ (is : Bool). is || false) (price-spelled number).is)
 
 rows-pass : (numbers : List ℕ) (max_rows n : ℕ) → n + length numbers ≤ max_rows + 1 → first_refusal trial_job heading max_rows n (map row_of numbers) ≡ None
 unfolding first_refusal

@@ -1,5 +1,5 @@
 -- What the job of a trial tells of its groups is never too wide.
-use Rattle.std.proofs.Common.{◌≡◌, ℕ, ◌+◌, ◌*◌, ◌≤◌, ◌∙◌, Bool, true, false, List, [], ◌∷◌, length, map, Option, None, ℤ, pos, unsigned_abs, unwrap_or, refl, sym, ap, subst, arith, inl, inr}
+use Rattle.std.proofs.Common.{◌≡◌, ℕ, ◌+◌, ◌*◌, ◌≤◌, ◌∙◌, Bool, false, List, [], ◌∷◌, length, map, IfSome, Option, Some, None, ℤ, unsigned_abs, unwrap_or, refl, sym, ap, subst, arith, inl, inr}
 use Rattle.std.specs.Prelude.{◌+ℤ◌, not, option_map}
 use Rattle.std.specs.Option.{option_or}
 use Rattle.aggregate.specs.Spelling.{spelled}
@@ -13,13 +13,15 @@ use Rattle.std.proofs.lemmas.List.FromFn.{length-map-range_with_len}
 use Rattle.std.proofs.lemmas.List.Sums.{count_by-le-length, length-filter}
 use Rattle.aggregate.specs.declared.agg_list.Agg.{Agg}
 use Rattle.aggregate.specs.declared.agg_list.Agg.TheVariants.{Count, Sum, Min, Max}
-use Rattle.row_form.specs.Numbers.{fits_i64}
+use Rattle.aggregate.specs.Partial.{present}
 use Rattle.job_text.specs.declared.job.Part.{Part}
 use Rattle.job_text.specs.declared.job.Query.{Query}
 use Rattle.job_plan.specs.Columns.{Fields}
-use Rattle.job_answer.specs.Answer.{aggregated, greatest, group_of, groups, least, members, number_of, told_of}
+use Rattle.job_plan.specs.Telling.{leaves_i64}
+use Rattle.job_answer.specs.Answer.{aggregated, greatest, group_of, groups, least, members, summed, told_of, value_at}
 use Rattle.job_answer.specs.Derived.{derived, is_in}
 use Rattle.job_answer.specs.Output.{shape_wide, wide_from, wide_key}
+use Rattle.job_answer.proofs.Aggregates.{present-few}
 use Rattle.job_answer.proofs.Classes.{Class, classes, entries-classes}
 use Rattle.trial_input.specs.FixedJob.{counts, key, of_price, price, trial_job}
 use Rattle.trial_input.specs.Generator.{heading, number_of_row, numbers_of, price_of, row_of, trial_rows}
@@ -52,30 +54,55 @@ max-small (n ∷ ns) start small all =
     let first : unsigned_abs n ≤ 1000 = all.0 in
     max-small ns (int_max start n) (omega (arith, ints, clamps)) all.1
 
-least-small : (ns : List ℤ) → AllByRecursion IsSmall ns → IsSmall (least ns)
-least-small [] all = omega (arith, ints)
-least-small (n ∷ ns) all = min-small ns n all.0 all.1
+-- no farther from zero than so many of them can take it
+abbrev IsNear : ℕ → ℤ → Type 0
+IsNear count z = unsigned_abs z ≤ 1000 + 1000 * count
 
-greatest-small : (ns : List ℤ) → AllByRecursion IsSmall ns → IsSmall (greatest ns)
-greatest-small [] all = omega (arith, ints)
-greatest-small (n ∷ ns) all = max-small ns n all.0 all.1
+summed-near : (ns : List ℤ) (count : ℕ) → length ns ≤ count → AllByRecursion IsSmall ns → IfSome (summed ns) (IsNear count)
+summed-near [] count few all = tt
+summed-near (n ∷ ns) count few all = let first : unsigned_abs n ≤ 1000 = all.0 in omega (arith, sum-small ns n all.1)
 
-aggregated-small : (agg : Agg) (ns : List ℤ) → AllByRecursion IsSmall ns → unsigned_abs (aggregated agg ns) ≤ 1000 + 1000 * length ns
-aggregated-small Count ns all = omega (arith, ints)
-aggregated-small Sum ns all = omega (arith, ints, sum-small ns (pos 0) all)
-aggregated-small Min ns all = omega (arith, least-small ns all)
-aggregated-small Max ns all = omega (arith, greatest-small ns all)
+least-near : (ns : List ℤ) (count : ℕ) → AllByRecursion IsSmall ns → IfSome (least ns) (IsNear count)
+least-near [] count all = tt
+least-near (n ∷ ns) count all = omega (arith, min-small ns n all.0 all.1)
+
+greatest-near : (ns : List ℤ) (count : ℕ) → AllByRecursion IsSmall ns → IfSome (greatest ns) (IsNear count)
+greatest-near [] count all = tt
+greatest-near (n ∷ ns) count all = omega (arith, max-small ns n all.0 all.1)
+
+-- ---- lists of values, of which each is missing or such a number
+
+abbrev IsSmallValue : Option ℤ → Type 0
+IsSmallValue o = IfSome o IsSmall
+
+present-small : (os : List (Option ℤ)) → AllByRecursion IsSmallValue os → AllByRecursion IsSmall (present os)
+present-small [] all = tt
+present-small (None ∷ os) all = present-small os all.1
+present-small (Some n ∷ os) all = (all.0, present-small os all.1)
+
+aggregated-near : (agg : Agg) (os : List (Option ℤ)) → AllByRecursion IsSmallValue os → IfSome (aggregated agg os) (IsNear (length os))
+aggregated-near Count os all = omega (arith, ints)
+aggregated-near Sum os all = summed-near (present os) (length os) (present-few os) (present-small os all)
+aggregated-near Min os all = least-near (present os) (length os) (present-small os all)
+aggregated-near Max os all = greatest-near (present os) (length os) (present-small os all)
+
+-- what is near stays within `i64`
+near-stays : (o : Option ℤ) (count : ℕ) → count ≤ 1000000 → IfSome o (IsNear count) → leaves_i64 o ≡ false
+near-stays None count few near = refl
+near-stays (Some z) count few near =
+    let close : unsigned_abs z ≤ 1000 + 1000 * count = near in
+    ap not (small-fits z (omega arith))
 
 -- ---- the prices of rows
 
 -- the price of a row
-abbrev number_in : Fields → ℤ
-number_in row = number_of trial_job heading row price
+abbrev value_in : Fields → Option ℤ
+value_in row = value_at trial_job heading row price
 
-prices-small : (numbers : List ℕ) → AllByRecursion (λ row. IsSmall (number_in row)) (map row_of numbers)
+prices-small : (numbers : List ℕ) → AllByRecursion (λ row. IsSmallValue (value_in row)) (map row_of numbers)
 prices-small [] = tt
 prices-small (number ∷ numbers) =
-    let known : number_in (row_of number) ≡ price_of number = ap (λ (o : Option ℤ). unwrap_or o (pos 0)) (price-spelled number).number in
+    let known : value_in (row_of number) ≡ Some (price_of number) = (price-spelled number).number in
     (rw known (price-small number), prices-small numbers)
 
 kept-small : (P : Fields → Type 0) (test : Fields → Bool) (rows : List Fields) → AllByRecursion P rows → AllByRecursion P (filter test rows)
@@ -85,7 +112,7 @@ kept-small P test (row ∷ rows) all = elim (cases_Bool (test row)) [
   | inr left ↦ rw left (kept-small P test rows all.1)
 ]
 
-map-small : (rows : List Fields) → AllByRecursion (λ row. IsSmall (number_in row)) rows → AllByRecursion IsSmall (map number_in rows)
+map-small : (rows : List Fields) → AllByRecursion (λ row. IsSmallValue (value_in row)) rows → AllByRecursion IsSmallValue (map value_in rows)
 map-small [] all = tt
 map-small (row ∷ rows) all = (all.0, map-small rows all.1)
 
@@ -95,53 +122,53 @@ kept-few test rows = omega (arith, length-filter test rows, count_by-le-length t
 -- ---- what is told of a group
 
 abbrev AreFew : List Fields → Type 0
-AreFew rows = (length rows ≤ 1000000) × AllByRecursion (λ row. IsSmall (number_in row)) rows
+AreFew rows = (length rows ≤ 1000000) × AllByRecursion (λ row. IsSmallValue (value_in row)) rows
 
 kept-few_small : (test : Fields → Bool) (rows : List Fields) → AreFew rows → AreFew (filter test rows)
-kept-few_small test rows few = (omega (arith, kept-few test rows, few.0), kept-small (λ row. IsSmall (number_in row)) test rows few.1)
+kept-few_small test rows few = (omega (arith, kept-few test rows, few.0), kept-small (λ row. IsSmallValue (value_in row)) test rows few.1)
 
 -- the part is the count, or of the price
 abbrev IsOfPrice : Part → Type 0
 IsOfPrice part = unwrap_or part.column 0 ≡ price
 
-told-fits : (part : Part) (rows : List Fields) → IsOfPrice part → AreFew rows → fits_i64 (told_of trial_job heading rows part) ≡ true
-told-fits part rows of few =
-    let ns = map number_in rows in
-    let small = aggregated-small part.agg ns (map-small rows few.1) in
-    let size : length ns ≡ length rows = length-map rows number_in in
-    let fits : fits_i64 (aggregated part.agg ns) ≡ true = small-fits (aggregated part.agg ns) (omega (arith, small, size, few.0)) in
-    subst (λ (column : ℕ). fits_i64 (aggregated part.agg (map (λ row. number_of trial_job heading row column) rows)) ≡ true) (sym of) fits
+told-stays : (part : Part) (rows : List Fields) → IsOfPrice part → AreFew rows → leaves_i64 (told_of trial_job heading rows part) ≡ false
+told-stays part rows of few =
+    let os = map value_in rows in
+    let size : length os ≡ length rows = length-map rows value_in in
+    let stays : leaves_i64 (aggregated part.agg os) ≡ false =
+    near-stays (aggregated part.agg os) (length os) (omega (arith, size, few.0)) (aggregated-near part.agg os (map-small rows few.1)) in
+    subst (λ (column : ℕ). leaves_i64 (aggregated part.agg (map (λ row. value_at trial_job heading row column) rows)) ≡ false) (sym of) stays
 
-tells-fit : (parts : List Part) (rows : List Fields) → AllByRecursion IsOfPrice parts → AreFew rows
-    → list_any (λ number. not (fits_i64 number)) (map (told_of trial_job heading rows) parts) ≡ false
-tells-fit [] rows of few = refl
-tells-fit (part ∷ parts) rows of few = rw (told-fits part rows of.0 few) (tells-fit parts rows of.1 few)
+tells-stay : (parts : List Part) (rows : List Fields) → AllByRecursion IsOfPrice parts → AreFew rows
+    → list_any leaves_i64 (map (told_of trial_job heading rows) parts) ≡ false
+tells-stay [] rows of few = refl
+tells-stay (part ∷ parts) rows of few = rw (told-stays part rows of.0 few) (tells-stay parts rows of.1 few)
 
 -- ---- groups
 
 abbrev Told : Type 0
-Told = Fields × List ℤ
+Told = Fields × List (Option ℤ)
 
 module _ (parts : List Part) (rows : List Fields) where
   abbrev pub by_key : Fields → Fields
   by_key = group_of trial_job heading (key ∷ [])
 
   -- what is told of a group
-  abbrev pub tell : Fields → List ℤ
+  abbrev pub tell : Fields → List (Option ℤ)
   tell group = map (told_of trial_job heading (members trial_job heading (key ∷ []) rows group)) parts
 
   pub groups-are : groups trial_job heading (key ∷ []) parts rows ≡ map (λ c. (c.group, tell c.group)) (classes by_key rows)
   groups-are = entries-classes by_key tell rows
 
   none-wide : (cs : List Class) → AllByRecursion IsOfPrice parts → AreFew rows
-      → find (λ (group : Told). list_any (λ number. not (fits_i64 number)) group.1) (map (λ c. (c.group, tell c.group)) cs) ≡ None
+      → find (λ (group : Told). list_any leaves_i64 group.1) (map (λ c. (c.group, tell c.group)) cs) ≡ None
   none-wide [] of few = refl
   none-wide (c ∷ cs) of few =
-      rw (tells-fit parts (members trial_job heading (key ∷ []) rows c.group) of (kept-few_small _ rows few)) (none-wide cs of few)
+      rw (tells-stay parts (members trial_job heading (key ∷ []) rows c.group) of (kept-few_small _ rows few)) (none-wide cs of few)
 
   groups-fit : AllByRecursion IsOfPrice parts → AreFew rows
-      → find (λ (group : Told). list_any (λ number. not (fits_i64 number)) group.1) (groups trial_job heading (key ∷ []) parts rows) ≡ None
-  groups-fit of few = ap (find (λ (group : Told). list_any (λ number. not (fits_i64 number)) group.1)) groups-are ∙ none-wide (classes by_key rows) of few
+      → find (λ (group : Told). list_any leaves_i64 group.1) (groups trial_job heading (key ∷ []) parts rows) ≡ None
+  groups-fit of few = ap (find (λ (group : Told). list_any leaves_i64 group.1)) groups-are ∙ none-wide (classes by_key rows) of few
 
 -- ---- the job
 

@@ -1,6 +1,6 @@
 -- The lines of a trial are told by the tables that its run prints.
 use Rattle.std.proofs.Common.{◌≡◌, ℕ, suc, ◌+◌, ◌*◌, ◌≤◌, ◌<◌, ◌^◌, ◌∙◌, List, [], ◌∷◌, ◌++◌, length, map, Option, ℤ, pos, unsigned_abs, unwrap_or, refl, sym, ap, subst, arith, length-append}
-use Rattle.std.specs.Prelude.{◌+ℤ◌, slice_index_or}
+use Rattle.std.specs.Prelude.{◌+ℤ◌}
 use Rattle.std.specs.Fmt.{signed_decimal}
 use Rattle.std.specs.List.{AllByRecursion, fold, sum_by}
 use Rattle.std.specs.Ordering.{is_eq}
@@ -20,13 +20,14 @@ use Rattle.job_text.specs.declared.job.Query.{Query}
 use Rattle.job_text.specs.declared.job.Shape.TheVariants.{Group}
 use Rattle.job_plan.specs.Columns.{Fields}
 use Rattle.job_plan.specs.Plans.{heading_of}
-use Rattle.job_answer.specs.Answer.{field_of, fields_cmp, group_of, members, number_of, told_of}
+use Rattle.job_plan.specs.Telling.{told_field}
+use Rattle.job_answer.specs.Answer.{field_of, fields_cmp, group_of, members, told_of, value_at}
 use Rattle.job_answer.specs.Derived.{derived, is_in}
 use Rattle.job_answer.specs.Output.{output, shape_rows, table_rows}
 use Rattle.job_answer.proofs.Classes.{Class, all-groups, class_at, classes, insert_class}
 use Rattle.trial_input.specs.FixedJob.{counts, key, keys_query, limits_query, of_price, order_query, price, sums_query, trial_job}
 use Rattle.trial_input.specs.Generator.{heading, number_of_row, numbers_of, row_of, trial_rows}
-use Rattle.trial_input.specs.Lines.{counted, group_count, lines_with, trial_lines, trial_output}
+use Rattle.trial_input.specs.Lines.{count_of, counted, group_count, lines_with, trial_lines, trial_output}
 use Rattle.trial_input.specs.Tallies.{count_in, within_u64, tally_of}
 use Rattle.trial_input.specs.declared.tally.Tally.{Tally}
 use Rattle.trial_input.proofs.Decimals.{signed-spells}
@@ -37,15 +38,15 @@ use Rattle.trial_input.proofs.Tables.{AreWide, four-tables, later}
 -- ---- a table of groups
 
 -- a group as a row
-abbrev told_row : Fields × List ℤ → Fields
-told_row group = group.0 ++ map signed_decimal group.1
+abbrev told_row : Fields × List (Option ℤ) → Fields
+told_row group = group.0 ++ map told_field group.1
 
 -- the rows by their groups
 abbrev AreKeyed : List Class → Type 0
 AreKeyed cs = AllByRecursion (λ c. length c.group ≡ 1) cs
 
 module _ (parts : List Part) (rows : List Fields) where
-  abbrev told_group : Class → Fields × List ℤ
+  abbrev told_group : Class → Fields × List (Option ℤ)
   told_group c = (c.group, tell parts rows c.group)
 
   abbrev group_rows : List Class → List Fields
@@ -62,7 +63,7 @@ module _ (parts : List Part) (rows : List Fields) where
   groups-wide (c ∷ cs) keyed =
       let told = tell parts rows c.group in
       let size : length told ≡ length parts = length-map parts (told_of trial_job heading (members trial_job heading (key ∷ []) rows c.group)) in
-      (omega (arith, length-append c.group (map signed_decimal told), length-map told signed_decimal, size, keyed.0), groups-wide cs keyed.1)
+      (omega (arith, length-append c.group (map told_field told), length-map told told_field, size, keyed.0), groups-wide cs keyed.1)
 
   shape-wide : AreWide (1 + length parts) (shape_rows trial_job heading rows (Group (key ∷ []) parts))
   shape-wide = subst (AreWide (1 + length parts)) (sym shape-rows) (groups-wide (classes (by_key parts rows) rows) all-keyed)
@@ -100,10 +101,10 @@ module _ (rows : List Fields) (few : length rows ≤ 1000000) where
 
   -- how many rows a group has
   abbrev size_of : Class → ℕ
-  size_of c = length (map (λ row. number_of trial_job heading row 0) (in_group c))
+  size_of c = length (map (λ row. value_at trial_job heading row 0) (in_group c))
 
   size-few : (c : Class) → size_of c ≤ 1000000
-  size-few c = omega (arith, length-map (in_group c) (λ row. number_of trial_job heading row 0), kept-few (λ row. is_eq (fields_cmp (group_of trial_job heading (key ∷ []) row) c.group)) rows, few)
+  size-few c = omega (arith, length-map (in_group c) (λ row. value_at trial_job heading row 0), kept-few (λ row. is_eq (fields_cmp (group_of trial_job heading (key ∷ []) row) c.group)) rows, few)
 
   row-count : (c : Class) → length c.group ≡ 1 → count_in (told_row (told_group summed rows c)) ≡ size_of c
   row-count c one = count-read c.group (size_of c) _ one (omega (arith, size-few c))
@@ -114,11 +115,11 @@ module _ (rows : List Fields) (few : length rows ≤ 1000000) where
       omega (arith, sum_by-cons count_in (told_row (told_group summed rows c)) (group_rows summed rows cs), row-count c keyed.0, size-few c, counts-few cs keyed.1)
 
   counts-told : (cs : List Class) (n : ℕ) → AreKeyed cs
-      → fold ◌+ℤ◌ (pos n) (map (λ group. slice_index_or group.1 0 (pos 0)) (map (told_group summed rows) cs)) ≡ pos (n + sum_by count_in (group_rows summed rows cs))
+      → fold ◌+ℤ◌ (pos n) (map count_of (map (told_group summed rows) cs)) ≡ pos (n + sum_by count_in (group_rows summed rows cs))
   counts-told [] n keyed = ap pos (omega arith)
   counts-told (c ∷ cs) n keyed =
       let next : pos n +ℤ pos (size_of c) ≡ pos (n + size_of c) = omega (arith, ints) in
-      ap (λ (z : ℤ). fold ◌+ℤ◌ z (map (λ group. slice_index_or group.1 0 (pos 0)) (map (told_group summed rows) cs))) next
+      ap (λ (z : ℤ). fold ◌+ℤ◌ z (map count_of (map (told_group summed rows) cs))) next
       ∙ counts-told cs (n + size_of c) keyed.1
       ∙ ap pos (omega (arith, sum_by-cons count_in (told_row (told_group summed rows c)) (group_rows summed rows cs), row-count c keyed.0))
 
@@ -218,7 +219,7 @@ told rows few =
     record {
       groups = ap (λ (tally : Tally). tally.rows) (output-tally input) ∙ omega arith;
       counted = ap (λ (tally : Tally). pos tally.counted) (output-tally input) ∙ ap pos (omega (arith, same, small)) ∙ sym (counts-told (over 1) within cs 0 keyed)
-          ∙ sym (ap (λ (groups : List (Fields × List ℤ)). fold ◌+ℤ◌ (pos 0) (map (λ group. slice_index_or group.1 0 (pos 0)) groups)) (groups-are summed (over 1)));
+          ∙ sym (ap (λ (groups : List (Fields × List (Option ℤ))). fold ◌+ℤ◌ (pos 0) (map count_of groups)) (groups-are summed (over 1)));
     }
 
 pub lines-told : (rows : ℕ) (tally : Tally) → IsTold rows tally → lines_with rows tally.rows (pos tally.counted) ≡ trial_lines rows

@@ -1,6 +1,6 @@
 -- The three lines that a trial prints, by the plain answers of its job over its rows.
 -- This project's own.
-use Rattle.std.specs.Prelude.{ℕ, List, [], ◌∷◌, ◌++◌, codes, length, map, slice_index_or, ℤ, pos, ◌+ℤ◌}
+use Rattle.std.specs.Prelude.{ℕ, List, [], ◌∷◌, ◌++◌, Option, None, codes, length, map, slice_index_or, unwrap_or, ℤ, pos, ◌+ℤ◌}
 use Rattle.std.specs.Fmt.{decimal, signed_decimal}
 use Rattle.std.specs.List.{fold}
 use Rattle.job_plan.specs.Columns.{Fields}
@@ -16,13 +16,17 @@ abbrev pub group_count : ℕ → ℕ
 group_count rows = length (answer_rows trial_job heading (trial_rows rows) keys_query)
 
 -- the groups of the first query, each with its count and its sum
-abbrev pub summed_groups : ℕ → List (Fields × List ℤ)
+abbrev pub summed_groups : ℕ → List (Fields × List (Option ℤ))
 summed_groups rows =
     groups trial_job heading (key ∷ []) (counts ∷ of_price Sum ∷ []) (derived trial_job heading 1 (trial_rows rows))
 
+-- the count of such a group, which is never missing
+abbrev pub count_of : Fields × List (Option ℤ) → ℤ
+count_of group = unwrap_or (slice_index_or group.1 0 None) (pos 0)
+
 -- what the counts of these groups come to
 abbrev pub counted : ℕ → ℤ
-counted rows = fold ◌+ℤ◌ (pos 0) (map (λ group. slice_index_or group.1 0 (pos 0)) (summed_groups rows))
+counted rows = fold ◌+ℤ◌ (pos 0) (map count_of (summed_groups rows))
 
 -- three lines with these numbers
 abbrev pub lines_with : ℕ → ℕ → ℤ → List ℕ

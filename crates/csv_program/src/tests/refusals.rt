@@ -120,9 +120,9 @@ fn a_sum_beyond_64_bits_is_told_with_its_key(rt: HostRuntime) -> Result<(), Fail
 fn a_heap_takes_the_groups_that_fit_and_no_byte_more(rt: HostRuntime) -> Result<(), Fail> {
     let alloc = rt.alloc();
     let words = words_with("4096", "group k: count");
-    let most = letters(alloc, 3022)?;
+    let most = letters(alloc, 3021)?;
     assert!(rt; is_told(&rt, alloc, call_of(&words, &most), "0 ")?);
-    let more = letters(alloc, 3023)?;
+    let more = letters(alloc, 3022)?;
     let wanted = "12 no room: asked 3073, held 1024, floor 1024";
     assert!(rt; is_told(&rt, alloc, call_of(&words, &more), wanted)?);
     Ok(())

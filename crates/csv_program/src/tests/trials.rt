@@ -104,7 +104,7 @@ const SMALL: [&str; 6] = [
     "--workers=1",
     "--reserved=0",
     "--fraction=1000",
-    "--heap=5400",
+    "--heap=5408",
     "10000",
 ];
 
@@ -114,7 +114,7 @@ const SHARED: [&str; 7] = [
     "--part-rows=50",
     "--reserved=0",
     "--fraction=1000",
-    "--heap=21600",
+    "--heap=21632",
     "10000",
 ];
 
@@ -140,7 +140,7 @@ const CACHED: [&str; 7] = [
     "--part-rows=50",
     "--reserved=0",
     "--fraction=1000",
-    "--heap=5400",
+    "--heap=5408",
     "1000",
 ];
 

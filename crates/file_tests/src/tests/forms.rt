@@ -1,9 +1,9 @@
 // Forms of rows, and fields that are numbers.
+use crate::tests::lists::kind_of;
 use crate::tests::scripts::plays;
 use crate::tests::told::Told;
 use crate::tests::words::{number_of, parted};
-use aggregate::{Agg, AggList, Kind};
-use row_form::{Form, NumberList, is_decimal, parse_number};
+use row_form::{Form, NumberList, NumberPlace, is_decimal, parse_number};
 use row_page::RowBuf;
 use std::alloc::{AllocError, Global};
 use std::test::Fail;
@@ -22,17 +22,30 @@ fn put_taken(form: &Form, row: &RowBuf, greatest: u64, told: &mut Told) {
     }
 }
 
-// An entry of the key `k` and a value of so many zeros.
-fn entry_of(alloc: Global, zeros: u8) -> Result<RowBuf, AllocError> {
+// An entry of the key `k` and a value of so many bytes: the first of a number, the last of another, and zeros between.
+fn entry_of(alloc: Global, count: u8, first: u8, last: u8) -> Result<RowBuf, AllocError> {
+    let mut value = vec![in alloc; 0u8; count as usize]?;
+    if let Some(byte) = value.last_mut() {
+        *byte = last;
+    }
+    if let Some(byte) = value.first_mut() {
+        *byte = first;
+    }
     let mut row = RowBuf::new(alloc);
     row.add(b"k")?;
-    row.add(&vec![in alloc; 0u8; zeros as usize]?)?;
+    row.add(&value)?;
     Ok(row)
 }
 
-// Tells whether a form takes such an entry.
-fn put_entry(alloc: Global, form: &Form, zeros: &str, greatest: u64, told: &mut Told) {
-    match entry_of(alloc, number_of(zeros).min(255) as u8) {
+fn byte_of(word: &str) -> u8 {
+    number_of(word).min(255) as u8
+}
+
+// Tells whether a form takes such an entry. Its bytes are told as `17:1:255`.
+fn put_entry(alloc: Global, form: &Form, value: &str, greatest: u64, told: &mut Told) {
+    let (count, bytes) = parted(value, ':');
+    let (first, last) = parted(bytes, ':');
+    match entry_of(alloc, byte_of(count), byte_of(first), byte_of(last)) {
         Ok(row) => put_taken(form, &row, greatest, told),
         Err(_) => told.lack(),
     }
@@ -52,37 +65,38 @@ fn landed_of(alloc: Global, zeros: u8, column: &str) -> Result<RowBuf, AllocErro
 
 // Tells whether a form takes such a row.
 fn put_row(alloc: Global, form: &Form, zeros: &str, column: &str, told: &mut Told) {
-    match landed_of(alloc, number_of(zeros).min(255) as u8, column) {
+    match landed_of(alloc, byte_of(zeros), column) {
         Ok(row) => put_taken(form, &row, 100, told),
         Err(_) => told.lack(),
     }
 }
 
-fn counts_of(alloc: Global) -> Result<Form, AllocError> {
-    Ok(Form::Entries(Kind::Group(AggList::of(alloc, &[Agg::Count])?)))
-}
-
-fn put_counted(alloc: Global, form: &Form, words: &str, told: &mut Told) {
+fn put_entries(alloc: Global, form: &Form, words: &str, told: &mut Told) {
     for word in words.split_whitespace() {
         let (row, _) = parted(word, '=');
-        let (zeros, greatest) = parted(row, ':');
+        let (greatest, value) = parted(row, ':');
         told.begin(row);
-        put_entry(alloc, form, zeros, number_of(greatest), told);
+        put_entry(alloc, form, value, number_of(greatest), told);
     }
 }
 
-/// Whether the form of a count takes an entry whose value has so many bytes, with this greatest cost.
-pub fn play_counted(alloc: Global, words: &str, told: &mut Told) {
-    match counts_of(alloc) {
-        Ok(form) => put_counted(alloc, &form, words, told),
+/// Whether the form of a kind's entries takes one with this greatest cost and such a value.
+pub fn play_entries(alloc: Global, kind: &str, words: &str, told: &mut Told) {
+    match kind_of(alloc, kind) {
+        Ok(kind) => put_entries(alloc, &Form::Entries(kind), words, told),
         Err(_) => told.lack(),
     }
 }
 
-fn landed(alloc: Global) -> Result<Form, AllocError> {
+fn landed(alloc: Global, place: &str) -> Result<Form, AllocError> {
+    let (column, value) = parted(place, ' ');
+    let place = NumberPlace {
+        column: number_of(column).min(255) as u32,
+        value: value == "value",
+    };
     Ok(Form::Landed {
         columns: 2,
-        numbers: NumberList::of(alloc, &[1])?,
+        numbers: NumberList::of(alloc, &[place])?,
     })
 }
 
@@ -95,26 +109,34 @@ fn put_landed(alloc: Global, form: &Form, words: &str, told: &mut Told) {
     }
 }
 
-/// Whether the form of landed rows with two columns, the second a number, takes a row with so many bytes for its number and
-/// this second column; and an entry whose value has 16 bytes.
-pub fn play_landed(alloc: Global, rest: &str, told: &mut Told) {
+/// Whether the form of landed rows with two columns, of which the one at a place is a number or a value column, takes a row
+/// with so many bytes for its number and this second column; and an entry whose value has 17 bytes.
+pub fn play_landed(alloc: Global, place: &str, rest: &str, told: &mut Told) {
     let (words, _) = parted(rest, '|');
-    match landed(alloc) {
+    match landed(alloc, place) {
         Ok(form) => {
             put_landed(alloc, &form, words, told);
             told.put("|");
             told.begin("entry");
-            put_entry(alloc, &form, "16", 100, told);
+            put_entry(alloc, &form, "17:1:0", 100, told);
         }
         Err(_) => told.lack(),
     }
 }
 
-// An entry with a value of 16 bytes costs 49: 24, 5 and 20. Of the landed rows one is whole, the second column of one is no
-// whole number, and the number of one has 7 bytes.
+// An entry with a value of 17 bytes costs 50: 24, 5 and 21. A count is never missing, and a missing sum is zeros alone. Of
+// the landed rows the second column of some is no whole number, or empty, and the number of some has 7 bytes; the first
+// column is a text; a place past the columns takes no row.
 const FORMS: &str = "\
-the form of a count|counted| 16:49=yes 16:48=no 16:100=yes 15:100=no
-the form of landed rows|landed| 8:-12=yes 8:1.5=no 7:1=no| entry=no";
+the form of a count|entries count| 50:17:1:0=yes 49:17:1:0=no 100:17:1:255=yes 100:16:1:0=no 100:18:1:0=no \
+100:17:0:0=no 100:17:2:0=no 100:17:0:1=no 100:0:0:0=no
+the form of a sum|entries sum| 50:17:1:0=yes 50:17:0:0=yes 50:17:0:1=no 50:17:2:0=no 50:17:255:0=no 50:17:1:255=yes
+the form of an order|entries order| 50:17:2:0=yes 100:16:0:1=yes
+a number column takes numbers alone|landed 1 number| 8:-12=yes 8:1.5=no 8:=no 7:1=no| entry=no
+a value column takes nothing too|landed 1 value| 8:-12=yes 8:=yes 8:1.5=no 8:-=no 7:=no| entry=no
+a text is in no number column|landed 0 number| 8:1=no 8:=no| entry=no
+a text is in no value column|landed 0 value| 8:1=no 8:=no| entry=no
+a value column past the columns|landed 2 value| 8:1=no 8:=no| entry=no";
 
 #[test]
 fn a_form_takes_its_rows_and_no_others(rt: HostRuntime) -> Result<(), Fail> {

@@ -13,23 +13,25 @@ use std::alloc::{AllocError, Global};
 use std::collections::BTreeMap;
 use std::test::Fail;
 
-/// A key of one byte, and a number.
-pub type Pair = (u8, i64);
+/// A key of one byte, and a number or none.
+pub type Pair = (u8, Option<i64>);
 
 /// Groups with one aggregate, or orders.
 pub fn kind_of(alloc: Global, word: &str) -> Result<Kind, AllocError> {
     match word {
         "count" => Ok(Kind::Group(AggList::of(alloc, &[Agg::Count])?)),
         "sum" => Ok(Kind::Group(AggList::of(alloc, &[Agg::Sum])?)),
+        "min" => Ok(Kind::Group(AggList::of(alloc, &[Agg::Min])?)),
+        "max" => Ok(Kind::Group(AggList::of(alloc, &[Agg::Max])?)),
         _ => Ok(Kind::Order),
     }
 }
 
-// A pair as `a:1`.
+// A pair as `a:1`, or as `a:none` where the number is missing.
 fn pair_of(word: &str) -> Pair {
     let (key, number) = parted(word, ':');
     let key = key.as_bytes().first().copied().unwrap_or(0);
-    (key, number.parse().unwrap_or(0))
+    (key, number.parse().ok())
 }
 
 // The pairs of a text as `a:1 c:-1`.
@@ -54,14 +56,24 @@ pub fn lists_of(alloc: Global, text: &str, told: &mut Told) -> Vec<Vec<Pair>> {
     lists
 }
 
-// Puts a key with a number as a value of 16 bytes, or where it is short of 4.
+// The 17 bytes of a number, or of a missing one.
+fn slot_of(number: Option<i64>) -> [u8; 17] {
+    let mut slot = [0; 17];
+    if let Some(number) = number {
+        slot[0] = 1;
+        slot[1..].copy_from_slice(&i128::from(number).to_be_bytes());
+    }
+    slot
+}
+
+// Puts a key with a number as a value of 17 bytes, or where it is short of 4.
 fn push_pair(page: &mut Page, pair: Pair, is_short: bool, told: &mut Told) {
     let (key, number) = pair;
     if is_short {
-        let short = u32::try_from(number).unwrap_or(0);
+        let short = u32::try_from(number.unwrap_or(0)).unwrap_or(0);
         return push_entry(page, &[key], &short.to_be_bytes(), told);
     }
-    push_entry(page, &[key], &i128::from(number).to_be_bytes(), told);
+    push_entry(page, &[key], &slot_of(number), told);
 }
 
 /// The page of these pairs.
@@ -111,6 +123,14 @@ fn drawn_behind(drawn: u64) -> u64 {
         .wrapping_add(1442695040888963407)
 }
 
+// A drawn number, which is missing about every fourth time.
+fn number_of(drawn: u64) -> Option<i64> {
+    if (drawn >> 60) % 4 == 0 {
+        return None;
+    }
+    Some(i64::from((drawn >> 40) as u32))
+}
+
 // Entries whose keys ascend, of so many places; each key stands there about every second time, and once where `times`
 // is 1.
 fn drawn_list(alloc: Global, seed: u64, places: u8, times: u8, told: &mut Told) -> Vec<Pair> {
@@ -119,7 +139,7 @@ fn drawn_list(alloc: Global, seed: u64, places: u8, times: u8, told: &mut Told) 
     for place in 0..places {
         drawn = drawn_behind(drawn);
         if drawn >> 63 == 1 {
-            let pair = (place / times.max(1), i64::from((drawn >> 40) as u32));
+            let pair = (place / times.max(1), number_of(drawn));
             told.need(list.push(pair).is_ok());
         }
     }
@@ -158,15 +178,24 @@ pub fn sorted_page(alloc: Global, lists: &Vec<Vec<Pair>>, is_short: bool, told: 
     page_of(alloc, &all, is_short, told)
 }
 
-// Adds a number to the sum of its key.
-fn add(sums: &mut BTreeMap<u8, i64>, pair: Pair, told: &mut Told) {
-    let (key, number) = pair;
-    let sum = sums.get(&key).copied().unwrap_or(0);
-    told.need(sums.insert(key, sum.wrapping_add(number)).is_ok());
+// The sum of two numbers, of which one or both may be missing.
+fn sum(a: Option<i64>, b: Option<i64>) -> Option<i64> {
+    match (a, b) {
+        (Some(a), Some(b)) => Some(a.wrapping_add(b)),
+        (None, b) => b,
+        (a, None) => a,
+    }
 }
 
-// The sum of each key's numbers.
-fn sums_of(alloc: Global, pairs: &[Pair], told: &mut Told) -> BTreeMap<u8, i64> {
+// Adds a number to the sum of its key.
+fn add(sums: &mut BTreeMap<u8, Option<i64>>, pair: Pair, told: &mut Told) {
+    let (key, number) = pair;
+    let before = sums.get(&key).copied().unwrap_or(None);
+    told.need(sums.insert(key, sum(before, number)).is_ok());
+}
+
+// The sum of each key's numbers, or none where all are missing.
+fn sums_of(alloc: Global, pairs: &[Pair], told: &mut Told) -> BTreeMap<u8, Option<i64>> {
     let mut sums = BTreeMap::new(alloc);
     for pair in pairs {
         add(&mut sums, *pair, told);

@@ -42,32 +42,49 @@ fn merge_lists(
     Ok(())
 }
 
-// In groups what both runs have is combined; in an order equal keys come in the order of the runs. Runs without rows give
-// nothing. A call that fails is a fault of its run's disk: the first four calls write the runs, and as a reader keeps one
-// row here, each row is read by a call of its own, the first of both runs, then the next of the one whose row was given.
+// In groups what both runs have is combined, and what is missing in one is that of the other; in an order equal keys come in
+// the order of the runs. Runs without rows give nothing. A call that fails is a fault of its run's disk: the first four calls
+// write the runs, and as a reader keeps one row here, each row is read by a call of its own, the first of both runs, then the
+// next of the one whose row was given.
 const MERGES: &str = "\
-counts of both runs|merge count never|a:1 c:1/b:1 c:1| advance=00000001610000001000000000000000000000000000000001 \
-advance=00000001620000001000000000000000000000000000000001 advance=00000001630000001000000000000000000000000000000002 \
+counts of both runs|merge count never|a:1 c:1/b:1 c:1| advance=0000000161000000110100000000000000000000000000000001 \
+advance=0000000162000000110100000000000000000000000000000001 advance=0000000163000000110100000000000000000000000000000002 \
 advance=end advance=end
 equal keys in an order|merge order never|k:1 k:2/a:3 k:4/k:5 z:6| \
-advance=00000001610000001000000000000000000000000000000003 \
-advance=000000016b0000001000000000000000000000000000000001 \
-advance=000000016b0000001000000000000000000000000000000002 \
-advance=000000016b0000001000000000000000000000000000000004 \
-advance=000000016b0000001000000000000000000000000000000005 \
-advance=000000017a0000001000000000000000000000000000000006 advance=end
+advance=0000000161000000110100000000000000000000000000000003 \
+advance=000000016b000000110100000000000000000000000000000001 \
+advance=000000016b000000110100000000000000000000000000000002 \
+advance=000000016b000000110100000000000000000000000000000004 \
+advance=000000016b000000110100000000000000000000000000000005 \
+advance=000000017a000000110100000000000000000000000000000006 advance=end
 no run|merge order never|none| advance=end
 two empty runs|merge order never|/| next=end
-one entry|merge order never|/a:1/| advance=00000001610000001000000000000000000000000000000001 advance=end
-next lends sums|merge sum never|a:1 c:258/c:-1| next=00000001610000001000000000000000000000000000000001 \
-next=00000001630000001000000000000000000000000000000101 next=end next=end
+one entry|merge order never|/a:1/| advance=0000000161000000110100000000000000000000000000000001 advance=end
+next lends sums|merge sum never|a:1 c:258/c:-1| next=0000000161000000110100000000000000000000000000000001 \
+next=0000000163000000110100000000000000000000000000000101 next=end next=end
 the first read fails|merge order 4|a:1 c:1/b:1| advance=fault:3
 the second read fails|merge order 5|a:1 c:1/b:1| advance=fault:5
-the third read fails|merge order 6|a:1 c:1/b:1| advance=00000001610000001000000000000000000000000000000001 \
+the third read fails|merge order 6|a:1 c:1/b:1| advance=0000000161000000110100000000000000000000000000000001 \
 advance=fault:3
-no call is left|merge order 7|a:1 c:1/b:1| advance=00000001610000001000000000000000000000000000000001 \
-advance=00000001620000001000000000000000000000000000000001 \
-advance=00000001630000001000000000000000000000000000000001 advance=end";
+missing sums|merge sum never|a:none b:5 c:none d:2/a:none b:none c:-7 d:none e:none| \
+advance=0000000161000000110000000000000000000000000000000000 \
+advance=0000000162000000110100000000000000000000000000000005 \
+advance=00000001630000001101fffffffffffffffffffffffffffffff9 \
+advance=0000000164000000110100000000000000000000000000000002 \
+advance=0000000165000000110000000000000000000000000000000000 advance=end
+missing least|merge min never|a:none b:5 c:none d:2/a:none b:none c:7 d:-3| \
+advance=0000000161000000110000000000000000000000000000000000 \
+advance=0000000162000000110100000000000000000000000000000005 \
+advance=0000000163000000110100000000000000000000000000000007 \
+advance=00000001640000001101fffffffffffffffffffffffffffffffd advance=end
+missing greatest|merge max never|a:none b:-5 c:none d:-2/a:none b:none c:-7 d:-3/b:-6 c:none d:none| \
+advance=0000000161000000110000000000000000000000000000000000 \
+advance=00000001620000001101fffffffffffffffffffffffffffffffb \
+advance=00000001630000001101fffffffffffffffffffffffffffffff9 \
+advance=00000001640000001101fffffffffffffffffffffffffffffffe advance=end
+no call is left|merge order 7|a:1 c:1/b:1| advance=0000000161000000110100000000000000000000000000000001 \
+advance=0000000162000000110100000000000000000000000000000001 \
+advance=0000000163000000110100000000000000000000000000000001 advance=end";
 
 #[test]
 fn a_merge_gives_what_its_scripts_say(rt: HostRuntime) -> Result<(), Fail> {
@@ -138,7 +155,7 @@ fn put_cut(alloc: Global, disk: &mut MemoryDisk, told: &mut Told) -> Result<Run,
         file,
         bytes: bytes.len() as u64,
         count: 3,
-        greatest: 49,
+        greatest: 50,
     })
 }
 
@@ -184,9 +201,9 @@ pub fn play_cut(alloc: Global, given: &str, rest: &str, told: &mut Told) -> Resu
 }
 
 const CUT: &str = "\
-a short file is damaged with its place|cut short| advance=00000001610000001000000000000000000000000000000001 \
-advance=00000001620000001000000000000000000000000000000001 \
-advance=00000001630000001000000000000000000000000000000001 advance=damaged:7:1:3:2
+a short file is damaged with its place|cut short| advance=0000000161000000110100000000000000000000000000000001 \
+advance=0000000162000000110100000000000000000000000000000001 \
+advance=0000000163000000110100000000000000000000000000000001 advance=damaged:7:1:3:2
 0|cut memory 0| advance=00000001610000000131 advance=00000001610000000131 advance=damaged:0:1:3:1
 13|cut memory 13| advance=00000001610000000131 advance=00000001610000000131 advance=damaged:0:1:3:1
 4294967295|cut memory 4294967295| advance=00000001610000000131 advance=00000001610000000131 advance=damaged:0:1:3:1

@@ -5,7 +5,7 @@ ghost use Rattle.run_file.specs.Reading.{IsAhead};
 ghost use Rattle.run_file.specs.Shelved.{files_on};
 
 use crate::tests::calls::put_failed;
-use crate::tests::entries::{put_run, three_entries};
+use crate::tests::entries::{push_entry, put_run, three_entries};
 use crate::tests::folders::{disk_in, remove};
 use crate::tests::lists::kind_of;
 use crate::tests::reading::{put_fault, put_numbers, take_steps};
@@ -117,7 +117,7 @@ pub fn put_damaged<D: Disk>(disk: &mut D, page: &Page, length: u64) -> Result<Ru
     })
 }
 
-// An entry of another form has a value of 1 byte, where a count has 16. The second row has 9 bytes, and none of the run
+// An entry of another form has a value of 1 byte, where a count has 17. The second row has 9 bytes, and none of the run
 // more than 12.
 const READ: &str = "\
 a run is read as it was written|read memory order once|0:0:43:3:36| advance=00000001610000000131 \
@@ -163,6 +163,60 @@ advance=damaged:0:0:3:1 next=damaged:0:0:3:1";
 #[test]
 fn a_length_that_is_another_is_damage(rt: HostRuntime) -> Result<(), Fail> {
     plays(&rt, rt.alloc(), LENGTHS)
+}
+
+// Writes the run of one entry, `k` with a value of 17 bytes: the first, the second and the last of these numbers, and zeros.
+fn put_slot<D: Disk>(
+    alloc: Global,
+    disk: &mut D,
+    bytes: &str,
+    told: &mut Told,
+) -> Result<Run, RunFault>
+    ensures { IfOk result (λ run. run.disk ≡ 0) }
+{
+    let (flag, number) = parted(bytes, ' ');
+    let (first, last) = parted(number, ' ');
+    let mut slot = [0u8; 17];
+    slot[0] = number_of(flag).min(255) as u8;
+    slot[1] = number_of(first).min(255) as u8;
+    slot[16] = number_of(last).min(255) as u8;
+    let mut page = Page::new(alloc, 100);
+    push_entry(&mut page, b"k", &slot, told);
+    put_run(disk, 0, &page)
+}
+
+/// A kind, and the value of the one entry of a run; and steps of its reader.
+pub fn play_value(alloc: Global, given: &str, steps: &str, told: &mut Told) {
+    let (kind, bytes) = parted(given, ' ');
+    let mut disk = MemoryDisk::new(alloc, Vec::new(alloc));
+    let run = match put_slot(alloc, &mut disk, bytes, told) {
+        Ok(run) => run,
+        Err(fault) => return put_fault(fault, told),
+    };
+    match kind_of(alloc, kind) {
+        Ok(kind) => take_steps(alloc, &mut disk, &run, Form::Entries(kind), steps, told),
+        Err(_) => told.lack(),
+    }
+}
+
+// A value of a group begins with a 1, or it is zeros alone, but for a count. An order's value is any bytes.
+const VALUES: &str = "\
+a number|value sum 1 0 0| next=000000016b000000110100000000000000000000000000000000 next=end
+any bytes of a number|value sum 1 171 205| next=000000016b0000001101ab0000000000000000000000000000cd next=end
+any bytes of a count|value count 1 255 255| next=000000016b0000001101ff0000000000000000000000000000ff next=end
+a missing sum|value sum 0 0 0| next=000000016b000000110000000000000000000000000000000000 next=end
+a missing least|value min 0 0 0| next=000000016b000000110000000000000000000000000000000000 next=end
+a missing greatest|value max 0 0 0| next=000000016b000000110000000000000000000000000000000000 next=end
+a missing count|value count 0 0 0| next=damaged:0:0:1:0 next=damaged:0:0:1:0
+a first byte of 2|value sum 2 0 0| next=damaged:0:0:1:0
+a first byte of 255|value max 255 255 255| next=damaged:0:0:1:0
+a missing sum with a last byte|value sum 0 0 1| next=damaged:0:0:1:0
+a missing sum with a byte behind the first|value sum 0 128 0| next=damaged:0:0:1:0
+a value of an order|value order 2 0 1| next=000000016b000000110200000000000000000000000000000001 next=end";
+
+#[test]
+fn a_value_that_no_group_has_is_damage(rt: HostRuntime) -> Result<(), Fail> {
+    plays(&rt, rt.alloc(), VALUES)
 }
 
 /// Puts the rows that are ahead behind those of a page, by `next` alone.

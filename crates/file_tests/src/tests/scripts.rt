@@ -1,9 +1,9 @@
 // Scripts: lines of a text, each with a name, what it is played on, and calls with the answers that they are to get.
 use crate::tests::disks::{play_memory, play_shelf, play_veil};
-use crate::tests::forms::{play_counted, play_landed, play_number};
+use crate::tests::forms::{play_entries, play_landed, play_number};
 use crate::tests::merged_runs::{play_long, play_many, play_merged, play_two_disks};
 use crate::tests::merges::{play_cut, play_eight, play_merge};
-use crate::tests::runs::{play_copy, play_read};
+use crate::tests::runs::{play_copy, play_read, play_value};
 use crate::tests::told::{Told, tells};
 use crate::tests::words::parted;
 use std::alloc::Global;
@@ -53,8 +53,9 @@ fn play_simple(alloc: Global, kind: &str, given: &str, rest: &str, told: &mut To
         "shelf" => play_shelf(alloc, told),
         "read" => play_read(alloc, given, rest, told),
         "disks" => play_two_disks(alloc, told),
-        "counted" => play_counted(alloc, rest, told),
-        "landed" => play_landed(alloc, rest, told),
+        "value" => play_value(alloc, given, rest, told),
+        "entries" => play_entries(alloc, given, rest, told),
+        "landed" => play_landed(alloc, given, rest, told),
         "number" => play_number(rest, told),
         _ => told.put("?"),
     }

@@ -150,7 +150,9 @@ const REFUSED: &str = "\
     order number price: price|city,price\nOslo,3\nBergen,-4\nOslo,+5\nOslo,3.5\nOslo,6\nOslo\n|\
     row 4 column 1: not a number~\
     order number price: price|city,price\nOslo,9223372036854775808\n|\
-    row 1 column 1: not a number";
+    row 1 column 1: not a number~\
+    order number price: price|city,price\nOslo,\n|row 1 column 1: not a number~\
+    group city: sum price|city,price\nOslo,\nOslo, \n|row 2 column 1: not a number";
 
 #[test]
 fn the_first_thing_that_is_wrong_is_told(rt: HostRuntime) -> Result<(), Fail> {
@@ -286,6 +288,17 @@ fn each_partition_is_a_run_on_the_disk_of_its_worker(rt: HostRuntime) -> Result<
         disk 0: \0\0\0\0\0\0\0\x01,1,;\0\0\0\0\0\0\0\x02,22,; \
         disk 1: \0\0\0\0\0\0\0\x03,333,;\0\0\0\0\0\0\0\x04,-4,; \
         disk 0: \0\0\0\0\0\0\0\x05,05,;";
+    assert_eq!(rt; runs.as_slice(), wanted.as_slice());
+    Ok(())
+}
+
+#[test]
+fn an_empty_field_of_a_value_column_is_landed(rt: HostRuntime) -> Result<(), Fail> {
+    let text = b"city,price\nOslo,\nOslo,\"\"\nBergen,3\n";
+    let runs = runs_of(rt.alloc(), "group city: sum price, max price", text, 2)?;
+    let wanted = b"3 rows \
+        disk 0: \0\0\0\0\0\0\0\x01,Oslo,,;\0\0\0\0\0\0\0\x02,Oslo,,; \
+        disk 1: \0\0\0\0\0\0\0\x03,Bergen,3,;";
     assert_eq!(rt; runs.as_slice(), wanted.as_slice());
     Ok(())
 }

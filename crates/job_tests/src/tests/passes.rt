@@ -115,25 +115,52 @@ fn calls_tell_of_each_pass_what_its_line_does(rt: HostRuntime) -> Result<(), Fai
     Ok(())
 }
 
-// The number columns of a plan, as their places among the kept ones.
+// The number columns of a plan, as their places among the kept ones, a value column with a `?` behind it.
 fn numbers_of(alloc: Global, plan: &Plan) -> Result<String, AllocError> {
-    match plan.chain().form() {
-        Form::Landed { columns, numbers } => {
-            let items = numbers.items();
-            format!(in alloc; "{columns} {items:?}")
-        }
-        Form::Entries(_) => String::from_str(alloc, "entries"),
+    let Form::Landed { columns, numbers } = plan.chain().form() else {
+        return String::from_str(alloc, "entries");
+    };
+    let mut text = format!(in alloc; "{columns}")?;
+    for place in numbers.items() {
+        let mark = if place.value { "?" } else { "" };
+        text.push_str(&format!(in alloc; " {}{mark}", place.column)?)?;
     }
+    Ok(text)
 }
 
 #[test]
 fn a_column_that_a_filter_compares_with_a_number_is_a_number(rt: HostRuntime) -> Result<(), Fail> {
     let alloc = rt.alloc();
     for (job, columns, wanted) in [
-        (WIDE, "c3,c2,no,c1", "3 [0, 2]"),
-        (TRIAL, "key,price", "2 [1]"),
-        (UNUSED, "x", "1 [0]"),
-        ("let a = input where x = '1'; group y: count", "x,y", "2 []"),
+        (WIDE, "c3,c2,no,c1", "3 0 2"),
+        (TRIAL, "key,price", "2 1"),
+        (UNUSED, "x", "1 0"),
+        ("let a = input where x = '1'; group y: count", "x,y", "2"),
+    ] {
+        let plan = plan_over(alloc, job, columns)??;
+        assert_eq!(rt; numbers_of(alloc, &plan)?.as_str(), wanted, "{job}");
+    }
+    Ok(())
+}
+
+#[test]
+fn a_number_column_that_is_only_told_is_a_value_column(rt: HostRuntime) -> Result<(), Fail> {
+    let alloc = rt.alloc();
+    for (job, columns, wanted) in [
+        ("group y: count, sum x", "y,x", "2 1?"),
+        ("group x: sum x", "x", "1 0?"),
+        (
+            "group y: min x, max x, sum z; order number z: y",
+            "z,y,x",
+            "3 0 2?",
+        ),
+        ("let a = input where x > 0; group y: sum x", "x,y", "2 0"),
+        (
+            "let a = input where x = '1'; group y: sum x from a",
+            "x,y",
+            "2 0?",
+        ),
+        ("group y: sum x; order x: y", "x,y", "2 0?"),
     ] {
         let plan = plan_over(alloc, job, columns)??;
         assert_eq!(rt; numbers_of(alloc, &plan)?.as_str(), wanted, "{job}");

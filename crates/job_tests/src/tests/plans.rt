@@ -102,15 +102,13 @@ fn a_group_has_its_fields_for_a_key_and_its_numbers_for_a_value(
     assert_eq!(rt; plan.places(), [0, 1].as_slice());
     let heading = b"\0\0\0\x04city\0\0\0\x05count\0\0\0\x09sum_price";
     has_heading(&rt, &plan, heading);
-    let numbers = b"\0\0\0\0\0\0\0\0\0\0\0\0\0\0\0\x01\0\0\0\0\0\0\0\0\0\0\0\0\0\0\0\x03";
-    makes(
-        &rt,
-        alloc,
-        &plan,
-        1,
-        [b"Oslo", b"3"],
-        [b"\x4f\x73\x6c\x6f\0\0", numbers],
-    )
+    let oslo = b"\x4f\x73\x6c\x6f\0\0";
+    let numbers = b"\x01\0\0\0\0\0\0\0\0\0\0\0\0\0\0\0\x01\
+        \x01\0\0\0\0\0\0\0\0\0\0\0\0\0\0\0\x03";
+    makes(&rt, alloc, &plan, 1, [b"Oslo", b"3"], [oslo, numbers])?;
+    let missing = b"\x01\0\0\0\0\0\0\0\0\0\0\0\0\0\0\0\x01\
+        \0\0\0\0\0\0\0\0\0\0\0\0\0\0\0\0\0";
+    makes(&rt, alloc, &plan, 2, [b"Oslo", b""], [oslo, missing])
 }
 
 #[test]
@@ -137,8 +135,8 @@ fn a_column_that_stands_twice_is_the_first(rt: HostRuntime) -> Result<(), Fail> 
     let alloc = rt.alloc();
     let plan = plan_over(alloc, COUNT_AND_SUM, "price,city,city,price")??;
     assert_eq!(rt; plan.places(), [0, 1].as_slice());
-    let numbers = b"\0\0\0\0\0\0\0\0\0\0\0\0\0\0\0\x01\
-        \xff\xff\xff\xff\xff\xff\xff\xff\xff\xff\xff\xff\xff\xff\xff\xff";
+    let numbers = b"\x01\0\0\0\0\0\0\0\0\0\0\0\0\0\0\0\x01\
+        \x01\xff\xff\xff\xff\xff\xff\xff\xff\xff\xff\xff\xff\xff\xff\xff\xff";
     makes(
         &rt,
         alloc,

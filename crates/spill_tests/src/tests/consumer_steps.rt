@@ -1,7 +1,7 @@
 //! Steps that a task is taken through, and what has to come of them.
 
 use crate::tests::consumer_task::Task;
-use aggregate::{Agg, AggList, Kind, finish, put_partial};
+use aggregate::{Agg, AggList, Finished, Kind, finish, put_partial};
 use consumer_trait::{Consumer, Fed, Turn};
 use row_page::{Page, RowView};
 use std::alloc::{AllocError, Global};
@@ -22,8 +22,8 @@ pub enum Step {
     Count(u8, usize, Fed),
     /// It feeds so many rows, each with a key of its own of four bytes, to a query that counts. All are taken.
     Keys(u32),
-    /// It feeds a row with a key and a number to a query that counts and sums.
-    Sum(&'static [u8], i64, Fed),
+    /// It feeds a row with a key and a number, or none, to a query that counts and sums.
+    Sum(&'static [u8], Option<i64>, Fed),
     /// A turn of a spill writes these keys, with values of so many bytes.
     Write(&'static [&'static [u8]], usize),
     /// A turn writes so many rows.
@@ -31,7 +31,7 @@ pub enum Step {
     /// A turn writes just the last so many of so many keys of four bytes, ascending.
     Last(u32, u32),
     /// A turn writes these keys, with their counts and sums.
-    Totals(&'static [(&'static [u8], i64, i64)]),
+    Totals(&'static [(&'static [u8], i64, Option<i64>)]),
     /// A turn asks for so many bytes.
     Ask(u64),
     /// A turn gives so many bytes back.
@@ -45,6 +45,9 @@ pub enum Step {
     /// Whether it serves orders.
     ServesOrders(bool),
 }
+
+/// The value of one row in a query that counts.
+const ONE: [u8; 17] = [1, 0, 0, 0, 0, 0, 0, 0, 0, 0, 0, 0, 0, 0, 0, 0, 1];
 
 /// Whether the page's rows have these keys, and values of this length.
 fn has_keys(page: &Page, keys: &[&[u8]], length: usize) -> bool {
@@ -67,9 +70,8 @@ fn key_at(place: u32) -> [u8; 4] {
 
 /// Feeds so many rows, each with a key of its own. Whether all were taken.
 fn takes_keys<C: Consumer>(task: &mut Task<C>, count: u32) -> Result<bool, Fail> {
-    let one = [0, 0, 0, 0, 0, 0, 0, 0, 0, 0, 0, 0, 0, 0, 0, 1];
     for place in 0..count {
-        if task.feed(&key_at(place), &one)? != Fed::Taken {
+        if task.feed(&key_at(place), &ONE)? != Fed::Taken {
             return Ok(false);
         }
     }
@@ -100,47 +102,76 @@ fn has_last(page: &Page, keys: &[[u8; 4]]) -> bool {
     true
 }
 
+/// What is told of a value of the group at a place.
+fn told_at(group: &Kind, value: &[u8], place: usize) -> Finished {
+    let Kind::Group(aggs) = group else {
+        return Finished::Wide;
+    };
+    if !group.takes(value) || place >= aggs.items().len() {
+        return Finished::Wide;
+    }
+    finish(aggs, value, place)
+}
+
+/// The count that is told at the first place, and the sum at the second, which may be missing.
+fn totals_in(group: &Kind, value: &[u8]) -> Option<(i64, Option<i64>)> {
+    match (told_at(group, value, 0), told_at(group, value, 1)) {
+        (Finished::Number(count), Finished::Number(sum)) => Some((count, Some(sum))),
+        (Finished::Number(count), Finished::Missing) => Some((count, None)),
+        _ => None,
+    }
+}
+
 /// The key of a row of groups, with the numbers of a count and a sum.
-pub fn group_in<'a>(aggs: &AggList, row: RowView<'a>) -> Option<(&'a [u8], i64, i64)> {
-    if row.count() != 2 || row.field(1).len() != 32 || aggs.items().len() != 2 {
+pub fn group_in<'a>(group: &Kind, row: RowView<'a>) -> Option<(&'a [u8], i64, Option<i64>)> {
+    if row.count() != 2 {
         return None;
     }
-    let value = row.field(1);
-    Some((
-        row.field(0),
-        finish(aggs, value, 0)?,
-        finish(aggs, value, 1)?,
-    ))
+    let (count, sum) = totals_in(group, row.field(1))?;
+    Some((row.field(0), count, sum))
+}
+
+/// The kind of groups that are counted and summed.
+pub fn counts_and_sums(alloc: Global) -> Result<Kind, AllocError> {
+    Ok(Kind::Group(AggList::of(alloc, &[Agg::Count, Agg::Sum])?))
 }
 
 /// Whether the page's rows are these groups.
 fn has_groups(
     alloc: Global,
     page: &Page,
-    groups: &[(&[u8], i64, i64)],
+    groups: &[(&[u8], i64, Option<i64>)],
 ) -> Result<bool, AllocError> {
-    let aggs = AggList::of(alloc, &[Agg::Count, Agg::Sum])?;
+    let kind = counts_and_sums(alloc)?;
     if page.rows() != groups.len() {
         return Ok(false);
     }
     for (i, group) in groups.iter().enumerate() {
-        if group_in(&aggs, page.row(i)) != Some(*group) {
+        if group_in(&kind, page.row(i)) != Some(*group) {
             return Ok(false);
         }
     }
     Ok(true)
 }
 
-/// Feeds a row with a key and a number to a query that counts and sums.
+/// The same number with more bits.
+fn wide(number: Option<i64>) -> Option<i128> {
+    match number {
+        Some(number) => Some(i128::from(number)),
+        None => None,
+    }
+}
+
+/// Feeds a row with a key and a number, or none, to a query that counts and sums.
 pub fn feed_sum<C: Consumer>(
     task: &mut Task<C>,
     value: &mut Vec<u8>,
     key: &[u8],
-    number: i64,
+    number: Option<i64>,
 ) -> Result<Fed, Fail> {
     value.clear();
-    put_partial(value, 1)?;
-    put_partial(value, i128::from(number))?;
+    put_partial(value, Some(1))?;
+    put_partial(value, wide(number))?;
     task.feed(key, value)
 }
 
@@ -188,15 +219,14 @@ fn counts<C: Consumer>(
     length: usize,
     answer: Fed,
 ) -> Result<bool, Fail> {
-    let one = [0, 0, 0, 0, 0, 0, 0, 0, 0, 0, 0, 0, 0, 0, 0, 1];
-    Ok(task.feed(&vec![in alloc; byte; length]?, &one)? == answer)
+    Ok(task.feed(&vec![in alloc; byte; length]?, &ONE)? == answer)
 }
 
 fn sums<C: Consumer>(
     alloc: Global,
     task: &mut Task<C>,
     key: &[u8],
-    number: i64,
+    number: Option<i64>,
     answer: Fed,
 ) -> Result<bool, Fail> {
     feed_sum(task, &mut Vec::new(alloc), key, number).map(|fed| fed == answer)
@@ -222,7 +252,7 @@ fn writes_last<C: Consumer>(
 fn writes_groups<C: Consumer>(
     alloc: Global,
     task: &mut Task<C>,
-    groups: &[(&[u8], i64, i64)],
+    groups: &[(&[u8], i64, Option<i64>)],
 ) -> Result<bool, Fail> {
     if !turns(task, Turn::Write)? {
         return Ok(false);

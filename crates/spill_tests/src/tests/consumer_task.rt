@@ -34,8 +34,7 @@ fn may_take(kind: &Option<Kind>, key: &[u8], value: &[u8]) -> bool
     }
     match kind {
         None => false,
-        Some(Kind::Order) => true,
-        Some(Kind::Group(aggs)) => value.len() == 16 * aggs.items().len(),
+        Some(kind) => kind.takes(value),
     }
 }
 

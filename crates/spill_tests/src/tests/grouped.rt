@@ -1,8 +1,8 @@
 //! A hundred thousand drawn entries, spilled in parts of every size, beside std's ordered map.
 
-use crate::tests::consumer_steps::{feed_sum, group_in, groups_of};
+use crate::tests::consumer_steps::{counts_and_sums, feed_sum, group_in};
 use crate::tests::consumer_task::Task;
-use aggregate::{Agg, AggList};
+use aggregate::Kind;
 use consumer_trait::{Consumer, Fed, Turn};
 use group_map::GroupMap;
 use row_page::{Page, RowView};
@@ -11,8 +11,17 @@ use std::collections::BTreeMap;
 use std::process::Abort;
 use std::test::Fail;
 
-/// What a group comes to: how many rows it has, and their sum.
-type Totals = BTreeMap<Vec<u8>, (i64, i64)>;
+/// What a group comes to: how many rows it has, and their sum, which is missing where no row has a number.
+type Totals = BTreeMap<Vec<u8>, (i64, Option<i64>)>;
+
+/// The sum of two numbers, of which one or both may be missing.
+fn joined(a: Option<i64>, b: Option<i64>) -> Option<i64> {
+    match (a, b) {
+        (Some(a), Some(b)) => Some(a.wrapping_add(b)),
+        (None, b) => b,
+        (a, None) => a,
+    }
+}
 
 /// Adds rows to the group of this key.
 fn add(
@@ -20,10 +29,10 @@ fn add(
     totals: &mut Totals,
     key: &[u8],
     count: i64,
-    sum: i64,
+    sum: Option<i64>,
 ) -> Result<(), AllocError> {
     if let Some(total) = totals.get_mut(key) {
-        *total = (total.0.wrapping_add(count), total.1.wrapping_add(sum));
+        *total = (total.0.wrapping_add(count), joined(total.1, sum));
         return Ok(());
     }
     match totals.insert(key.to_vec(alloc)?, (count, sum)) {
@@ -35,12 +44,12 @@ fn add(
 /// Adds a row to `totals`. Its key stands above `last`, which then is that key.
 fn take_row(
     alloc: Global,
-    aggs: &AggList,
+    group: &Kind,
     row: RowView,
     last: &mut Vec<u8>,
     totals: &mut Totals,
 ) -> Result<(), Fail> {
-    let (key, count, sum) = group_in(aggs, row).ok_or("a key, a count and a sum")?;
+    let (key, count, sum) = group_in(group, row).ok_or("a key, a count and a sum")?;
     if last.as_slice() >= key {
         return Err("the keys ascend, and each stands once".into());
     }
@@ -57,9 +66,9 @@ fn take_page(
     last: &mut Vec<u8>,
     totals: &mut Totals,
 ) -> Result<(), Fail> {
-    let aggs = AggList::of(alloc, &[Agg::Count, Agg::Sum])?;
+    let group = counts_and_sums(alloc)?;
     for i in 0..page.rows() {
-        take_row(alloc, &aggs, page.row(i), last, totals)?;
+        take_row(alloc, &group, page.row(i), last, totals)?;
     }
     Ok(())
 }
@@ -106,7 +115,7 @@ fn feed_or_spill<C: Consumer>(
     spilled: &mut Totals,
     grant: u64,
     key: &[u8],
-    number: i64,
+    number: Option<i64>,
 ) -> Result<bool, Fail> {
     if is_taken(alloc, task, key, number)? {
         return Ok(false);
@@ -123,7 +132,7 @@ fn is_taken<C: Consumer>(
     alloc: Global,
     task: &mut Task<C>,
     key: &[u8],
-    number: i64,
+    number: Option<i64>,
 ) -> Result<bool, Fail> {
     Ok(feed_sum(task, &mut Vec::new(alloc), key, number)? == Fed::Taken)
 }
@@ -148,6 +157,14 @@ struct Beside {
     key: Vec<u8>,
 }
 
+/// The number of a draw, which is missing about every fourth time.
+fn number_of(draw: u64) -> Option<i64> {
+    if draw / 4096 % 4 == 0 {
+        return None;
+    }
+    Some((draw / 65536 % 1000) as i64 - 500)
+}
+
 /// Feeds the row of a draw, where a map has spilled so often. Whether it spilled for it.
 fn feed_drawn<C: Consumer>(
     alloc: Global,
@@ -162,7 +179,7 @@ fn feed_drawn<C: Consumer>(
         draw / 4294967296 % row[0].max(1),
         row[1] == 1,
     )?;
-    let number = (draw / 65536 % 1000) as i64 - 500;
+    let number = number_of(draw);
     add(alloc, &mut beside.plain, &beside.key, 1, number)?;
     let grant = row[2 + spills % 4];
     feed_or_spill(alloc, task, &mut beside.spilled, grant, &beside.key, number)
@@ -191,7 +208,7 @@ fn feed_beside<C: Consumer>(
 }
 
 fn feed_map(alloc: Global, row: &[u64; 7], beside: &mut Beside) -> Result<usize, Fail> {
-    let kind = groups_of(alloc, &[Agg::Count, Agg::Sum])?;
+    let kind = counts_and_sums(alloc)?;
     let mut task = Task::begun(alloc, GroupMap::new(alloc), kind)?;
     feed_beside(alloc, &mut task, row, beside)
 }

@@ -27,16 +27,16 @@ fn a_known_key_costs_nothing(rt: HostRuntime) -> Result<(), Fail> {
         Step::Grant(200),
         Step::Count(b'a', 1, Fed::Taken),
         Step::Count(b'a', 1, Fed::Taken),
-        // It costs 152, and one entry of 49 leaves 151.
+        // It costs 151, and one entry of 50 leaves 150.
         Step::Count(
             b'b',
-            104,
+            102,
             Fed::Need {
                 must: 1,
                 wish: 16384,
             },
         ),
-        Step::Count(b'b', 103, Fed::Taken),
+        Step::Count(b'b', 101, Fed::Taken),
         // No room is left.
         Step::Count(b'a', 1, Fed::Taken),
         Step::Used(200),
@@ -52,7 +52,7 @@ fn a_need_says_what_is_missing_and_what_is_welcome(rt: HostRuntime) -> Result<()
             b'a',
             1,
             Fed::Need {
-                must: 49,
+                must: 50,
                 wish: 16384,
             },
         ),
@@ -60,11 +60,11 @@ fn a_need_says_what_is_missing_and_what_is_welcome(rt: HostRuntime) -> Result<()
             1,
             60000,
             Fed::Need {
-                must: 60048,
-                wish: 60048,
+                must: 60049,
+                wish: 60049,
             },
         ),
-        Step::Grant(48),
+        Step::Grant(49),
         Step::Count(
             1,
             60000,
@@ -88,19 +88,44 @@ fn a_need_says_what_is_missing_and_what_is_welcome(rt: HostRuntime) -> Result<()
 #[test]
 fn rows_of_one_key_are_counted_and_summed(rt: HostRuntime) -> Result<(), Fail> {
     let steps: &[Step] = &[
-        Step::Grant(195),
-        Step::Sum(b"b", 5, Fed::Taken),
-        Step::Sum(b"a", -7, Fed::Taken),
-        Step::Sum(b"b", 100, Fed::Taken),
-        Step::Sum(b"a", i64::MAX, Fed::Taken),
-        Step::Sum(b"c", 0, Fed::Taken),
-        Step::Sum(b"b", -105, Fed::Taken),
+        Step::Grant(201),
+        Step::Sum(b"b", Some(5), Fed::Taken),
+        Step::Sum(b"a", Some(-7), Fed::Taken),
+        Step::Sum(b"b", Some(100), Fed::Taken),
+        Step::Sum(b"a", Some(i64::MAX), Fed::Taken),
+        Step::Sum(b"c", Some(0), Fed::Taken),
+        Step::Sum(b"b", Some(-105), Fed::Taken),
         Step::Ask(24),
-        Step::Totals(&[(b"a", 2, i64::MAX - 7), (b"b", 3, 0), (b"c", 1, 0)]),
-        Step::Freed(195),
+        Step::Totals(&[
+            (b"a", 2, Some(i64::MAX - 7)),
+            (b"b", 3, Some(0)),
+            (b"c", 1, Some(0)),
+        ]),
+        Step::Freed(201),
         Step::Used(0),
         Step::Done,
         Step::Holds(false),
+    ];
+    check(&rt, rt.alloc(), &[Agg::Count, Agg::Sum], steps)
+}
+
+#[test]
+fn missing_numbers_meet_those_that_are_there(rt: HostRuntime) -> Result<(), Fail> {
+    let steps: &[Step] = &[
+        // Three entries of 67.
+        Step::Grant(201),
+        Step::Sum(b"c", None, Fed::Taken),
+        Step::Sum(b"a", None, Fed::Taken),
+        Step::Sum(b"b", Some(-5), Fed::Taken),
+        Step::Sum(b"a", Some(7), Fed::Taken),
+        Step::Sum(b"b", None, Fed::Taken),
+        Step::Sum(b"c", None, Fed::Taken),
+        Step::Sum(b"a", None, Fed::Taken),
+        Step::Ask(24),
+        Step::Totals(&[(b"a", 3, Some(7)), (b"b", 2, Some(-5)), (b"c", 2, None)]),
+        Step::Freed(201),
+        Step::Used(0),
+        Step::Done,
     ];
     check(&rt, rt.alloc(), &[Agg::Count, Agg::Sum], steps)
 }
@@ -141,11 +166,11 @@ fn a_reset_amid_a_spill_leaves_nothing(rt: HostRuntime) -> Result<(), Fail> {
         // It serves groups alone.
         Step::ServesOrders(false),
         Step::Groups(&[Agg::Count, Agg::Sum]),
-        Step::Grant(65),
-        Step::Sum(b"x", 7, Fed::Taken),
+        Step::Grant(67),
+        Step::Sum(b"x", Some(7), Fed::Taken),
         Step::Ask(8),
-        Step::Totals(&[(b"x", 1, 7)]),
-        Step::Freed(65),
+        Step::Totals(&[(b"x", 1, Some(7))]),
+        Step::Freed(67),
         Step::Used(0),
         Step::Done,
     ];
@@ -163,8 +188,8 @@ fn check_told(
     used: u64,
 ) -> Result<(), Fail> {
     let steps = [
-        // 300 keys of four bytes cost 52 each.
-        Step::Grant(15600),
+        // 300 keys of four bytes cost 53 each.
+        Step::Grant(15900),
         Step::Keys(300),
         Step::Ask(2400),
         Step::Grant(told),
@@ -178,7 +203,7 @@ fn check_told(
 
 #[test]
 fn a_spill_writes_as_many_of_the_last_keys_as_it_can_order(rt: HostRuntime) -> Result<(), Fail> {
-    check_told(&rt, rt.alloc(), 0, 128, 6656, 8944)?;
-    check_told(&rt, rt.alloc(), 800, 228, 12656, 3744)?;
-    check_told(&rt, rt.alloc(), 2400, 300, 18000, 0)
+    check_told(&rt, rt.alloc(), 0, 128, 6784, 9116)?;
+    check_told(&rt, rt.alloc(), 800, 228, 12884, 3816)?;
+    check_told(&rt, rt.alloc(), 2400, 300, 18300, 0)
 }

@@ -25,7 +25,7 @@ the whole heap, one worker: run|--workers|1|--reserved|0|--fraction|1000|--heap|
 options behind the job: run|job|--max-rows|2 -> 4 1073741824 314572800 600 500 10000 2 [job]
 options on both sides of the job: run|--heap=8|job|--storage=0 -> 4 8 314572800 600 0 10000 10000000 [job]
 rows with a heap: trial|--workers|1|--reserved|0|--fraction|1000|--heap|67108864|10000 -> 1 67108864 0 1000 500 10000 10000
-rows in small partitions: trial|--workers|1|--part-rows|50|--reserved|0|--fraction|1000|--heap|5400|1000 -> 1 5400 0 1000 500 50 1000
+rows in small partitions: trial|--workers|1|--part-rows|50|--reserved|0|--fraction|1000|--heap|5408|1000 -> 1 5408 0 1000 500 50 1000
 an option twice: run|--workers|2|--workers|2|job -> bad
 an option twice, in both ways: run|--workers|1|--workers=1|job -> bad
 an option twice, behind the job: run|--heap=4|job|--heap=4 -> bad

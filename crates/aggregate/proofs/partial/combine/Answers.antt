@@ -1,12 +1,14 @@
-use Rattle.std.proofs.Common.{ap, arith, length}
-use Rattle.aggregate.proofs.Combining.{one_joined, two_summed}
+use Rattle.aggregate.proofs.Tested.{length_value, tested}
 use Rattle.aggregate.proofs.partial.combine.Goals as goal
 
-pub returns-in-len1 : goal.returns-in-len1
-returns-in-len1 c =
-    let many = ap length c.items.ensures.items in
-    one_joined c.args.aggs.now c.args.into.now c.args.from.now c.join_bytes-in-len1.new.into (omega arith) (omega arith) (omega arith) (rw c.items.ensures.items at c.join_bytes-in-len1.ensures)
+pub combine_slots-requires-clause-into : goal.combine_slots-requires-clause-into
+combine_slots-requires-clause-into c = tested c.args.aggs.now c.args.into.now c.requires.into
 
-pub returns-then-has_two_sums : goal.returns-then-has_two_sums
-returns-then-has_two_sums c =
-    two_summed c.args.aggs.now c.args.into.now c.args.from.now c.join_bytes.new.into c.join_bytes-then-has_two_sums.new.into (c.has_two_sums.ensures c.if-has_two_sums.true) c.requires.into c.join_bytes.ensures c.join_bytes-then-has_two_sums.ensures
+pub combine_slots-requires-clause-from : goal.combine_slots-requires-clause-from
+combine_slots-requires-clause-from c = tested c.args.aggs.now c.args.from.now c.requires.from
+
+pub combine_slots-requires-clause-long : goal.combine_slots-requires-clause-long
+combine_slots-requires-clause-long c = length_value c.args.aggs.now c.args.into.now c.requires.into
+
+pub combine_slots-requires-clause-alike : goal.combine_slots-requires-clause-alike
+combine_slots-requires-clause-alike c = length_value c.args.aggs.now c.args.from.now c.requires.from

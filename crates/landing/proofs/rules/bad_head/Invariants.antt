@@ -3,5 +3,5 @@ use Rattle.csv.specs.Records.{fields_of}
 use Rattle.landing.specs.Checks.{bad_place}
 use Rattle.landing.proofs.rules.bad_head.Given as goal
 
-abbrev pub invariant-loop-place : goal.invariant-loop-place
-invariant-loop-place l = bad_place l.heads (fields_of l.row) ≡ bad_place (drop l.place-index l.heads) (fields_of l.row)
+abbrev pub invariant-loop-head : goal.invariant-loop-head
+invariant-loop-head l = bad_place l.heads (fields_of l.row) ≡ bad_place (drop l.head-index l.heads) (fields_of l.row)

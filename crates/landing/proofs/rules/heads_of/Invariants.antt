@@ -1,5 +1,6 @@
-use Rattle.std.proofs.Common.{◌≡◌, get_or, map, take}
+use Rattle.std.proofs.Common.{◌≡◌, map, take}
+use Rattle.landing.specs.Checks.{head_at}
 use Rattle.landing.proofs.rules.heads_of.Given as goal
 
-abbrev pub invariant-loop-k : goal.invariant-loop-k
-invariant-loop-k l = l.heads.items ≡ map (λ k. get_or l.places k 0) (take l.k-index l.numbers)
+abbrev pub invariant-loop-place : goal.invariant-loop-place
+invariant-loop-place l = l.heads.items ≡ map (head_at l.places) (take l.place-index l.numbers)

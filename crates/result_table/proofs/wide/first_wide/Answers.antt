@@ -5,11 +5,11 @@ use Rattle.aggregate.specs.declared.kind.Kind.TheVariants.{Group}
 use Rattle.aggregate.specs.declared.key.Key.{Key}
 use Rattle.run_file.specs.declared.run.Run.{Run}
 use Rattle.run_file.specs.Shelved.{files_on}
-use Rattle.job_plan.specs.Telling.{is_wide, value_numbers}
+use Rattle.job_plan.specs.Telling.{is_wide, leaves_i64, value_partials}
 use Rattle.run_file.specs.AtEntries.{entry_at}
 use Rattle.result_table.specs.Ahead.{GoesTo, TakesEntry}
 use Rattle.result_table.proofs.Leaving.{leaves_trans}
-use Rattle.result_table.proofs.WideKeys.{goes_sound, is_outside, wide_ended, wide_found, wide_next}
+use Rattle.result_table.proofs.WideKeys.{goes_sound, wide_ended, wide_found, wide_next}
 use Rattle.result_table.proofs.wide.first_wide.Goals as goal
 
 pub returns-in_err-go_on-clause-undamaged : goal.returns-in_err-go_on-clause-undamaged
@@ -37,7 +37,7 @@ pub returns-then-has_wide-clause-ok : goal.returns-then-has_wide-clause-ok
 returns-then-has_wide-clause-ok g c =
     let count = length c.args.aggs.now in
     let wide : is_wide count (entry_at c.go_on.new.self) ≡ true =
-    ap (λ (v : List ℕ). list_any is_outside (value_numbers count v)) (sym c.value.ensures.value) ∙ sym c.has_wide.ensures ∙ c.if-has_wide.true in
+    ap (λ (v : List ℕ). list_any leaves_i64 (value_partials count v)) (sym c.value.ensures.value) ∙ sym c.has_wide.ensures ∙ c.if-has_wide.true in
     IfOk-weaker c.copy_key.result _ _
     (λ key e entries ahead.
     let still = c.entries.invariant.ahead entries ahead in
@@ -50,7 +50,7 @@ entries-preserved g c =
     let count = length c.args.aggs.now in
     let files = files_on g.H.Shelf.disk_of g.D.Disk.files c.go_on.new.shelf in
     let narrow : is_wide count (entry_at c.go_on.new.self) ≡ false =
-    ap (λ (v : List ℕ). list_any is_outside (value_numbers count v)) (sym c.value.ensures.value) ∙ sym c.has_wide.ensures ∙ c.if-has_wide.false in
+    ap (λ (v : List ℕ). list_any leaves_i64 (value_partials count v)) (sym c.value.ensures.value) ∙ sym c.has_wide.ensures ∙ c.if-has_wide.false in
     record {
       run = c.go_on.ensures.run ∙ c.entries.invariant.run;
       kind = c.go_on.ensures.kind (Group c.args.aggs.now) c.entries.invariant.kind;

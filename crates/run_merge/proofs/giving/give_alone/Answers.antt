@@ -25,7 +25,7 @@ returns-clause-formed c row =
     formed_among Order readers place (row_lent readers (Some place) row) first.within
     (λ reader is.
     let at = c.requires.stand place reader first.within is first.stands in
-    formed_alike Order reader (row_lent readers (Some place) row) (entry_at reader).value at refl (own_row Order readers place reader row first.within is at))
+    formed_alike Order reader (row_lent readers (Some place) row) (entry_at reader).value at tt refl (own_row Order readers place reader row first.within is at))
 
 pub returns-clause-lent : goal.returns-clause-lent
 returns-clause-lent c =

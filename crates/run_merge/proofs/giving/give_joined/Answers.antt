@@ -1,13 +1,14 @@
-use Rattle.std.proofs.Common.{◌≡◌, ◌∷◌, [], length, refl, ap, ◌∙◌}
+use Rattle.std.proofs.Common.{◌≡◌, ◌∷◌, [], length, refl, sym, ap, subst, ◌∙◌}
 use Rattle.std.proofs.lemmas.List.{take_at}
 use Rattle.std.specs.Prelude.{Some}
 use Rattle.aggregate.specs.declared.kind.Kind.TheVariants.{Group}
+use Rattle.aggregate.specs.Values.{IsValueOf}
 use Rattle.run_file.specs.AtEntries.{entry_at}
 use Rattle.run_merge.specs.Giving.{IsTaken}
 use Rattle.run_merge.specs.Heads.{row_lent}
 use Rattle.run_merge.proofs.Finishing.{formed_among}
 use Rattle.run_merge.proofs.Firsts.{read_again}
-use Rattle.run_merge.proofs.Formed.{formed_alike, own_row, value_size}
+use Rattle.run_merge.proofs.Formed.{formed_alike, own_row, value_formed}
 use Rattle.run_merge.proofs.Joining.{group_given, group_taken}
 use Rattle.run_merge.proofs.giving.give_joined.Goals as goal
 
@@ -18,7 +19,7 @@ join_others-requires-clause-value c =
     let first = c.take_first-first.ensures.first in
     let at = c.requires.stand place reader first.within c.index-readers-first.is first.stands in
     let put : c.deref_mut.result.now ≡ (entry_at reader).value = rw (c.deref_mut.ensures.value, c.in_ok-extend_from_slice.ensures.items, c.clear.ensures.items) c.value.ensures in
-    ap length put ∙ value_size c.args.aggs.now reader at
+    subst (IsValueOf (Group c.args.aggs.now)) (sym put) (value_formed c.args.aggs.now reader at)
 
 pub returns-then-not-join_others-clause-gives : goal.returns-then-not-join_others-clause-gives
 returns-then-not-join_others-clause-gives c files entries coming =
@@ -46,7 +47,7 @@ returns-then-not-join_others-clause-formed c =
     formed_among (Group c.args.aggs.now) readers place (row_lent readers (Some place) c.args.row.now) first.within
     (λ reader is.
     let at = c.requires.stand place reader first.within is first.stands in
-    formed_alike (Group c.args.aggs.now) reader (row_lent readers (Some place) c.args.row.now) (entry_at reader).value at refl (own_row (Group c.args.aggs.now) readers place reader c.args.row.now first.within is at))
+    formed_alike (Group c.args.aggs.now) reader (row_lent readers (Some place) c.args.row.now) (entry_at reader).value at (value_formed c.args.aggs.now reader at) refl (own_row (Group c.args.aggs.now) readers place reader c.args.row.now first.within is at))
 
 pub returns-clause-gives : goal.returns-clause-gives
 returns-clause-gives c files entries coming =
@@ -76,4 +77,4 @@ returns-clause-formed c =
     let row_is : c.put_row.new.row ≡ (entry_at reader).key ∷ (c.join_others.new.value ∷ []) = c.in_ok-put_row.ensures ∙ rw (whole, c.key-key.ensures) refl in
     formed_among (Group c.args.aggs.now) readers place c.put_row.new.row first.within
     (λ each is.
-    rw (read_again readers place place reader each first.within refl c.index-readers-first.is is) (formed_alike (Group c.args.aggs.now) reader c.put_row.new.row c.join_others.new.value at (c.join_others.auto.value ∙ ap length put) row_is))
+    rw (read_again readers place place reader each first.within refl c.index-readers-first.is is) (formed_alike (Group c.args.aggs.now) reader c.put_row.new.row c.join_others.new.value at c.join_others.ensures.value (c.join_others.auto.value ∙ ap length put) row_is))

@@ -2,6 +2,7 @@ use Rattle.std.proofs.Common.{◌≡◌, ℕ, List, false, length}
 use Rattle.std.specs.Prelude.{Option}
 use Rattle.aggregate.specs.declared.kind.Kind.TheVariants.{Group}
 use Rattle.aggregate.specs.Totals.{Entry}
+use Rattle.aggregate.specs.Values.{IsValueOf}
 use Rattle.spill_disk.specs.Files.{Files}
 use Rattle.run_merge.specs.Giving.{IsTaken}
 use Rattle.run_merge.specs.Heads.{OnlyFalls}
@@ -15,6 +16,7 @@ invariant-others l = record {
       IsTaken files (Group l.aggs) l.readers l.fn.heads.items (record { key = l.key; value = l.fn.value }) entries →
       IsTaken files (Group l.aggs) l.readers l.heads.items (record { key = l.key; value = l.value }) entries;
   none : l.joined ≡ false → l.value ≡ l.fn.value;
+  value : IsValueOf (Group l.aggs) l.value;
   falls : OnlyFalls l.fn.heads.items l.heads.items;
 }
 

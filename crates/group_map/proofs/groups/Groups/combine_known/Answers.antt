@@ -2,8 +2,9 @@ use Rattle.std.proofs.Common.{◌≡◌, ◌+◌, ◌*◌, ◌-◌, Some, [], le
 use Rattle.std.proofs.lemmas.List.{with_items_is}
 use Rattle.std.specs.List.{position}
 use Rattle.std.specs.Prelude.{is_some}
+use Rattle.aggregate.proofs.Tested.{length_value}
 use Rattle.group_map.proofs.ByPlace.{is_key, known_is}
-use Rattle.group_map.proofs.Places.{combined_known, found_charged}
+use Rattle.group_map.proofs.Places.{combined_known, found_charged, found_formed}
 use Rattle.group_map.proofs.groups.Groups.combine_known.Goals as goal
 use borrow.Rule.Slice.PartMut.{put_mid, same_len_mid}
 
@@ -33,4 +34,13 @@ pub returns-clause-enough : goal.returns-clause-enough
 returns-clause-enough c = λ known.
     let groups = c.args.self.now in
     let found : position (is_key c.args.key.now) groups.keys.keys ≡ Some c.in-Some.place = sym c.place_of.ensures.place ∙ c.in-Some.is in
-    found_charged groups.width groups.keys.keys groups.values.items c.args.key.now c.args.value.now c.in-Some.place [] found groups.whole (c.requires.value ∙ sym c.requires.width)
+    found_charged groups.width groups.keys.keys groups.values.items c.args.key.now c.args.value.now c.in-Some.place [] found groups.whole (length_value c.args.aggs.now c.args.value.now c.requires.value ∙ sym c.requires.width)
+
+pub combine-requires-clause-into : goal.combine-requires-clause-into
+combine-requires-clause-into c =
+    let groups = c.args.self.now in
+    let at = groups.width * c.in-Some.place in
+    let n = at + groups.width - at in
+    let found : position (is_key c.args.key.now) groups.keys.keys ≡ Some c.in-Some.place = sym c.place_of.ensures.place ∙ c.in-Some.is in
+    found_formed c.args.aggs.now groups.width groups.keys.keys groups.values.items c.deref_mut.result.now c.args.key.now c.in-Some.place n []
+    found groups.whole c.deref_mut.ensures.value (omega arith) c.requires.formed

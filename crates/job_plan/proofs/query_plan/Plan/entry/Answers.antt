@@ -3,12 +3,12 @@ use Rattle.std.proofs.Props.{props}
 use Rattle.std.proofs.lemmas.List.{length-map}
 use Rattle.std.proofs.lemmas.Result.{on_ok_weaker}
 use Rattle.row_page.specs.Views.{fields_in}
-use Rattle.job_plan.specs.Entries.{field_bytes, key_of, value_of}
+use Rattle.job_plan.specs.Entries.{field_bytes, key_of, kind_of, value_of}
 use Rattle.job_plan.specs.Plans.{kept_at}
 use Rattle.job_plan.specs.Within.{HasColumnsOf}
 use Rattle.job_plan.specs.declared.planned.Planned.{Planned}
 use Rattle.job_plan.proofs.Queries.{kept_read, with_shape}
-use Rattle.job_plan.proofs.Sizes.{covers, covers-prop, key-long, value-kind, value-long}
+use Rattle.job_plan.proofs.Sizes.{covers, covers-prop, key-long, value-kind, value-long, value-prop}
 use Rattle.job_plan.proofs.query_plan.Plan.entry.Goals as goal
 
 pub put_key-requires-clause-covers : goal.put_key-requires-clause-covers
@@ -38,7 +38,8 @@ returns-clause-kind c =
     let same : kept_at plan c.args.query ≡ query.kept = kept_read plan.queries.items c.args.query query within c.index.ensures in
     on_ok_weaker c.put_value.result
     (λ h. (let is : c.put_value.new.value.items ≡ value_of query.kept row = cc h in
-    rw (same, is) (value-kind row query.kept))) c.put_value.ensures
+    rw (same, is) (with_shape plan.chain plan.queries.items plan.passes.items c.args.query query row _ plan.planned within c.index.ensures c.requires.row (value-prop (kind_of query.kept) (value_of query.kept row))
+    (λ n e eight s. value-kind row n query.kept s)))) c.put_value.ensures
 
 pub returns-clause-short_key : goal.returns-clause-short_key
 returns-clause-short_key c =

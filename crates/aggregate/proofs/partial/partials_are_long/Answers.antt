@@ -1,5 +1,5 @@
 use Rattle.aggregate.proofs.Numbers.{length-partial_of}
-use Rattle.aggregate.proofs.partial.partials_are_sixteen_bytes.Goals as goal
+use Rattle.aggregate.proofs.partial.partials_are_long.Goals as goal
 
 pub returns : goal.returns
 returns c = length-partial_of

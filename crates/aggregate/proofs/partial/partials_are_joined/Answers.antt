@@ -1,5 +1,5 @@
 use Rattle.aggregate.proofs.CombinedLaws.{joined_at}
-use Rattle.aggregate.proofs.partial.numbers_are_joined.Goals as goal
+use Rattle.aggregate.proofs.partial.partials_are_joined.Goals as goal
 
 pub returns : goal.returns
 returns c = joined_at
