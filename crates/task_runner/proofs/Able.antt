@@ -23,10 +23,10 @@ place_is [] place any within = absurd (omega (arith, within))
 place_is (x ∷ xs) zero any within = refl
 place_is (x ∷ xs) (suc place) any within = place_is xs place any (omega (arith, within))
 
-pub all_may : {D C : Type 0} (state : C → State) (files : D → Option Files) (lock : LockId) (owner : ℕ → Option ℕ) (count : ℕ) (given : RowsByName) (pass : PassView) (workers : List WorkerView) (posts : List (Post D C))
+pub all_may : {D C : Type 0} (state : C → State) (files : D → Option Files) (faults : D → ℕ) (lock : LockId) (owner : ℕ → Option ℕ) (count : ℕ) (given : RowsByName) (pass : PassView) (workers : List WorkerView) (posts : List (Post D C))
     → length workers ≡ count → count ≤ length posts → length posts < 2 ^ 32 → IsPass pass → MayDoAll lock owner pass workers → SaysAll (λ place. files_of files (slice_get posts place)) given pass count
-    → All (λ post. HasConsumers (map state post.consumers.items)) posts → AllMayRun state files lock owner count given pass workers posts
-all_may {D = D} {C = C} state files lock owner count given pass workers posts size most few_posts is may says consumers place worker post within =
+    → All (λ post. HasConsumers (map state post.consumers.items)) posts → AllMayRun state files faults lock owner count given pass workers posts
+all_may {D = D} {C = C} state files faults lock owner count given pass workers posts size most few_posts is may says consumers place worker post within =
     let below : place < count = omega (arith, within, size) in
     -- the worker of a partition of this place is the one that stands there
     let its : (k : ℕ) → part_at count place k % length workers ≡ place = λ k. ap (λ (n : ℕ). part_at count place k % n) size ∙ worker_of count place k below in

@@ -13,10 +13,10 @@ use Rattle.consumer_trait.specs.States.{State}
 use Rattle.worker_threads.specs.Places.{AtEachPlace, AtPlace}
 use Rattle.task_runner.specs.AllWorkers.{Finished, Finishes, Leaves, Reached, faults_of, files_of}
 use Rattle.task_runner.specs.Answers.{HasCauseAmong, NamesPost, NamesSomePost}
-use Rattle.task_runner.specs.AtOnce.{AreAnswers, Ran, TellsFirstFault}
+use Rattle.task_runner.specs.AtOnce.{AreAnswers, Ran, TellsFirstFault, TellsLowest}
 use Rattle.task_runner.specs.PartAnswers.{HoldsOwn}
-use Rattle.task_runner.specs.PassViews.{PassView}
-use Rattle.task_runner.specs.Workers.{IfSound}
+use Rattle.task_runner.specs.PassViews.{PassView, parts_of}
+use Rattle.task_runner.specs.Workers.{DoesAll, IfSound}
 use Rattle.task_runner.specs.Works.{IfNoRoom, ShowsNoRoom}
 use Rattle.task_runner.specs.declared.post.Post.{Post}
 use Rattle.task_runner.specs.declared.work_fault.WorkFault.{WorkFault}
@@ -41,6 +41,18 @@ pub ran_alike : {D C : Type 0} (state : C → State) (files : D → Option Files
     → AtEachPlace (Ran state files faults sizes count given inner) 0 olds news posts posts' told → AtEachPlace (Ran state files faults sizes count given pass) 0 olds news posts posts' told
 ran_alike state files faults sizes count given inner pass same olds news posts posts' told ran =
     subst (λ (view : PassView). AtEachPlace (Ran state files faults sizes count given view) 0 olds news posts posts' told) same ran
+
+-- ---- a fault that names its place
+
+cause_named : (was now : ℕ → ℕ) (place a b : ℕ) (answer : Result (Vec (Option Run)) WorkFault) → NamesPost place answer → was place ≡ a → now place ≡ b → HasCauseAmong (λ _. a) (λ _. b) answer → HasCauseAmong was now answer
+cause_named was now place a b (Ok x) names old new cause = tt
+cause_named was now place a b (Err (NoRoom asked held floor)) names old new cause = tt
+cause_named was now place a b (Err (DiskFault post)) names old new cause =
+    let first : was post ≡ a = ap was names ∙ old in
+    let then : now post ≡ b = ap now names ∙ new in
+    omega (arith, first, then, cause)
+cause_named was now place a b (Err (Damaged damage)) names old new cause = cause
+cause_named was now place a b (Err NoMemory) names old new cause = tt
 
 -- ---- a place of the lists
 
@@ -78,7 +90,7 @@ module _ {D C : Type 0} (state : C → State) (files : D → Option Files) (faul
     each = λ w any below.
         let at = here (Ran state files faults sizes count given pass) olds news posts posts' told ran w (omega (arith, below, size)) in
         at_lists (λ before after post post'. Leaves state files faults count w pass before after post post') olds news posts posts' w any
-        at.one at.one_after at.other at.other_after at.one_is at.one_left at.other_is at.other_left at.did.leaves;
+        at.one at.one_after at.other at.other_after at.one_is at.one_left at.other_is at.other_left at.did.ran.leaves;
     still = λ w any above.
         let same = ran.same_workers in
         get_or_past news w any (omega (arith, above, size, same)) ∙ sym (get_or_past olds w any (omega (arith, above, size)));
@@ -98,10 +110,10 @@ module _ {D C : Type 0} (state : C → State) (files : D → Option Files) (faul
   is_told k one other first second = let both : Some one ≡ Some other = sym first ∙ second in let same : one ≡ other = cc in same
 
   finishes_of : (place : ℕ) (before after : WorkerView) (post post' : Option (Post D C)) (answer : Result (Vec (Option Run)) WorkFault) (answers : Vec (Option Run)) → answer ≡ Ok answers
-      → IfOk answer (λ answers. Finishes state files count place given pass before after post post' answers.items) → Finishes state files count place given pass before after post post' answers.items
+      → IfOk answer (λ answers. Finishes state files faults count place given pass before after post post' answers.items) → Finishes state files faults count place given pass before after post post' answers.items
   finishes_of place before after post post' answer answers is done = rw is at done
 
-  pub finished_at_once : (all : List (List (Option Run))) → AreAnswers told all → Finished state files count count given pass olds news posts posts' all
+  pub finished_at_once : (all : List (List (Option Run))) → AreAnswers told all → Finished state files faults count count given pass olds news posts posts' all
   finished_at_once all are =
       let answered = ran.all_answered in
       let many = are.count in
@@ -110,9 +122,9 @@ module _ {D C : Type 0} (state : C → State) (files : D → Option Files) (faul
         each = λ w any below.
             let at = here (Ran state files faults sizes count given pass) olds news posts posts' told ran w (omega (arith, below, size)) in
             let list = are.each w (omega (arith, below, size, answered)) in
-            let done = finishes_of w at.one at.one_after (Some at.other) (Some at.other_after) at.told list.0 (is_told w at.told (Ok list.0) at.told_is list.1) at.did.finishes in
-            subst (λ (answers : List (Option Run)). Finishes state files count w given pass (get_or olds w any) (get_or news w any) (slice_get posts w) (slice_get posts' w) answers) (sym list.2)
-            (at_lists (λ before after post post'. Finishes state files count w given pass before after post post' (list.0).items) olds news posts posts' w any
+            let done = finishes_of w at.one at.one_after (Some at.other) (Some at.other_after) at.told list.0 (is_told w at.told (Ok list.0) at.told_is list.1) at.did.ran.finishes in
+            subst (λ (answers : List (Option Run)). Finishes state files faults count w given pass (get_or olds w any) (get_or news w any) (slice_get posts w) (slice_get posts' w) answers) (sym list.2)
+            (at_lists (λ before after post post'. Finishes state files faults count w given pass before after post post' (list.0).items) olds news posts posts' w any
             at.one at.one_after at.other at.other_after at.one_is at.one_left at.other_is at.other_left done);
       }
 
@@ -134,7 +146,7 @@ module _ {D C : Type 0} (state : C → State) (files : D → Option Files) (faul
             let is : at.told ≡ Err (Damaged damage) = is_told first.place at.told (Err (Damaged damage)) at.told_is first.is in
             let own = holds first.place (omega (arith, within, answered, size)) in
             let there : HoldsOwn (files at.other.disk) given pass count first.place rows = subst (λ (o : Option (Post D C)). HoldsOwn (files_of files o) given pass count first.place rows) at.other_is own in
-            let never : IfSound (λ _. ⊤) at.told = at.did.sound rows there in
+            let never : IfSound (λ _. ⊤) at.told = at.did.ran.sound rows there in
             rw is at never
       ]
 
@@ -152,7 +164,7 @@ module _ {D C : Type 0} (state : C → State) (files : D → Option Files) (faul
             let within = first.within in
             let at = here (Ran state files faults sizes count given pass) olds news posts posts' told ran first.place (omega (arith, within, answered)) in
             let is : at.told ≡ Err (NoRoom asked held floor) = is_told first.place at.told (Err (NoRoom asked held floor)) at.told_is first.is in
-            let room : IfNoRoom at.told (λ asked held floor. (task : ℕ) × ShowsNoRoom sizes (own_of at.one_after) task asked held floor) = at.did.no_room in
+            let room : IfNoRoom at.told (λ asked held floor. (task : ℕ) × ShowsNoRoom sizes (own_of at.one_after) task asked held floor) = at.did.ran.no_room in
             let shows : (task : ℕ) × ShowsNoRoom sizes (own_of at.one_after) task asked held floor = rw is at room in (
               first.place,
               shows.0,
@@ -199,6 +211,32 @@ module _ {D C : Type 0} (state : C → State) (files : D → Option Files) (faul
             let within = first.within in
             let at = here (Ran state files faults sizes count given pass) olds news posts posts' told ran first.place (omega (arith, within, answered)) in
             let is : at.told ≡ Err fault = is_told first.place at.told (Err fault) at.told_is first.is in
-            let cause = at.did.cause before now (ap (λ (o : Option (Post D C)). faults_of faults o) at.other_is) (ap (λ (o : Option (Post D C)). faults_of faults o) at.other_left) in
+            let cause = cause_named before now first.place (faults at.other.disk) (faults at.other_after.disk) at.told at.did.names (ap (λ (o : Option (Post D C)). faults_of faults o) at.other_is) (ap (λ (o : Option (Post D C)). faults_of faults o) at.other_left) at.did.ran.cause in
             cause_fault T before now fault (subst (λ (answer : Result (Vec (Option Run)) WorkFault). HasCauseAmong before now answer) is cause)
+      ]
+
+  -- ---- whose it is
+
+  pub lowest_at_once : {T : Type 0} (result : Result T WorkFault) → TellsFirstFault told result → TellsLowest pass count olds news result
+  lowest_at_once (Ok all) tells = tt
+  lowest_at_once {T = T} (Err fault) tells =
+      elim tells [
+        | inl none ↦ inl none
+        | inr first ↦ inr (
+            let answered = ran.all_answered in
+            let within = first.within in
+            let at = here (Ran state files faults sizes count given pass) olds news posts posts' told ran first.place (omega (arith, within, answered)) in
+            let is : at.told ≡ Err fault = is_told first.place at.told (Err fault) at.told_is first.is in
+            record {
+              place = first.place;
+              within = omega (arith, within, answered, size);
+              names = subst (λ (answer : Result (Vec (Option Run)) WorkFault). NamesPost first.place answer) is at.did.names;
+              below = λ w any lower.
+                  let one = here (Ran state files faults sizes count given pass) olds news posts posts' told ran w (omega (arith, lower, within, answered)) in
+                  let list = first.before w lower in
+                  let done = finishes_of w one.one one.one_after (Some one.other) (Some one.other_after) one.told list.0 (is_told w one.told (Ok list.0) one.told_is list.1) one.did.ran.finishes in
+                  let does : DoesAll pass.first count w (parts_of pass) one.one one.one_after = record { count = done.tasks; all = done.count; does = done.does } in
+                  subst (λ (s : WorkerView). DoesAll pass.first count w (parts_of pass) s (get_or news w any)) (sym (value_at olds w one.one any one.one_is))
+                  (subst (λ (s : WorkerView). DoesAll pass.first count w (parts_of pass) one.one s) (sym (value_at news w one.one_after any one.one_left)) does);
+            })
       ]

@@ -13,7 +13,7 @@ use Rattle.task_runner.specs.declared.post.Post.{Post}
 
 pub finishes_of : {D C : Type 0} (state : C → State) (files : D → Option Files) (faults : D → ℕ) (workers place : ℕ) (given : RowsByName) (pass : PassView) (before after : WorkerView) (post post' : Post D C) (tasks : ℕ) (answers : List (Option Run))
     → DoesFirst given pass workers place (scene_by before (map state post.consumers.items) (files post.disk) (faults post.disk)) (scene_by after (map state post'.consumers.items) (files post'.disk) (faults post'.disk)) tasks answers
-    → IsCount workers place (parts_of pass) tasks → Finishes state files workers place given pass before after (Some post) (Some post') answers
+    → IsCount workers place (parts_of pass) tasks → Finishes state files faults workers place given pass before after (Some post) (Some post') answers
 finishes_of state files faults workers place given pass before after post post' tasks answers first count = record {
   tasks = tasks;
   count = count;

@@ -1,4 +1,6 @@
 mod Readers
+mod RanBenches
+mod RanTasks
 mod Able
 mod FirstAnswers
 mod AllAtOnce

@@ -49,8 +49,8 @@ made_new before (Some run) made = made.fresh
 
 -- ---- the runs that all workers answered, a list for each query
 
-module _ {D C : Type 0} (state : C → State) (files : D → Option Files) (workers : ℕ) (given : RowsByName) (pass : PassView) (olds news : List WorkerView) (posts posts' : List (Post D C)) (all : List (List (Option Run))) (any : WorkerView)
-    (some : 1 ≤ workers) (done : Finished state files workers workers given pass olds news posts posts' all) where
+module _ {D C : Type 0} (state : C → State) (files : D → Option Files) (faults : D → ℕ) (workers : ℕ) (given : RowsByName) (pass : PassView) (olds news : List WorkerView) (posts posts' : List (Post D C)) (all : List (List (Option Run))) (any : WorkerView)
+    (some : 1 ≤ workers) (done : Finished state files faults workers workers given pass olds news posts posts' all) where
   abbrev n : ℕ
   n = queries_of pass
 
@@ -178,8 +178,8 @@ module _ {D C : Type 0} (state : C → State) (files : D → Option Files) (work
             i j k l below below' on called
 
     -- no file was made or changed but those of the runs
-    pub only_all : (faults : D → ℕ) → 1 ≤ n → Reached state files faults workers workers pass olds news posts posts' → LeavesOnlyRuns before after lists
-    only_all faults queries so_far disk file apart =
+    pub only_all : 1 ≤ n → Reached state files faults workers workers pass olds news posts posts' → LeavesOnlyRuns before after lists
+    only_all queries so_far disk file apart =
         elim (cases_lt disk workers) [
           | inl low ↦
               (done.each disk any low).only file (λ k run answer called. apart (subst (λ (f : ℕ). IsFileOfLists (λ number. number) lists disk f) called (answer_among disk k low run answer)))

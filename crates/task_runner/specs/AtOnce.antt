@@ -1,6 +1,6 @@
 -- The workers of a pass at the same time: what each may do at its post, what it did there, and what all of them answered.
 -- This project's own.
-use Rattle.std.specs.Prelude.{◌≡◌, ℕ, ◌%◌, ◌^◌, ◌<◌, ◌⊎◌, List, Option, Some, None, Result, Ok, Err, IfOk, false, length, map, slice_get, slice_index_or, ⊤}
+use Rattle.std.specs.Prelude.{◌≡◌, ℕ, ◌%◌, ◌<◌, ◌⊎◌, List, Option, Some, None, Result, Ok, Err, false, length, slice_get, slice_index_or, ⊤}
 use Rattle.std.specs.Global.{Vec}
 use Rattle.consumer_trait.specs.States.{State}
 use Rattle.pool_ledger.specs.History.{was_begun}
@@ -10,45 +10,27 @@ use Rattle.run_file.specs.declared.run.Run.{Run}
 use Rattle.memory_core.specs.Caches.{RowsByName}
 use Rattle.turn_lock.specs.Passes.{LockId, WorkerView}
 use Rattle.memory_lock.specs.Workers.{HasNoPin, IsFree, own_of}
-use Rattle.task_runner.specs.AllWorkers.{Finishes, Leaves, answers_of}
-use Rattle.task_runner.specs.Answers.{HasCauseAmong, NamesPost}
-use Rattle.task_runner.specs.Consumers.{HasConsumers}
-use Rattle.task_runner.specs.PartAnswers.{HoldsOwn, SaysOwn}
+use Rattle.task_runner.specs.AllWorkers.{answers_of, bench_at}
+use Rattle.task_runner.specs.Answers.{NamesPost}
+use Rattle.task_runner.specs.OneWorker.{MayRunBench, RanBench}
 use Rattle.task_runner.specs.PassViews.{PassView, parts_of, task_for}
-use Rattle.task_runner.specs.Queries.{IsPass}
-use Rattle.task_runner.specs.Workers.{IfSound, part_at}
-use Rattle.task_runner.specs.Works.{IfNoRoom, ShowsNoRoom}
+use Rattle.task_runner.specs.Workers.{DoesAll}
 use Rattle.task_runner.specs.declared.post.Post.{Post}
 use Rattle.task_runner.specs.declared.work_fault.WorkFault.{WorkFault}
 use Rattle.task_runner.specs.declared.work_fault.WorkFault.TheVariants.{NoMemory}
 
 -- ---- one worker at its post
 
--- the worker of this place may do its tasks at this post: it has no task and no pin, owns those of its partitions, and began none of
--- them
-pub record MayRun {D C : Type 0} (state : C → State) (files : D → Option Files) (lock : LockId) (owner : ℕ → Option ℕ) (workers : ℕ) (given : RowsByName) (pass : PassView) (place : ℕ) (worker : WorkerView) (post : Post D C) : Type 0 where
-  pub lock_is : worker.lock ≡ lock
-  pub known : place < workers
-  pub narrow : place < 2 ^ 32
-  pub free : IsFree worker
-  pub unpinned : HasNoPin worker
-  pub owns : (k : ℕ) → part_at workers place k < parts_of pass
-      → owner (task_for pass (part_at workers place k)) ≡ Some worker.number
-  pub fresh : (k : ℕ) → part_at workers place k < parts_of pass
-      → was_begun (own_of worker) (task_for pass (part_at workers place k)) ≡ false
-  pub consumers : HasConsumers (map state post.consumers.items)
-  pub says : SaysOwn (files post.disk) given pass workers place
-  pub pass_is : IsPass pass
+-- the worker of this place may do its tasks at this post
+abbrev pub MayRun : {D C : Type 0} → (C → State) → (D → Option Files) → (D → ℕ) → LockId → (ℕ → Option ℕ) → ℕ → RowsByName → PassView → ℕ → WorkerView → Post D C → Type 0
+MayRun state files faults lock owner workers given pass place worker post =
+    MayRunBench lock owner given pass workers place (bench_at state files faults worker (Some post))
 
--- what the worker of this place leaves there, and what it answers
+-- what the worker of this place leaves there, and what it answers; a fault of the disk names the place
 pub record Ran {D C : Type 0} (state : C → State) (files : D → Option Files) (faults : D → ℕ) (sizes : Sizes) (workers : ℕ) (given : RowsByName) (pass : PassView) (place : ℕ) (before after : WorkerView) (post post' : Post D C) (answer : Result (Vec (Option Run)) WorkFault) : Type 0 where
-  pub finishes : IfOk answer (λ answers. Finishes state files workers place given pass before after (Some post) (Some post') answers.items)
-  pub leaves : Leaves state files faults workers place pass before after (Some post) (Some post')
-  pub sound : (rows : ℕ → List (List (List ℕ))) → HoldsOwn (files post.disk) given pass workers place rows → IfSound (λ _. ⊤) answer
-  pub no_room : IfNoRoom answer (λ asked held floor. (task : ℕ) × ShowsNoRoom sizes (own_of after) task asked held floor)
+  pub ran : RanBench sizes given pass workers place (bench_at state files faults before (Some post)) (bench_at state files faults after (Some post')) answer
   pub names : NamesPost place answer
   pub rests : after.base ≡ None
-  pub cause : (was now : ℕ → ℕ) → was place ≡ faults post.disk → now place ≡ faults post'.disk → HasCauseAmong was now answer
 
 -- ---- all of them
 
@@ -68,10 +50,10 @@ pub record MayDoAll (lock : LockId) (owner : ℕ → Option ℕ) (pass : PassVie
       → was_begun (own_of (worker_for workers part any)) (task_for pass part) ≡ false
 
 -- the worker of each place may do its tasks there
-abbrev pub AllMayRun : {D C : Type 0} → (C → State) → (D → Option Files) → LockId → (ℕ → Option ℕ) → ℕ → RowsByName → PassView → List WorkerView → List (Post D C) → Type 0
-AllMayRun {D = D} {C = C} state files lock owner count given pass workers posts =
+abbrev pub AllMayRun : {D C : Type 0} → (C → State) → (D → Option Files) → (D → ℕ) → LockId → (ℕ → Option ℕ) → ℕ → RowsByName → PassView → List WorkerView → List (Post D C) → Type 0
+AllMayRun {D = D} {C = C} state files faults lock owner count given pass workers posts =
     (place : ℕ) (worker : WorkerView) (post : Post D C) → place < length workers
-    → MayRun state files lock owner count given pass place (slice_index_or workers place worker) (slice_index_or posts place post)
+    → MayRun state files faults lock owner count given pass place (slice_index_or workers place worker) (slice_index_or posts place post)
 
 -- each worker answered its list of these
 pub record AreAnswers (told : List (Result (Vec (Option Run)) WorkFault)) (all : List (List (Option Run))) : Type 0 where
@@ -89,3 +71,18 @@ pub record IsFirstFault (told : List (Result (Vec (Option Run)) WorkFault)) (fau
 abbrev pub TellsFirstFault : {T : Type 0} → List (Result (Vec (Option Run)) WorkFault) → Result T WorkFault → Type 0
 TellsFirstFault told (Ok all) = ⊤
 TellsFirstFault told (Err fault) = (fault ≡ NoMemory) ⊎ IsFirstFault told fault
+
+-- ---- whose fault is told
+
+-- the fault names the place of a worker, and those at the places below it did all of their tasks
+pub record IsLowestFault (pass : PassView) (count : ℕ) (olds news : List WorkerView) (fault : WorkFault) : Type 0 where
+  pub place : ℕ
+  pub within : place < count
+  pub names : NamesPost {T = Vec (Option Run)} place (Err fault)
+  pub below : (w : ℕ) (any : WorkerView) → w < place
+      → DoesAll pass.first count w (parts_of pass) (slice_index_or olds w any) (slice_index_or news w any)
+
+-- what is told is the fault of the lowest place whose worker failed, or want of memory
+abbrev pub TellsLowest : {T : Type 0} → PassView → ℕ → List WorkerView → List WorkerView → Result T WorkFault → Type 0
+TellsLowest pass count olds news (Ok all) = ⊤
+TellsLowest pass count olds news (Err fault) = (fault ≡ NoMemory) ⊎ IsLowestFault pass count olds news fault

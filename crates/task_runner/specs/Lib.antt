@@ -13,6 +13,7 @@ pub mod Queries
 pub mod PartAnswers
 pub mod FedParts
 pub mod OneWorker
+pub mod OneTask
 pub mod RunsApart
 pub mod Pass
 pub mod AllWorkers

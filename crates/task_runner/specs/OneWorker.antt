@@ -1,6 +1,7 @@
 -- How far a worker has come with its tasks in a pass.
 -- This project's own.
-use Rattle.std.specs.Prelude.{◌≡◌, ℕ, ◌*◌, ◌<◌, List, ◌++◌, Option, length}
+use Rattle.std.specs.Prelude.{◌≡◌, ℕ, ◌*◌, ◌<◌, ◌^◌, List, ◌++◌, Option, Some, Result, IfOk, false, length, ⊤}
+use Rattle.std.specs.Global.{Vec}
 use Rattle.spill_disk.specs.Files.{Files}
 use Rattle.run_file.specs.declared.run.Run.{Run}
 use Rattle.memory_core.specs.Caches.{RowsByName}
@@ -15,8 +16,17 @@ use Rattle.task_runner.specs.Charging.{IsPartCharged}
 use Rattle.task_runner.specs.PartAnswers.{AnswerParts, HoldsOwn, HoldsPart}
 use Rattle.task_runner.specs.PassViews.{PassView, parts_of, queries_of, rows_over, task_for}
 use Rattle.task_runner.specs.Queries.{HaveAnswers, made_in}
-use Rattle.task_runner.specs.Workers.{AreMade, DoesTasks, LeavesOnlyAnswers, part_at}
-use Rattle.task_runner.specs.Works.{Works}
+use Rattle.task_runner.specs.Workers.{AreMade, DoesSome, DoesTasks, IfSound, IsCount, LeavesOnlyAnswers, part_at}
+use Rattle.task_runner.specs.Works.{IfNoRoom, ShowsNoRoom, Works}
+use Rattle.task_runner.specs.Answers.{HasCauseAmong}
+use Rattle.task_runner.specs.declared.work_fault.WorkFault.{WorkFault}
+use Rattle.turn_lock.specs.Passes.{LockId}
+use Rattle.pool_ledger.specs.History.{was_begun}
+use Rattle.pool_ledger.specs.Sizes.{Sizes}
+use Rattle.memory_lock.specs.Workers.{HasNoPin}
+use Rattle.task_runner.specs.Consumers.{HasConsumers}
+use Rattle.task_runner.specs.PartAnswers.{SaysOwn}
+use Rattle.task_runner.specs.Queries.{IsPass}
 
 -- a worker, the consumers of its post, and the files and the count of faults of its post's disk
 pub record WorkerScene : Type 0 where
@@ -68,3 +78,51 @@ pub record DoesFirst (given : RowsByName) (pass : PassView) (workers place : ℕ
   pub works : DoesTasks pass.first workers place tasks start.worker now.worker
   pub told : (k : ℕ) → k < tasks → TellsTask pass (part_at workers place k) now.worker
   pub charged : (k : ℕ) → k < tasks → IsPartCharged start.states start.files given pass (part_at workers place k) (own_of now.worker)
+
+-- ---- a worker at its post, in a pass
+
+-- it may do its tasks there: it is of this lock, has no task and no pin, owns those of its partitions, and began none of them
+pub record MayRunBench (lock : LockId) (owner : ℕ → Option ℕ) (given : RowsByName) (pass : PassView) (workers place : ℕ) (bench : WorkerScene) : Type 0 where
+  pub lock_is : bench.worker.lock ≡ lock
+  pub known : place < workers
+  pub narrow : place < 2 ^ 32
+  pub free : IsFree bench.worker
+  pub unpinned : HasNoPin bench.worker
+  pub owns : (k : ℕ) → part_at workers place k < parts_of pass
+      → owner (task_for pass (part_at workers place k)) ≡ Some bench.worker.number
+  pub fresh : (k : ℕ) → part_at workers place k < parts_of pass
+      → was_begun (own_of bench.worker) (task_for pass (part_at workers place k)) ≡ false
+  pub consumers : HasConsumers bench.states
+  pub says : SaysOwn bench.files given pass workers place
+  pub pass_is : IsPass pass
+
+-- it did all of them, with these answers
+pub record FinishesBench (given : RowsByName) (pass : PassView) (workers place : ℕ) (before after : WorkerScene) (answers : List (Option Run)) : Type 0 where
+  pub tasks : ℕ
+  pub count : IsCount workers place (parts_of pass) tasks
+  pub many : length answers ≡ tasks * queries_of pass
+  pub feeds : FeedsFirst before.states after.states before.files given pass workers place tasks
+  pub does : DoesTasks pass.first workers place tasks before.worker after.worker
+  pub told : (k : ℕ) → k < tasks → TellsTask pass (part_at workers place k) after.worker
+  pub charged : (k : ℕ) → k < tasks → IsPartCharged before.states before.files given pass (part_at workers place k) (own_of after.worker)
+  pub made : AreMade before.files answers
+  pub only : LeavesOnlyAnswers before.files after.files answers
+  pub tells : (rows : ℕ → List (List (List ℕ))) → HoldsOwn before.files given pass workers place rows
+      → AnswerParts after.files pass workers place rows answers
+
+-- what it leaves, whether it did all of them or not
+pub record LeavesBench (pass : PassView) (workers place : ℕ) (before after : WorkerScene) : Type 0 where
+  pub may_work : DoesSome pass.first workers place (parts_of pass) before.worker after.worker
+  pub free : IsFree after.worker
+  pub pin : KeepsPin before.worker after.worker
+  pub sees : SeesMore before.worker after.worker
+  pub consumers : KeepsConsumers before.states after.states
+  pub disk : LeavesDisk before.files after.files before.faults after.faults
+
+-- what it leaves, and what it answers
+pub record RanBench (sizes : Sizes) (given : RowsByName) (pass : PassView) (workers place : ℕ) (before after : WorkerScene) (answer : Result (Vec (Option Run)) WorkFault) : Type 0 where
+  pub finishes : IfOk answer (λ answers. FinishesBench given pass workers place before after answers.items)
+  pub leaves : LeavesBench pass workers place before after
+  pub sound : (rows : ℕ → List (List (List ℕ))) → HoldsOwn before.files given pass workers place rows → IfSound (λ _. ⊤) answer
+  pub no_room : IfNoRoom answer (λ asked held floor. (task : ℕ) × ShowsNoRoom sizes (own_of after.worker) task asked held floor)
+  pub cause : HasCauseAmong (λ _. before.faults) (λ _. after.faults) answer

@@ -7,7 +7,7 @@ ghost use Rattle.spill_disk.specs.Shelves.{disk_at};
 ghost use Rattle.turn_lock.specs.Passes.{WorkerView};
 ghost use Rattle.task_runner.specs.AllWorkers.{Finished, Reached};
 ghost use Rattle.task_runner.specs.Answers.{HasCauseAmong, NamesSomePost};
-ghost use Rattle.task_runner.specs.AtOnce.{MayDoAll};
+ghost use Rattle.task_runner.specs.AtOnce.{MayDoAll, TellsLowest};
 ghost use Rattle.task_runner.specs.Consumers.{HasConsumers};
 ghost use Rattle.task_runner.specs.PartAnswers.{HoldsAll, SaysAll};
 ghost use Rattle.task_runner.specs.Queries.{IsPass};
@@ -51,7 +51,7 @@ pub(crate) fn run_each<
     requires posts { length workers.old.items ≤ length posts.old.items }
     requires few_posts { length posts.old.items < 2 ^ 32 }
     requires consumers { All (λ post. HasConsumers (map C.state post.consumers.items)) posts.old.items }
-    ensures finished { IfOk result (λ all. Finished C.state D.files (length workers.old.items)
+    ensures finished { IfOk result (λ all. Finished C.state D.files D.faults (length workers.old.items)
         (length workers.old.items) B.rows pass.now workers.old.items workers.new.items
         posts.old.items posts.new.items (map (λ answers. answers.items) all.items)) }
     ensures reached { Reached C.state D.files D.faults (length workers.old.items) (length workers.old.items) pass.now
@@ -64,6 +64,7 @@ pub(crate) fn run_each<
         × ((any : WorkerView) → ShowsNoRoom B.sizes (own_of (slice_index_or workers.new.items worker any)) task
         asked held floor)) }
     ensures names { NamesSomePost (length workers.old.items) result }
+    ensures lowest { TellsLowest pass.now (length workers.old.items) workers.old.items workers.new.items result }
     ensures workers { length workers.new.items ≡ length workers.old.items }
     ensures rests { (place : ℕ) (any : WorkerView) → place < length workers.old.items
         → (slice_index_or workers.new.items place any).base ≡ None }
